@@ -1,0 +1,3 @@
+-- Images: what one is, and what it is once its lent bytes come back.
+pub mod Bitmap
+pub mod Lending

@@ -1,0 +1,89 @@
+//! The image.
+
+ghost use Rattle.std.specs.Prelude.{◌≡◌, length, IfOk, IsTrue};
+ghost use Rattle.std.specs.Borrow.{sem};
+ghost use Rattle.wf_pixel.specs.Choice.{has_sides};
+ghost use Rattle.wf_image.specs.Bitmap.{blank, image_bytes, pixel_bytes};
+ghost use Rattle.wf_image.specs.Lending.{LendsBytes};
+
+use crate::NoMemory;
+use std::alloc::Global;
+use std::marker::Model;
+use wf_pixel::{Format, Size};
+
+/// A size, a format and the bytes of the pixels: rows from the top, without padding, 4 bytes a pixel
+/// in the order R, G, B, A, or 1 byte a pixel in the format A8.
+#[derive(Drop)]
+pub struct Image {
+    size: Size,
+    format: Format,
+    bytes: Vec<u8>,
+}
+
+impl Model for Image {
+    ghost use Rattle.wf_image.specs.Bitmap.{Bitmap, IsWhole};
+
+    ghost Value = { Bitmap };
+
+    ghost view = { λ i. record { size = i.size; format = i.format; bytes = i.bytes.items } };
+
+    ghost invariant = { λ i. IsWhole (record { size = i.size; format = i.format; bytes = i.bytes.items }) };
+}
+
+impl Image {
+    /// An image of zeros. Each side is from 1 to 1024.
+    pub fn new(alloc: Global, size: Size, format: Format) -> Result<Image, NoMemory>
+        requires { IsTrue (has_sides size) }
+        ensures { IfOk result (λ image. image ≡ blank size format) }
+    {
+        let pixels = size.w as usize * size.h as usize;
+        let bytes = vec![in alloc; 0u8; pixels * bytes_of_pixel(format)]?;
+        Ok(Image {
+            size,
+            format,
+            bytes,
+        })
+    }
+
+    /// Width and height in pixels.
+    pub fn size(&self) -> Size
+        ensures size { result ≡ self.now.size }
+        ensures sides { IsTrue (has_sides result) }
+    {
+        self.size
+    }
+
+    /// How the bytes are read.
+    pub fn format(&self) -> Format
+        ensures { result ≡ self.now.format }
+    {
+        self.format
+    }
+
+    /// The bytes of all pixels.
+    pub fn bytes(&self) -> &[u8]
+        ensures value { result.now ≡ self.now.bytes }
+        ensures len { length result.now ≡ image_bytes self.now.size self.now.format }
+    {
+        &self.bytes
+    }
+
+    /// The bytes of all pixels, to write.
+    pub fn bytes_mut(&mut self) -> &mut [u8]
+        ensures* writes_back { sem 𝓛 (LendsBytes self.entry result) }
+        ensures value { result.now ≡ self.old.bytes }
+        ensures len { length result.now ≡ image_bytes self.old.size self.old.format }
+    {
+        self.bytes.as_mut_slice()
+    }
+}
+
+/// How many bytes a pixel takes.
+fn bytes_of_pixel(format: Format) -> usize
+    ensures { result ≡ pixel_bytes format }
+{
+    match format {
+        Format::A8 => 1,
+        _ => 4,
+    }
+}

@@ -1,0 +1,2 @@
+-- Ranges of the numbers that pixels are about.
+pub mod Choice

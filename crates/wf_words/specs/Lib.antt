@@ -1,0 +1,3 @@
+-- Words that the definitions of all crates share.
+pub mod Refusals
+pub mod Keyed
