@@ -1,4 +1,6 @@
--- Faults and their counts, and the bytes that went into a sink.
+-- Faults and their counts, the bytes that went into a sink, and how parts of them join.
 pub mod Causes
 pub mod Bytes
+pub mod Parts
 pub mod Doubles
+pub mod Standard

@@ -8,6 +8,8 @@ mod reading;
 mod sink;
 mod source;
 mod standard;
+#[cfg(test)]
+mod tests;
 mod writing;
 
 pub use memory_sink::MemorySink;

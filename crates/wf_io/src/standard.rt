@@ -1,11 +1,12 @@
-//! Adapters over std's readers and writers. What these read and write is outside of every proof, so the
-//! adapters tell no bytes.
+//! Adapters over std's readers and writers. A source tells the bytes that its reader tells: those of a slice, and
+//! none of a file. What a writer has taken where it fails is outside of every proof, so a sink tells no bytes.
 
-ghost use Rattle.std.specs.Prelude.{◌≡◌, ◌<◌, ◌≤◌, length, IfSome, None, ⊤};
+ghost use Rattle.std.specs.Prelude.{◌≡◌, ◌<◌, ◌≤◌, length, IfSome, ⊤};
 
 use crate::sink::Sink;
 use crate::source::{Failed, Source};
 use std::io::{Read, Write};
+use std::marker::Model;
 
 /// A source over any reader.
 #[derive(Drop)]
@@ -14,14 +15,31 @@ pub struct StdSource<R: Read> {
     faults: u64,
 }
 
+impl<R: Read> Model for StdSource<R> {
+    ghost use Rattle.wf_io.specs.Standard.{Reading};
+
+    ghost Value = { Reading };
+
+    ghost view = { λ s. record { left = R.remaining s.reader; faults = s.faults } };
+}
+
 impl<R: Read> StdSource<R> {
-    pub fn new(reader: R) -> StdSource<R> {
+    pub fn new(reader: R) -> StdSource<R>
+        ensures { result ≡ record { left = R.remaining reader; faults = 0 } }
+    {
         StdSource { reader, faults: 0 }
+    }
+
+    /// How many calls failed.
+    pub fn faults(&self) -> u64
+        ensures { result ≡ self.now.faults }
+    {
+        self.faults
     }
 }
 
 impl<R: Read> Source for StdSource<R> {
-    ghost left = { λ _. None };
+    ghost left = { λ s. s.left };
 
     ghost faults = { λ s. s.faults };
 
@@ -36,16 +54,33 @@ impl<R: Read> Source for StdSource<R> {
     }
 }
 
-/// A sink over any writer. Each piece is flushed before its call answers.
+/// A sink over any writer. Each piece is flushed before its call answers. Contracts see how often it failed.
 #[derive(Drop)]
 pub struct StdSink<W: Write> {
     writer: W,
     faults: u64,
 }
 
+impl<W: Write> Model for StdSink<W> {
+    ghost use Rattle.std.specs.Prelude.{ℕ};
+
+    ghost Value = { ℕ };
+
+    ghost view = { λ s. s.faults };
+}
+
 impl<W: Write> StdSink<W> {
-    pub fn new(writer: W) -> StdSink<W> {
+    pub fn new(writer: W) -> StdSink<W>
+        ensures { result ≡ 0 }
+    {
         StdSink { writer, faults: 0 }
+    }
+
+    /// How many calls failed.
+    pub fn faults(&self) -> u64
+        ensures { result ≡ self.now }
+    {
+        self.faults
     }
 
     /// Writes a front of the bytes and flushes it; none where that fails, or where the writer takes no byte of
@@ -53,7 +88,7 @@ impl<W: Write> StdSink<W> {
     fn write_front(&mut self, bytes: &[u8]) -> Option<usize>
         ensures bound { IfSome result (λ n. n ≤ length bytes.now) }
         ensures progress { IfSome result (λ n. 0 < length bytes.now → 0 < n) }
-        ensures faults { self.new.faults ≡ self.old.faults }
+        ensures faults { self.new ≡ self.old }
     {
         let n = self.writer.write(bytes).ok()?;
         if n == 0 && !bytes.is_empty() {
@@ -67,7 +102,7 @@ impl<W: Write> StdSink<W> {
 impl<W: Write> Sink for StdSink<W> {
     ghost took = { λ _ _. ⊤ };
 
-    ghost faults = { λ s. s.faults };
+    ghost faults = { λ s. s };
 
     fn put(&mut self, bytes: &[u8]) -> Result<usize, Failed> {
         match self.write_front(bytes) {

@@ -1,5 +1,7 @@
 -- Small tests that the other definitions share.
-use Rattle.std.specs.Prelude.{ℕ, Bool, ◌&&◌, nat_le}
+use Rattle.std.specs.Prelude.{ℕ, Bool, true, false, ◌&&◌, ◌==◌, nat_le}
+use Rattle.wf_pixel.specs.declared.Format.{Format}
+use Rattle.wf_pixel.specs.declared.Format.TheVariants.{Rgba8, Rgba8Pre, Rgbx8, A8}
 use Rattle.wf_pixel.specs.declared.Size.{Size}
 
 -- a side of an image, of a mode or of a stream
@@ -9,3 +11,14 @@ is_side n = nat_le 1 n && nat_le n 1024
 -- both sides are in their range
 abbrev pub has_sides : Size → Bool
 has_sides size = is_side size.w && is_side size.h
+
+abbrev pub same_size : Size → Size → Bool
+same_size s t = (s.w == t.w) && (s.h == t.h)
+
+-- one format of the four
+abbrev pub same_format : Format → Format → Bool
+same_format Rgba8 Rgba8 = true
+same_format Rgba8Pre Rgba8Pre = true
+same_format Rgbx8 Rgbx8 = true
+same_format A8 A8 = true
+same_format _ _ = false

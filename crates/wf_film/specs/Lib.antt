@@ -1,0 +1,2 @@
+-- Films as bytes.
+pub mod Film

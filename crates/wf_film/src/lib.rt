@@ -1,0 +1,10 @@
+//! Films as bytes: the writer of frames and of the journal.
+#![tactic(auto)]
+
+mod pieces;
+#[cfg(test)]
+mod tests;
+mod writer;
+
+pub use wf_io::WriteStop;
+pub use writer::Writer;

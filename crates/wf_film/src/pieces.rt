@@ -1,0 +1,48 @@
+//! The small pieces of a film, made on the stack.
+
+ghost use Rattle.std.specs.Prelude.{◌≡◌, ◌*◌, ◌^◌, ◌<◌, ◌≤◌, length};
+ghost use Rattle.wf_film.specs.Film.{frame_of, frame_head, journal_head, turn_bytes};
+
+use byteorder::{BigEndian, ByteOrder};
+use wf_calls::{Order, Turn};
+use wf_image::Image;
+
+/// What a film begins with.
+pub(crate) const MAGIC: [u8; 4] = *b"WFF1";
+
+/// What a film ends with.
+pub(crate) const END: [u8; 1] = *b"E";
+
+/// What stands before a frame's pixels.
+pub(crate) fn head_of_frame(port: u8, tick: u32, image: &Image) -> [u8; 10]
+    ensures bytes { result ≡ frame_head (frame_of port tick image.now) }
+    ensures most { image.now.size.w * image.now.size.h ≤ 1024 * 1024 }
+{
+    let size = image.size();
+    let mut head = [b'F'; 10];
+    head[1] = port;
+    BigEndian::write_u32(&mut head[2..], tick);
+    BigEndian::write_u16(&mut head[6..], size.w as u16);
+    BigEndian::write_u16(&mut head[8..], size.h as u16);
+    head
+}
+
+/// What stands before the entries of the journal.
+pub(crate) fn head_of_journal(order: &Order) -> [u8; 5]
+    requires { length order.now < 2 ^ 32 }
+    ensures { result ≡ journal_head order.now }
+{
+    let mut head = [b'J'; 5];
+    BigEndian::write_u32(&mut head[1..], order.turns().len() as u32);
+    head
+}
+
+/// An entry of the journal.
+pub(crate) fn bytes_of_turn(turn: Turn) -> [u8; 6]
+    ensures { result ≡ turn_bytes turn }
+{
+    let mut bytes = [turn.client; 6];
+    bytes[1] = turn.code;
+    BigEndian::write_u32(&mut bytes[2..], turn.value);
+    bytes
+}

@@ -1,0 +1,88 @@
+-- What a report says: of the input's bytes, of what went into the film, and of the order.
+use Rattle.std.specs.Prelude.{◌≡◌, ℕ, ◌^◌, ◌<◌, ◌≤◌, ◌⊎◌, List, [], length, Result, Ok, Err}
+use Rattle.wf_io.specs.Bytes.{Puts, PutsNothing, PutsPart}
+use Rattle.wf_io.specs.Causes.{Rose}
+use Rattle.wf_calls.specs.declared.order.Turn.{Turn}
+use Rattle.wf_script.specs.Script.{PlainScript}
+use Rattle.wf_script.specs.Text.{Stands, StandsForNone}
+use Rattle.wf_turn.specs.Play.{IsLegal, film, serial_order}
+use Rattle.wf_play.specs.declared.report.Status.{Status}
+use Rattle.wf_play.specs.declared.report.Status.TheVariants as status
+use Rattle.wf_play.specs.Player.{IsSerial}
+
+-- the exit of a status
+abbrev pub exit_of : Status → ℕ
+exit_of status.Done = 0
+exit_of status.Usage = 2
+exit_of status.ReadFault = 3
+exit_of status.TooLong = 4
+exit_of (status.Refused line rule) = 5
+exit_of (status.WriteFault written) = 6
+exit_of status.NoMemory = 10
+
+-- the longest script, in bytes
+abbrev pub script_limit : ℕ
+script_limit = 2 ^ 20
+
+-- the bytes that were put are the plain film of the script that the input's bytes stand for, under the order,
+-- which is legal and complete, and is the serial order
+pub record IsPlainFilm {O : Type 0} (took : O → List ℕ → Type 0) (old new : O) (bytes : List ℕ) (order : List Turn) : Type 0 where
+  pub script : PlainScript
+  pub stands : Stands bytes script
+  pub put : Puts took old new (film script order)
+  pub order_is : IsSerial script order
+
+-- the bytes that were put are the first `written` of a film of that script, and not all of it; the order is legal
+pub record IsCutFilm {O : Type 0} (took : O → List ℕ → Type 0) (old new : O) (bytes : List ℕ) (order : List Turn) (written : ℕ) : Type 0 where
+  pub script : PlainScript
+  pub stands : Stands bytes script
+  pub put : PutsPart took old new 0 (film script (serial_order script [])) written
+  pub legal : IsLegal script order
+
+module _ {O : Type 0} (took : O → List ℕ → Type 0) (old new : O) (order : List Turn) where
+  -- what each status says of an input of these bytes
+  abbrev pub SaysOfInput : List ℕ → Status → Type 0
+  SaysOfInput bytes status.Done = (length bytes ≤ script_limit) × IsPlainFilm took old new bytes order
+  SaysOfInput bytes status.Usage = Unit {0}
+  SaysOfInput bytes status.ReadFault = Unit {0}
+  SaysOfInput bytes status.TooLong = script_limit < length bytes
+  SaysOfInput bytes (status.Refused line rule) =
+      (length bytes ≤ script_limit) × (line ≡ 0) × (rule ≡ 0) × StandsForNone bytes
+  SaysOfInput bytes (status.WriteFault written) =
+      (length bytes ≤ script_limit) × IsCutFilm took old new bytes order written
+  SaysOfInput bytes status.NoMemory = Unit {0}
+
+  -- what each status says of the film and of the order, whatever the input
+  abbrev pub SaysOfFilm : Status → Type 0
+  SaysOfFilm status.Done = Unit {0}
+  SaysOfFilm (status.WriteFault written) = (bytes : List ℕ) × (length bytes ≡ written) × Puts took old new bytes
+  SaysOfFilm _ = PutsNothing took old new × (order ≡ [])
+
+-- a fault is told only where its count rose
+abbrev pub IsCaused : (input_before input_now film_before film_now : ℕ) → Status → Type 0
+IsCaused input_before input_now film_before film_now status.ReadFault = Rose input_before input_now
+IsCaused input_before input_now film_before film_now (status.WriteFault written) = Rose film_before film_now
+IsCaused _ _ _ _ _ = Unit {0}
+
+-- what reading a script from an input says, where the input tells its bytes
+abbrev pub ReadsScript : List ℕ → Result PlainScript Status → Type 0
+ReadsScript bytes (Ok script) = (length bytes ≤ script_limit) × Stands bytes script
+ReadsScript bytes (Err status.TooLong) = script_limit < length bytes
+ReadsScript bytes (Err (status.Refused line rule)) =
+    (length bytes ≤ script_limit) × (line ≡ 0) × (rule ≡ 0) × StandsForNone bytes
+ReadsScript bytes (Err _) = Unit {0}
+
+-- the statuses that reading a script comes to, and their cause
+abbrev pub IsReadStop : (input_before input_now : ℕ) → Status → Type 0
+IsReadStop before now status.ReadFault = Rose before now
+IsReadStop before now status.TooLong = Unit {0}
+IsReadStop before now (status.Refused line rule) = Unit {0}
+IsReadStop before now status.NoMemory = Unit {0}
+IsReadStop before now _ = ⊥
+
+-- where the input is within the limit and stands for a script, and no fault is counted, the film is whole, unless
+-- memory runs out
+abbrev pub IsComplete : List ℕ → (input_before input_now film_before film_now : ℕ) → Status → Type 0
+IsComplete bytes input_before input_now film_before film_now s =
+    (script : PlainScript) → Stands bytes script → length bytes ≤ script_limit → ¬ Rose input_before input_now → ¬ Rose film_before film_now
+    → (s ≡ status.Done) ⊎ (s ≡ status.NoMemory)

@@ -1,0 +1,16 @@
+//! The top call: plays a scene script and writes its film.
+#![tactic(auto)]
+
+mod gate;
+mod painter;
+mod player;
+mod report;
+mod top;
+mod words;
+
+pub use gate::{Gate, Open};
+pub use report::{Report, Status};
+pub use top::play;
+
+#[cfg(test)]
+mod tests;

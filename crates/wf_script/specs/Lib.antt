@@ -1,0 +1,4 @@
+-- Scripts: what one is, its text, and what bytes stand for one.
+pub mod Script
+pub mod Text
+pub mod Reading
