@@ -2,6 +2,7 @@
 #![tactic(auto)]
 
 mod gate;
+mod laws;
 mod painter;
 mod player;
 mod report;
@@ -9,6 +10,7 @@ mod top;
 mod words;
 
 pub use gate::{Gate, Open};
+pub use laws::one_film;
 pub use report::{Report, Status};
 pub use top::play;
 
