@@ -1,5 +1,5 @@
 -- An image: a size, a format and the bytes of its pixels, by rows from the top.
-use Rattle.std.specs.Prelude.{◌≡◌, ℕ, ◌*◌, List, [], ◌∷◌, flat_map, length, replicate, IsTrue}
+use Rattle.std.specs.Prelude.{◌≡◌, ℕ, ◌+◌, ◌*◌, List, [], ◌∷◌, flat_map, length, replicate, slice_index, IsTrue}
 use Rattle.std.specs.List.{range_with_len}
 use Rattle.wf_pixel.specs.declared.Size.{Size}
 use Rattle.wf_pixel.specs.declared.Format.{Format}
@@ -30,6 +30,21 @@ pub record IsWhole (image : Bitmap) : Type 0 where
 abbrev pub stored : Format → Rgba → List ℕ
 stored A8 c = c.a ∷ []
 stored _ c = c.r ∷ c.g ∷ c.b ∷ c.a ∷ []
+
+-- the pixel that starts at a byte
+abbrev pub read_at : Format → List ℕ → ℕ → Rgba
+read_at A8 bytes i = record { r = 0; g = 0; b = 0; a = slice_index bytes i }
+read_at _ bytes i =
+    record {
+      r = slice_index bytes i;
+      g = slice_index bytes (i + 1);
+      b = slice_index bytes (i + 2);
+      a = slice_index bytes (i + 3);
+    }
+
+-- the pixel at (x, y)
+abbrev pub pixel : Bitmap → ℕ → ℕ → Rgba
+pixel image x y = read_at image.format image.bytes ((y * image.size.w + x) * pixel_bytes image.format)
 
 -- a row of w pixels
 abbrev pub drawn_row : ℕ → Format → (ℕ → Rgba) → List ℕ

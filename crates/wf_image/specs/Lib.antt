@@ -1,3 +1,6 @@
--- Images: what one is, and what it is once its lent bytes come back.
+-- Images: what one is, what a paint leaves, images by the number of their stream, and what an image is once its lent
+-- bytes come back.
 pub mod Bitmap
+pub mod Paints
+pub mod Contents
 pub mod Lending

@@ -1,8 +1,14 @@
-//! Images: a size, a format and the bytes of the pixels.
+//! Images, what is painted on them, and the images of a frame by stream.
 #![tactic(auto)]
 
 pub use wf_words::NoMemory;
 
+mod canvas;
+mod contents;
 mod image;
+mod paint;
 
+pub use canvas::Canvas;
+pub use contents::Contents;
 pub use image::Image;
+pub use paint::{Paint, Pixels};

@@ -1,5 +1,5 @@
 -- Small tests that the other definitions share.
-use Rattle.std.specs.Prelude.{ℕ, Bool, true, false, ◌&&◌, ◌==◌, nat_le}
+use Rattle.std.specs.Prelude.{ℕ, Bool, true, false, ◌&&◌, ◌==◌, nat_le, ℤ, int_le}
 use Rattle.wf_pixel.specs.declared.Format.{Format}
 use Rattle.wf_pixel.specs.declared.Format.TheVariants.{Rgba8, Rgba8Pre, Rgbx8, A8}
 use Rattle.wf_pixel.specs.declared.Size.{Size}
@@ -22,3 +22,7 @@ same_format Rgba8Pre Rgba8Pre = true
 same_format Rgbx8 Rgbx8 = true
 same_format A8 A8 = true
 same_format _ _ = false
+
+-- a whole number between two bounds, both included
+abbrev pub is_between : ℤ → ℤ → ℤ → Bool
+is_between low high z = int_le low z && int_le z high

@@ -1,2 +1,3 @@
--- Ranges of the numbers that pixels are about.
+-- Ranges of the numbers that pixels are about, and distances along a side.
 pub mod Choice
+pub mod Along

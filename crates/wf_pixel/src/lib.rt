@@ -1,4 +1,4 @@
-//! What a pixel is: colours, formats and sizes.
+//! What a pixel is: colours, formats, sizes, rectangles and turns.
 #![tactic(auto)]
 
 /// A colour: red, green, blue and alpha, each from 0 to 255.
@@ -28,4 +28,30 @@ pub enum Format {
 pub struct Size {
     pub w: u32,
     pub h: u32,
+}
+
+/// A place and a size, in pixels. The place may lie outside of what it is laid on.
+#[derive(Clone, Copy, Debug, Default, PartialEq, Eq)]
+pub struct Rect {
+    pub x: i32,
+    pub y: i32,
+    pub w: u32,
+    pub h: u32,
+}
+
+/// A clockwise turn, in degrees.
+#[derive(Clone, Copy, Debug, PartialEq, Eq)]
+pub enum Rotation {
+    R0,
+    R90,
+    R180,
+    R270,
+}
+
+/// Which transparencies apply to a layer: its global alpha, its source's own alpha, its mask.
+#[derive(Clone, Copy, Debug, Default, PartialEq, Eq)]
+pub struct Transparency {
+    pub alpha: bool,
+    pub source: bool,
+    pub mask: bool,
 }
