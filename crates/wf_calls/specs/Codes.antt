@@ -1,5 +1,5 @@
 -- The numbers of the codes, and the entry that a reply leaves.
-use Rattle.std.specs.Prelude.{ℕ}
+use Rattle.std.specs.Prelude.{ℕ, Bool, true, false}
 use Rattle.wf_calls.specs.declared.code.Code.{Code}
 use Rattle.wf_calls.specs.declared.code.Code.TheVariants as code
 use Rattle.wf_calls.specs.declared.call.Reply.{Reply}
@@ -19,6 +19,15 @@ code_number code.BadDevice = 9
 code_number code.BadHandle = 10
 code_number code.Inconsistency = 11
 code_number code.Limit = 12
+
+abbrev pub is_ok_code : Code → Bool
+is_ok_code code.Ok = true
+is_ok_code _ = false
+
+-- the answer to a creation for which there was no memory
+abbrev pub is_out_of_memory : Code → Bool
+is_out_of_memory code.OutOfMemory = true
+is_out_of_memory _ = false
 
 -- the journal's entry of an answer to a client
 abbrev pub entry : ℕ → Reply → Turn

@@ -21,6 +21,13 @@ pub enum Code {
     Limit,
 }
 
+/// Why a call is refused: its code, and its value.
+#[derive(Clone, Copy, Debug, PartialEq, Eq)]
+pub struct Refusal {
+    pub code: Code,
+    pub value: u32,
+}
+
 impl Code {
     /// The number that stands for the code in the journal, from 0 for Ok to 12 for Limit.
     pub fn number(self) -> u8

@@ -6,7 +6,7 @@ mod code;
 mod order;
 mod ports;
 
-pub use call::{Call, Job, JobKind, Payload, Reply};
-pub use code::Code;
+pub use call::{Call, Job, JobKind, Payload, Reply, StatWord};
+pub use code::{Code, Refusal};
 pub use order::{Order, Turn};
 pub use ports::{Modes, Ports};

@@ -1,49 +1,76 @@
--- Frames: which Job a Begin gives, and what an End brings back.
-use Rattle.std.specs.Prelude.{ℕ, ◌+◌, ◌-◌, ◌^◌, Bool, not, ◌&&◌, ◌==◌, nat_lt, ℤ, pos, negsuc, Option, Some, None, is_some, option_map, if◌then◌else◌}
-use Rattle.wf_words.specs.Keyed.{nth}
-use Rattle.wf_pixel.specs.declared.Rgba.{Rgba}
+-- Frames: what a Begin takes from the streams, which Job it gives, and what an End brings back.
+use Rattle.std.specs.Prelude.{ℕ, ◌+◌, ◌-◌, ◌^◌, Bool, false, not, ◌&&◌, ◌==◌, nat_lt, ℤ, List, length, map, flat_map, filter_map, Option, Some, None, is_some, option_map, if◌then◌else◌}
+use Rattle.std.specs.List.{list_all}
+use Rattle.wf_words.specs.Keyed.{is_in, once}
+use Rattle.wf_words.specs.Whole.{count_of}
 use Rattle.wf_pixel.specs.declared.Format.{Format}
 use Rattle.wf_pixel.specs.declared.Format.TheVariants.{Rgba8Pre}
 use Rattle.wf_pixel.specs.Choice.{same_size, same_format}
-use Rattle.wf_image.specs.Bitmap.{blank}
+use Rattle.wf_image.specs.Bitmap.{Bitmap, blank}
+use Rattle.wf_image.specs.Contents.{image_of}
+use Rattle.wf_stream.specs.Buffers.{newest, latched, returned}
+use Rattle.wf_stream.specs.Streams.{KeptStream, stream_at}
 use Rattle.wf_scene.specs.declared.Scene.{Scene}
-use Rattle.wf_calls.specs.declared.code.Code.{Code}
 use Rattle.wf_calls.specs.declared.code.Code.TheVariants as code
 use Rattle.wf_calls.specs.declared.call.Job.{Job}
 use Rattle.wf_calls.specs.declared.call.JobKind.{JobKind}
 use Rattle.wf_calls.specs.declared.call.JobKind.TheVariants as kind
 use Rattle.wf_calls.specs.declared.call.Payload.TheVariants as payload
 use Rattle.wf_calls.specs.declared.call.Reply.{Reply}
-use Rattle.wf_model.specs.State.{DisplayState, Port, Running, State, mode_size}
+use Rattle.wf_model.specs.State.{Content, Running, State}
+use Rattle.wf_model.specs.Names.{layer_names, settle}
+use Rattle.wf_model.specs.Outcome.{answer}
+use Rattle.wf_model.specs.Picture.{Images}
+use Rattle.wf_model.specs.Display.{port_scene}
 
--- an answer without a payload
-abbrev pub answer : Code → ℕ → Reply
-answer code value = record { code = code; value = value; payload = payload.Nothing }
+-- the streams that a scene names, each once
+abbrev pub scene_streams : Scene → List ℕ
+scene_streams scene = once (flat_map layer_names scene.layers.items)
 
-abbrev pub black : Rgba
-black = record { r = 0; g = 0; b = 0; a = 255 }
+abbrev pub newest_of : Option KeptStream → Option Bitmap
+newest_of None = None
+newest_of (Some s) = newest s.buffers
 
--- what a port shows: its background, of the size of its first mode
-abbrev pub port_scene : Port → Scene
-port_scene port = record { size = mode_size 1 port.modes; background = black }
+-- the newest images of streams, of those that have one
+abbrev pub newest_images : List ℕ → List KeptStream → Images
+newest_images ns streams = filter_map (λ n. option_map (λ image. (n, image)) (newest_of (stream_at n streams))) ns
 
--- the count that a whole number is, and 0 for a negative one
-abbrev pub count_of : ℤ → ℕ
-count_of (pos n) = n
-count_of (negsuc n) = 0
+-- a stream whose newest image went away into a frame, if it is among these
+abbrev pub latched_among : List ℕ → KeptStream → KeptStream
+latched_among ns s = if is_in s.number ns then record s { buffers = latched s.buffers } else s
+
+-- the streams after the newest images of these went away into a frame
+abbrev pub latch : List ℕ → List KeptStream → List KeptStream
+latch ns streams = map (latched_among ns) streams
+
+abbrev pub content_shape : ℕ × Bitmap → Content
+content_shape pair = record { stream = pair.0; size = pair.1.size; format = pair.1.format }
 
 abbrev pub running_of : Job → Running
 running_of job =
-    record { number = job.number; kind = job.kind; size = job.image.size; format = job.image.format }
+    record {
+      number = job.number;
+      kind = job.kind;
+      size = job.image.size;
+      format = job.image.format;
+      contents = map content_shape job.contents;
+    }
 
 -- the Job of the next frame, with nothing painted yet
 abbrev pub job_of : JobKind → Scene → Format → State → Job
 job_of kind scene format h =
-    record { number = h.begun + 1; kind = kind; scene = scene; image = blank scene.size format }
+    record {
+      number = h.begun + 1;
+      kind = kind;
+      scene = scene;
+      contents = newest_images (scene_streams scene) h.streams;
+      image = blank scene.size format;
+    }
 
 -- the state in which that Job runs
 abbrev pub with_job : Job → State → State
-with_job job h = record h { begun = job.number; frame = Some (running_of job) }
+with_job job h =
+    record h { begun = job.number; streams = latch (scene_streams job.scene) h.streams; frame = Some (running_of job) }
 
 abbrev pub is_running : State → Bool
 is_running h = is_some h.frame
@@ -59,29 +86,48 @@ with_payload value job = record { code = code.Ok; value = value; payload = paylo
 abbrev pub begin_next : ℕ → State → State × Reply
 begin_next after h = if is_running h then (h, answer code.Busy 0) else (h, answer code.Ok 0)
 
--- a frame of a port that was declared
-abbrev pub begun_port : ℕ → Port → State → State × Reply
-begun_port p port h =
+-- a frame of a port that shows a scene
+abbrev pub begun_port : ℕ → Scene → State → State × Reply
+begun_port p scene h =
     if is_running h then (h, answer code.Busy 0)
     else (if all_begun h then (h, answer code.Limit 0)
-    else (let job : Job = job_of (kind.Port p) (port_scene port) Rgba8Pre h in (with_job job h, with_payload p job)))
+    else (let job : Job = job_of (kind.Port p) scene Rgba8Pre h in
+    (settle (with_job job h), with_payload p job)))
 
 -- a frame of a port, which is counted from 1
 abbrev pub begin_port : ℤ → State → State × Reply
-begin_port p h = of_port (nth (count_of p) h.display.ports)
+begin_port p h = of_scene (port_scene (count_of p) h.display)
   where
-    of_port : Option Port → State × Reply
-    of_port None = (h, answer code.BadHandle 0)
-    of_port (Some port) = begun_port (count_of p) port h
+    of_scene : Option Scene → State × Reply
+    of_scene None = (h, answer code.BadHandle 0)
+    of_scene (Some scene) = begun_port (count_of p) scene h
+
+-- the end of a frame
 
 abbrev pub same_kind : JobKind → JobKind → Bool
 same_kind (kind.Port p) (kind.Port q) = p == q
+
+abbrev pub has_shape : Option Bitmap → Content → Bool
+has_shape None c = false
+has_shape (Some image) c = same_size image.size c.size && same_format image.format c.format
 
 -- a Job has the number and the shape of the running frame
 abbrev pub is_of_frame : Job → Running → Bool
 is_of_frame job f =
     (job.number == f.number) && same_kind job.kind f.kind && same_size job.image.size f.size
-    && same_format job.image.format f.format
+    && same_format job.image.format f.format && (length job.contents == length f.contents)
+    && list_all (λ c. has_shape (image_of c.stream job.contents) c) f.contents
+
+abbrev pub home_if : Option Bitmap → KeptStream → KeptStream
+home_if None s = s
+home_if (Some image) s = record s { buffers = returned image s.buffers }
+
+-- the contents are read images again
+abbrev pub brought_home : Images → List KeptStream → List KeptStream
+brought_home contents streams = map (λ s. home_if (image_of s.number contents) s) streams
+
+abbrev pub end_frame : Job → State → State
+end_frame job h = settle (record h { streams = brought_home job.contents h.streams; frame = None })
 
 -- the end of the running frame; a Job that is not its own comes back
 abbrev pub end : Job → State → State × Reply
@@ -92,4 +138,4 @@ end job h = of_frame h.frame
 
     of_frame : Option Running → State × Reply
     of_frame None = back
-    of_frame (Some f) = if is_of_frame job f then (record h { frame = None }, answer code.Ok 0) else back
+    of_frame (Some f) = if is_of_frame job f then (end_frame job h, answer code.Ok 0) else back

@@ -1,5 +1,9 @@
 -- The machine in plain lists and numbers: its state, the picture of a scene, and the step of each call.
 pub mod State
+pub mod Names
+pub mod Outcome
 pub mod Picture
+pub mod Display
 pub mod Frames
+pub mod Streams
 pub mod Step

@@ -1,14 +1,78 @@
--- The picture of a scene: each pixel is asked on its own.
-use Rattle.std.specs.Prelude.{ℕ}
+-- The picture of a scene: each pixel is asked from the topmost layer down.
+use Rattle.std.specs.Prelude.{◌≡◌, ◌≢◌, ℕ, ◌≤ℤ◌, ℤ, pos, List, [], ◌∷◌, reverse, All, Option, Some, None, IfSome, IsTrue, if◌then◌else◌}
 use Rattle.wf_pixel.specs.declared.Rgba.{Rgba}
 use Rattle.wf_pixel.specs.declared.Format.{Format}
-use Rattle.wf_image.specs.Bitmap.{Bitmap, drawn}
+use Rattle.wf_pixel.specs.declared.Format.TheVariants.{A8}
+use Rattle.wf_pixel.specs.Arithmetic.{lift, over}
+use Rattle.wf_pixel.specs.Place.{place, turned, turned_back, size_of, IsDrawn}
+use Rattle.wf_pixel.specs.Along.{along}
+use Rattle.wf_pixel.specs.Choice.{is_side}
+use Rattle.wf_image.specs.Bitmap.{Bitmap, pixel, drawn}
+use Rattle.wf_image.specs.Contents.{image_of}
+use Rattle.wf_scene.specs.declared.Layer.{Layer}
 use Rattle.wf_scene.specs.declared.Scene.{Scene}
+use Rattle.wf_scene.specs.Layers.{holds_rect}
 
--- the colour at a point: the background, since no layer is above it
-abbrev pub colour : Scene → ℕ → ℕ → Rgba
-colour scene x y = scene.background
+infixl 10 ◌>>=◌
+-- go on with the value, or with none
+abbrev pub ◌>>=◌ : {A B : Type 0} → Option A → (A → Option B) → Option B
+None >>= f = None
+(Some x) >>= f = f x
+
+-- the images of a frame by stream
+abbrev pub Images : Type 0
+Images = List (ℕ × Bitmap)
+
+-- the mask's value at a point, 255 where no mask applies, or none where it has no image
+abbrev pub mask_at : Layer → Images → ℤ → ℤ → Option ℕ
+mask_at l contents x y =
+    if l.transparency.mask
+    then (do
+      image ← image_of l.mask contents
+      dx ← along l.dest.x l.dest.w x
+      dy ← along l.dest.y l.dest.h y
+      Some (pixel image dx dy).a)
+    else Some 255
+
+-- the premultiplied pixel of a layer at a point, or none where it shows nothing
+abbrev pub texel : Layer → Images → ℤ → ℤ → Option Rgba
+texel l contents x y = do
+  p ← place l.src l.flip l.turn l.dest x y
+  image ← image_of l.stream contents
+  mask ← mask_at l contents x y
+  Some (lift (pixel image p.0 p.1) image.format l.transparency l.alpha mask)
+
+-- a texel, where there is one, over a colour
+abbrev pub on_top : Option Rgba → Rgba → Rgba
+on_top None rest = rest
+on_top (Some t) rest = over t rest
+
+-- the colour of layers from the top down, over a background
+abbrev pub colour : List Layer → Images → Rgba → ℤ → ℤ → Rgba
+colour [] contents background x y = background
+colour (l ∷ ls) contents background x y = on_top (texel l contents x y) (colour ls contents background x y)
+
+-- the pixel at a place of the target, which the scene's turn finds in the space where it is composed
+abbrev pub picture_pixel : Scene → Images → ℕ → ℕ → Rgba
+picture_pixel scene contents x y =
+    let p : ℕ × ℕ = turned_back scene.turn (turned scene.turn scene.size) x y in
+    colour (reverse scene.layers.items) contents scene.background (pos p.0) (pos p.1)
 
 -- the picture, as an image of a format
-abbrev pub picture : Scene → Format → Bitmap
-picture scene format = drawn scene.size format (colour scene)
+abbrev pub picture : Scene → Images → Format → Bitmap
+picture scene contents format = drawn scene.size format (picture_pixel scene contents)
+
+-- the rectangles of a layer are in range, and its images are such as it can show
+pub record LayerFits (contents : Images) (l : Layer) : Type 0 where
+  pub src : IsDrawn l.src
+  pub dest : IsDrawn l.dest
+  pub src_x : pos 0 ≤ℤ l.src.x
+  pub src_y : pos 0 ≤ℤ l.src.y
+  pub stream : IfSome (image_of l.stream contents) (λ i. (i.format ≢ A8) × IsTrue (holds_rect i.size l.src))
+  pub mask : IsTrue l.transparency.mask → IfSome (image_of l.mask contents) (λ i. (i.format ≡ A8) × (i.size ≡ size_of l.dest))
+
+-- a scene and images of which there is a picture
+pub record Fits (scene : Scene) (contents : Images) : Type 0 where
+  pub w : IsTrue (is_side scene.size.w)
+  pub h : IsTrue (is_side scene.size.h)
+  pub layers : All (LayerFits contents) scene.layers.items

@@ -26,3 +26,8 @@ same_format _ _ = false
 -- a whole number between two bounds, both included
 abbrev pub is_between : ℤ → ℤ → ℤ → Bool
 is_between low high z = int_le low z && int_le z high
+
+-- a mask's format, which has one byte for each pixel
+abbrev pub is_a8 : Format → Bool
+is_a8 A8 = true
+is_a8 _ = false

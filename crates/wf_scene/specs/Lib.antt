@@ -1,0 +1,2 @@
+-- Layers, and which rectangles lie inside a source.
+pub mod Layers

@@ -1,0 +1,58 @@
+-- The handle table: how many objects were made, and the live handles with what they stand for.
+use Rattle.std.specs.Prelude.{ℕ, ◌+◌, ◌<◌, ◌≤◌, Bool, true, false, ◌&&◌, ◌==◌, nat_lt, not, List, [], ◌∷◌, ◌++◌, count_by, find, filter, Option, option_map}
+use Rattle.std.specs.List.{list_any}
+use Rattle.wf_life.specs.declared.Kind.{Kind}
+use Rattle.wf_life.specs.declared.Kind.TheVariants as kind
+
+abbrev pub same_kind : Kind → Kind → Bool
+same_kind kind.Stream kind.Stream = true
+same_kind kind.Device kind.Device = true
+same_kind kind.Context kind.Context = true
+same_kind kind.Element kind.Element = true
+same_kind kind.Source kind.Source = true
+same_kind kind.Mask kind.Mask = true
+same_kind kind.DisplaySource kind.DisplaySource = true
+same_kind _ _ = false
+
+-- a live handle, its kind, and the key of its object
+pub record Live : Type 0 where
+  pub handle : ℕ
+  pub kind : Kind
+  pub key : ℕ
+
+-- how many objects were made, and the live ones by rising handle
+pub record Table : Type 0 where
+  pub made : ℕ
+  pub live : List Live
+
+-- the handles rise, from above `low` up to `high` at most
+abbrev pub IsRising : ℕ → List Live → ℕ → Type 0
+IsRising low [] high = low ≤ high
+IsRising low (l ∷ live) high = (low < l.handle) × IsRising l.handle live high
+
+-- the live handles rise, and were all given out
+abbrev pub IsOrderly : Table → Type 0
+IsOrderly t = IsRising 0 t.live t.made
+
+-- every handle was given out
+abbrev pub is_full : ℕ → Bool
+is_full made = not (nat_lt made 4294967291)
+
+abbrev pub live_count : Kind → List Live → ℕ
+live_count k live = count_by (λ l. same_kind l.kind k) live
+
+-- the key behind a handle of a kind
+abbrev pub key_of : ℕ → Kind → List Live → Option ℕ
+key_of handle k live = option_map (λ l. l.key) (find (λ l. (l.handle == handle) && same_kind l.kind k) live)
+
+-- an object of some kind has the handle
+abbrev pub is_live : ℕ → List Live → Bool
+is_live handle live = list_any (λ l. l.handle == handle) live
+
+-- the live objects but the one with this handle
+abbrev pub without : ℕ → List Live → List Live
+without handle live = filter (λ l. not (l.handle == handle)) live
+
+-- one more object was made, and lives under the next handle
+abbrev pub with_new : Kind → ℕ → Table → Table
+with_new k key t = record { made = t.made + 1; live = t.live ++ record { handle = t.made + 1; kind = k; key = key } ∷ [] }

@@ -1,0 +1,98 @@
+-- The calls on streams.
+use Rattle.std.specs.Prelude.{ℕ, ◌+◌, ◌*◌, Bool, false, not, ◌&&◌, ◌||◌, ◌==◌, nat_lt, nat_le, ℤ, pos, List, [], ◌∷◌, ◌++◌, length, find, Option, Some, None, Result, Ok, Err, if◌then◌else◌}
+use Rattle.wf_words.specs.Refusals.{◌>>=◌}
+use Rattle.wf_words.specs.Whole.{count_of}
+use Rattle.wf_pixel.specs.declared.Size.{Size}
+use Rattle.wf_pixel.specs.declared.Format.{Format}
+use Rattle.wf_pixel.specs.Choice.{same_size, same_format, is_between}
+use Rattle.wf_image.specs.declared.canvas.Canvas.{Canvas}
+use Rattle.wf_image.specs.Bitmap.{blank}
+use Rattle.wf_life.specs.Handles.{is_full}
+use Rattle.wf_stream.specs.declared.Held.{Held}
+use Rattle.wf_stream.specs.Buffers.{Buffers, fresh, acquired, is_blocked, buffer_bytes}
+use Rattle.wf_stream.specs.Streams.{KeptStream, stream_at, change_stream, held}
+use Rattle.wf_calls.specs.declared.code.Code.TheVariants as code
+use Rattle.wf_calls.specs.declared.code.Refusal.{Refusal}
+use Rattle.wf_calls.specs.declared.call.Payload.TheVariants as payload
+use Rattle.wf_calls.specs.declared.call.Reply.{Reply}
+use Rattle.wf_calls.specs.declared.call.StatWord.{StatWord}
+use Rattle.wf_calls.specs.declared.call.StatWord.TheVariants as stat_word
+use Rattle.wf_model.specs.State.{State}
+use Rattle.wf_model.specs.Names.{settle}
+use Rattle.wf_model.specs.Outcome.{Outcome, refuse, found, answer}
+
+abbrev pub size_of : ℤ → ℤ → Size
+size_of width height = record { w = count_of width; h = count_of height }
+
+-- a number of a call is a side
+abbrev pub is_wide_side : ℤ → Bool
+is_wide_side z = is_between (pos 1) (pos 1024) z
+
+-- the sides and the buffers of a stream are in their ranges
+abbrev pub is_stream : ℤ → ℤ → ℤ → Bool
+is_stream width height buffers = is_wide_side width && is_wide_side height && is_between (pos 2) (pos 4) buffers
+
+abbrev pub live_stream : ℕ → State → Result KeptStream Refusal
+live_stream handle h = found code.BadHandle (find (λ s. (s.handle == handle) && not (handle == 0)) h.streams)
+
+-- 64 streams are kept, or the bytes of all buffers would pass 134,217,728
+abbrev pub has_no_room : Buffers → List KeptStream → Bool
+has_no_room new streams = nat_le 64 (length streams) || nat_lt 134217728 ((held streams).bytes + buffer_bytes new)
+
+-- one more stream, whose handle is answered
+abbrev pub stream_made : Buffers → State → State × ℕ
+stream_made new h =
+    let made : KeptStream = record { number = h.numbered + 1; handle = h.made + 1; buffers = new } in
+    (record h { made = h.made + 1; numbered = h.numbered + 1; streams = h.streams ++ made ∷ [] }, h.made + 1)
+
+abbrev pub stream_new : ℤ → ℤ → Format → ℤ → Bool → State → Outcome State
+stream_new width height format buffers memory_refused h =
+    let new : Buffers = fresh (size_of width height) format (count_of buffers) in
+    do
+      _ ← refuse code.IllegalArgument (not (is_stream width height buffers))
+      _ ← refuse code.Limit (has_no_room new h.streams || is_full h.made)
+      _ ← refuse code.OutOfMemory memory_refused
+      Ok (stream_made new h)
+
+abbrev pub with_stream : ℕ → (Buffers → Buffers) → State → State
+with_stream number f h = record h { streams = change_stream number f h.streams }
+
+abbrev pub canvas_of : KeptStream → Canvas
+canvas_of s = record { stream = s.number; image = blank s.buffers.size s.buffers.format }
+
+-- the stream whose write buffer a client gets
+abbrev pub acquirable : ℕ → State → Result KeptStream Refusal
+acquirable handle h = do
+  s ← live_stream handle h
+  _ ← refuse code.Busy s.buffers.out
+  _ ← refuse code.NoBuffer (is_blocked s.buffers)
+  Ok s
+
+-- a canvas is the write buffer of a kept stream, out at a client
+abbrev pub is_out_at_client : Canvas → State → Bool
+is_out_at_client canvas h = is_of (stream_at canvas.stream h.streams)
+  where
+    is_of : Option KeptStream → Bool
+    is_of None = false
+    is_of (Some s) =
+        s.buffers.out && same_size canvas.image.size s.buffers.size && same_format canvas.image.format s.buffers.format
+
+-- a canvas comes back to its stream, or to its client
+abbrev pub canvas_back : Canvas → (Buffers → Buffers) → State → State × Reply
+canvas_back canvas f h =
+    if is_out_at_client canvas h then (settle (with_stream canvas.stream f h), answer code.Ok 0)
+    else (h, record { code = code.BadHandle; value = 0; payload = payload.Canvas canvas })
+
+abbrev pub stat : StatWord → Held → ℕ
+stat stat_word.Streams held = held.streams
+stat stat_word.Bytes held = held.bytes
+
+-- a call that makes a stream
+abbrev pub stream_step : State → Outcome State → State × Reply
+stream_step h (Ok done) = (settle done.0, answer code.Ok done.1)
+stream_step h (Err r) = (h, answer r.code r.value)
+
+abbrev pub acquire_step : State → Result KeptStream Refusal → State × Reply
+acquire_step h (Ok s) =
+    (settle (with_stream s.number acquired h), record { code = code.Ok; value = 0; payload = payload.Canvas (canvas_of s) })
+acquire_step h (Err r) = (h, answer r.code r.value)

@@ -1,0 +1,9 @@
+//! Streams of images, and the store that keeps them.
+#![tactic(auto)]
+
+/// How many streams are kept, and the bytes of all their buffers.
+#[derive(Clone, Copy, Debug, PartialEq, Eq)]
+pub struct Held {
+    pub streams: u32,
+    pub bytes: u64,
+}

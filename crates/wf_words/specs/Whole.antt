@@ -1,0 +1,7 @@
+-- Whole numbers in the calls.
+use Rattle.std.specs.Prelude.{ℕ, ℤ, pos, negsuc}
+
+-- a count that a whole number is, and 0 for a negative one
+abbrev pub count_of : ℤ → ℕ
+count_of (pos n) = n
+count_of (negsuc n) = 0
