@@ -12,10 +12,10 @@ use Rattle.wf_pixel.specs.declared.Size.{Size}
 use Rattle.wf_pixel.specs.Choice.{has_sides}
 use Rattle.wf_calls.specs.declared.order.Turn.{Turn}
 use Rattle.wf_image.specs.Bitmap.{Bitmap, drawn}
-use Rattle.wf_model.specs.Frames.{black}
+use Rattle.wf_model.specs.Display.{black}
 use Rattle.wf_film.specs.Film.{Frame, magic, frame_of, frame_bytes, tail_bytes, film_bytes}
-use Rattle.wf_play.specs.Ticks.{turns_of, tick_turns, tick_frame, frames_from, port_picture}
-use Rattle.wf_play.proofs.Pixels.{length-repeated, rows_are}
+use Rattle.wf_play.specs.Ticks.{turns_of, tick_turns, tick_frame, frames_from, port_scene, port_picture}
+use Rattle.wf_play.proofs.Pixels.{length-repeated, picture_bytes}
 
 -- the bytes of the frames of so many ticks
 abbrev pub shown : Size → ℕ → List ℕ
@@ -66,7 +66,7 @@ pub length-frame : (size : Size) (tick : ℕ) → IsTrue (has_sides size) → le
 unfolding drawn
 length-frame size tick sides =
     let fit = sides_fit size sides in
-    let pixels : length (port_picture size).bytes ≡ 4 * (size.h * size.w) = ap length (rows_are black size.w 0 size.h) ∙ length-repeated black (size.h * size.w) in
+    let pixels : length (port_picture size).bytes ≡ 4 * (size.h * size.w) = ap length (picture_bytes (port_scene size)) ∙ length-repeated black (size.h * size.w) in
     let few : size.h * size.w ≤ 1024 * 1024 = mul-le-mul fit.1 fit.0 in
     omega (arith, pixels, few)
 

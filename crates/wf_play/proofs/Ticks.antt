@@ -6,8 +6,10 @@ use Rattle.std.proofs.lemmas.List.{append-nil, length-replicate}
 use Rattle.std.proofs.Math.Nat.{add-zero, zero-add}
 use Rattle.std.specs.Prelude.{Option, Some, None, replicate, nat_lt, ◌==◌, filter, is_some}
 use Rattle.wf_pixel.specs.declared.Size.{Size}
-use Rattle.wf_pixel.specs.declared.Format.TheVariants.{Rgba8Pre}
+use Rattle.wf_pixel.specs.declared.Format.TheVariants.{Rgba8Pre, Rgbx8}
 use Rattle.wf_image.specs.Bitmap.{drawn}
+use Rattle.wf_stream.specs.Buffers as buffers
+use Rattle.wf_stream.specs.Streams.{KeptStream}
 use Rattle.wf_calls.specs.declared.call.Job.{Job}
 use Rattle.wf_calls.specs.declared.call.JobKind.TheVariants as kind
 use Rattle.wf_calls.specs.declared.order.Turn.{Turn}
@@ -16,11 +18,13 @@ use Rattle.wf_film.specs.Film.{Frame, frame_of, film_bytes}
 use Rattle.wf_script.specs.declared.line.Line.{Line}
 use Rattle.wf_script.specs.declared.line.Verb.TheVariants as verb
 use Rattle.wf_script.specs.Script.{PlainScript}
-use Rattle.wf_model.specs.Frames.{black, is_of_frame}
+use Rattle.wf_model.specs.Display.{black}
+use Rattle.wf_model.specs.Frames.{is_of_frame}
+use Rattle.wf_model.specs.State.{screen}
 use Rattle.wf_model.specs.Picture.{picture}
 use Rattle.wf_model.specs.State.{State, opening}
 use Rattle.wf_model.specs.Step.{step}
-use Rattle.wf_play.specs.Ticks.{tick_line, tick_script, entry, tick_turns, turns_of, tick_frame, frames_from}
+use Rattle.wf_play.specs.Ticks.{port_scene, port_picture, tick_line, tick_script, entry, tick_turns, turns_of, tick_frame, frames_from}
 use Rattle.wf_turn.specs.Program.{Program, Stage, fresh, contexts, ports, ending}
 use Rattle.wf_turn.specs.Turns.{Show, turn, opening_show, setup_lines, is_over}
 use Rattle.wf_turn.specs.Play.{same_turn, is_marked, replay_turn, replay_from, first_client, serial_from, serial_order, replay, IsLegal, IsComplete, film, over_after, frames_after}
@@ -29,11 +33,22 @@ use Rattle.wf_words.specs.Keyed.{is_in}
 abbrev idle : Program
 idle = record { lines = []; stage = fresh; tick = 0; port_count = 1 }
 
+-- the screen of the port, which no image came to
+abbrev port_screen : Size → KeptStream
+port_screen size = record { number = 1; handle = 0; buffers = buffers.fresh size Rgbx8 3 }
+
 -- the show between two ticks
 abbrev between : Size → ℕ → List (ℕ × Line) → List Frame → ℕ → Show
 between size tick lines frames setup_end =
     record {
-      state = record { begun = tick; display = record { ports = record { modes = size ∷ [] } ∷ [] }; frame = None };
+      state = record {
+        made = 0;
+        numbered = 1;
+        begun = tick;
+        streams = port_screen size ∷ [];
+        display = record { ports = record { modes = size ∷ [] } ∷ [] };
+        frame = None;
+      };
       programs = record { lines = lines; stage = fresh; tick = tick; port_count = 1 } ∷ idle ∷ idle ∷ idle ∷ idle ∷ idle ∷ idle ∷ idle ∷ [];
       frames = frames;
       setup_end = setup_end;
@@ -48,16 +63,19 @@ asked size tick lines frames setup_end =
 
 abbrev shown_job : Size → ℕ → Job
 shown_job size tick =
-    record { number = tick + 1; kind = kind.Port 1; scene = record { size = size; background = black }; image = drawn size Rgba8Pre (λ x y. black) }
+    record { number = tick + 1; kind = kind.Port 1; scene = port_scene size; contents = []; image = port_picture size }
 
 -- the show before the last call of a tick
 abbrev running : Size → ℕ → List (ℕ × Line) → List Frame → ℕ → Show
 running size tick lines frames setup_end =
     record {
       state = record {
+        made = 0;
+        numbered = 1;
         begun = tick + 1;
+        streams = port_screen size ∷ [];
         display = record { ports = record { modes = size ∷ [] } ∷ [] };
-        frame = Some (record { number = tick + 1; kind = kind.Port 1; size = size; format = Rgba8Pre });
+        frame = Some (record { number = tick + 1; kind = kind.Port 1; size = size; format = Rgba8Pre; contents = [] });
       };
       programs =
           record { lines = lines; stage = ending (shown_job size tick) (ports 2); tick = tick + 1; port_count = 1 }
@@ -67,7 +85,7 @@ running size tick lines frames setup_end =
     }
 
 -- the Job of a tick is that of its frame
-is_own : (size : Size) (tick : ℕ) → is_of_frame (shown_job size tick) (record { number = tick + 1; kind = kind.Port 1; size = size; format = Rgba8Pre }) ≡ true
+is_own : (size : Size) (tick : ℕ) → is_of_frame (shown_job size tick) (record { number = tick + 1; kind = kind.Port 1; size = size; format = Rgba8Pre; contents = [] }) ≡ true
 unfolding drawn
 is_own size tick = rw (eq-eqb (tick + 1) (tick + 1) refl, eq-eqb size.w size.w refl, eq-eqb size.h size.h refl) refl
 

@@ -5,10 +5,11 @@ use Rattle.wf_pixel.specs.declared.Format.TheVariants.{Rgba8Pre}
 use Rattle.wf_image.specs.Bitmap.{Bitmap}
 use Rattle.wf_calls.specs.declared.order.Turn.{Turn}
 use Rattle.wf_film.specs.Film.{Frame, frame_of}
+use Rattle.wf_scene.specs.declared.Scene.{Scene}
 use Rattle.wf_script.specs.declared.line.Line.{Line}
 use Rattle.wf_script.specs.declared.line.Verb.TheVariants as verb
 use Rattle.wf_script.specs.Script.{PlainScript}
-use Rattle.wf_model.specs.Frames.{black}
+use Rattle.wf_model.specs.Display.{scene_of_port}
 use Rattle.wf_model.specs.Picture.{picture}
 
 abbrev pub tick_line : Line
@@ -34,9 +35,13 @@ abbrev pub turns_of : ℕ → List Turn
 turns_of zero = []
 turns_of (suc n) = tick_turns ++ turns_of n
 
+-- the scene of the port, whose screen has no image
+abbrev pub port_scene : Size → Scene
+port_scene size = scene_of_port 1 (record { modes = size ∷ [] })
+
 -- what the port shows
 abbrev pub port_picture : Size → Bitmap
-port_picture size = picture (record { size = size; background = black }) Rgba8Pre
+port_picture size = picture (port_scene size) [] Rgba8Pre
 
 -- the frame of a tick
 abbrev pub tick_frame : Size → ℕ → Frame

@@ -1,7 +1,7 @@
-//! Paints the picture of a scene.
+//! Paints the picture of a scene whose streams have no image.
 
-ghost use Rattle.std.specs.Prelude.{◌≡◌, ◌≤◌, ◌+◌, ◌*◌, ◌/◌, ◌++◌, length, take, drop};
-ghost use Rattle.wf_model.specs.Picture.{picture as picture_of};
+ghost use Rattle.std.specs.Prelude.{◌≡◌, ◌≤◌, ◌+◌, ◌*◌, ◌/◌, ◌++◌, [], length, take, drop};
+ghost use Rattle.wf_model.specs.Picture.{picture};
 ghost use Rattle.wf_image.specs.Bitmap.{stored};
 ghost use Rattle.wf_play.specs.Painting.{repeated};
 
@@ -9,11 +9,12 @@ use wf_image::Image;
 use wf_pixel::{Format, Rgba};
 use wf_scene::Scene;
 
-/// Writes the picture of the scene into an image of its size.
-pub(crate) fn picture(scene: &Scene, target: &mut Image)
+/// Writes the picture of the scene into an image of its size, where no stream has an image: then no layer shows
+/// anything.
+pub(crate) fn picture_without_images(scene: &Scene, target: &mut Image)
     requires size { target.old.size ≡ scene.now.size }
     requires format { target.old.format ≡ Format.Rgba8Pre }
-    ensures { target.new ≡ picture_of scene.now Format.Rgba8Pre }
+    ensures { target.new ≡ picture scene.now [] Format.Rgba8Pre }
 {
     fill(target.bytes_mut(), scene.background);
 }

@@ -7,17 +7,18 @@ ghost use Rattle.wf_pixel.specs.Choice.{has_sides};
 ghost use Rattle.wf_calls.specs.declared.order.Turn.{Turn};
 ghost use Rattle.wf_film.specs.Film.{frame_bytes, film_bytes};
 ghost use Rattle.wf_script.specs.Text.{IsAccepted};
-ghost use Rattle.wf_play.specs.Ticks.{entry, tick_script, tick_turns, turns_of, port_picture, frames_from};
+ghost use Rattle.wf_play.specs.Ticks.{entry, tick_script, tick_turns, turns_of, port_scene, port_picture, frames_from};
 ghost use Rattle.wf_play.specs.Player.{PlaysFilm, IsCaused};
 
-use crate::painter::picture;
+use crate::painter::picture_without_images;
+use arrayvec::ArrayVec;
 use std::alloc::Global;
 use wf_calls::{Code, Order, Turn};
 use wf_film::Writer;
 use wf_image::{Image, NoMemory};
 use wf_io::{Sink, WriteStop};
-use wf_pixel::{Format, Rgba, Size};
-use wf_scene::Scene;
+use wf_pixel::{Format, Rect, Rgba, Rotation, Size};
+use wf_scene::{Layer, Scene};
 use wf_script::Script;
 
 /// What a port shows where nothing else is.
@@ -86,12 +87,33 @@ fn image_of_port(alloc: Global, size: Size) -> Result<Image, NoMemory>
     ensures { IfOk result (λ image. image ≡ port_picture size) }
 {
     let mut image = Image::new(alloc, size, Format::Rgba8Pre)?;
-    let scene = Scene {
-        size,
-        background: BLACK,
-    };
-    picture(&scene, &mut image);
+    picture_without_images(&scene_of_port(size), &mut image);
     Ok(image)
+}
+
+/// The scene of the port: its screen, whole, over its background.
+fn scene_of_port(size: Size) -> Scene
+    ensures { result ≡ port_scene size }
+{
+    let whole = Rect {
+        x: 0,
+        y: 0,
+        w: size.w,
+        h: size.h,
+    };
+    let mut layers = ArrayVec::new();
+    layers.push(Layer {
+        stream: 1,
+        src: whole,
+        dest: whole,
+        ..Layer::default()
+    });
+    Scene {
+        size,
+        turn: Rotation::R0,
+        background: BLACK,
+        layers,
+    }
 }
 
 /// Writes the film of so many ticks that show the image, into an order that has room for their turns.

@@ -88,7 +88,7 @@ after_end p _ = line_done p
 
 -- the Job with its picture
 abbrev pub painted_job : Job → Job
-painted_job job = record job { image = picture job.scene job.image.format }
+painted_job job = record job { image = picture job.scene job.contents job.image.format }
 
 -- a Job is painted, to be ended next; without one the program goes on
 abbrev pub took_job : Program → Payload → Stage → Program

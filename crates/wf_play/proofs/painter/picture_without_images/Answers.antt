@@ -1,7 +1,7 @@
 use Rattle.std.proofs.Common.{◌/◌, List, ℕ, length, ap, sym, ◌∙◌}
 use Rattle.wf_play.specs.Painting.{repeated}
 use Rattle.wf_play.proofs.Pixels.{picture_is}
-use Rattle.wf_play.proofs.painter.picture.Goals as goal
+use Rattle.wf_play.proofs.painter.picture_without_images.Goals as goal
 
 pub returns : goal.returns
 returns c =
