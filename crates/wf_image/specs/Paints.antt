@@ -1,12 +1,13 @@
 -- What a paint leaves: the pixels that it names get its colours, and the others stay.
-use Rattle.std.specs.Prelude.{ℕ, ◌+◌, ◌-◌, ◌*◌, ◌/◌, ◌%◌, ◌==◌, ℤ, pos, negsuc, Bool, true, nat_le, length, Option, Some, None, slice_get, unwrap_or, is_some, ◌&&◌, if◌then◌else◌}
+use Rattle.std.specs.Prelude.{List, ℕ, ◌+◌, ◌-◌, ◌*◌, ◌/◌, ◌%◌, ◌==◌, ℤ, pos, negsuc, Bool, true, nat_le, length, Option, Some, None, slice_get, unwrap_or, is_some, ◌&&◌, if◌then◌else◌}
 use Rattle.wf_pixel.specs.declared.Size.{Size}
+use Rattle.wf_pixel.specs.declared.Format.{Format}
 use Rattle.wf_pixel.specs.declared.Rgba.{Rgba}
 use Rattle.wf_pixel.specs.Along.{along}
 use Rattle.wf_pixel.specs.Choice.{is_between}
 use Rattle.wf_image.specs.declared.paint.Paint.{Paint}
 use Rattle.wf_image.specs.declared.paint.Paint.TheVariants.{Fill, Rectangle, Checker, Ramp, Row}
-use Rattle.wf_image.specs.Bitmap.{Bitmap, pixel, drawn}
+use Rattle.wf_image.specs.Bitmap.{Bitmap, pixel_bytes, read_at, pixel, drawn_row, drawn}
 
 -- one channel of the ramp from c to d, at x of w columns
 abbrev pub ramp_channel : ℕ → ℕ → ℕ → ℕ → ℕ
@@ -30,6 +31,16 @@ named_colour (Checker n first second) size x y =
     if (x / n + y / n) % 2 == 0 then Some first else Some second
 named_colour (Ramp first second) size x y = Some (ramp_colour size.w x first second)
 named_colour (Row row pixels) size x y = if row == y then slice_get pixels x else None
+
+-- the bytes of row y after a paint
+abbrev pub painted_row : Size → Format → List ℕ → Paint → ℕ → List ℕ
+painted_row size format row paint y =
+    drawn_row size.w format (λ x. unwrap_or (named_colour paint size x y) (read_at format row (x * pixel_bytes format)))
+
+-- the bytes of an image after a paint
+abbrev pub painted_bytes : Size → Format → List ℕ → Paint → List ℕ
+painted_bytes size format bytes paint =
+    (drawn size format (λ x y. unwrap_or (named_colour paint size x y) (pixel (record { size = size; format = format; bytes = bytes }) x y))).bytes
 
 -- an image after a paint
 abbrev pub painted : Bitmap → Paint → Bitmap

@@ -1,10 +1,37 @@
-//! A write buffer, and what is painted on it.
+//! A write buffer, and painting on it.
+
+ghost use Rattle.std.specs.Prelude.{◌≡◌, IsTrue};
+ghost use Rattle.wf_image.specs.Paints.{is_paint, painted};
 
 use crate::image::Image;
+use crate::paint::Paint;
+use crate::painting::paint_bytes;
 
 /// A write buffer with the number of its stream.
 #[derive(Drop)]
 pub struct Canvas {
     pub stream: u32,
     pub image: Image,
+}
+
+impl Canvas {
+    /// Paints on the image. What lies outside of it is dropped, and pixels that the paint does not name stay. It takes
+    /// no memory. The numbers of the paint are in their ranges: coordinates from -16,384 to 16,384, sides of a
+    /// rectangle up to 16,384, sides of squares from 1 to 1024, rows up to 1023, and 1 to 1024 pixels in a row.
+    pub fn paint(&mut self, p: &Paint)
+        requires { IsTrue (is_paint p.now) }
+        ensures { self.new ≡ record self.old { image = painted self.old.image p.now } }
+    {
+        paint_image(&mut self.image, p);
+    }
+}
+
+/// Paints on an image.
+fn paint_image(image: &mut Image, p: &Paint)
+    requires { IsTrue (is_paint p.now) }
+    ensures { image.new ≡ painted image.old p.now }
+{
+    let size = image.size();
+    let format = image.format();
+    paint_bytes(image.bytes_mut(), size, format, p);
 }

@@ -79,7 +79,7 @@ impl Image {
 }
 
 /// How many bytes a pixel takes.
-fn bytes_of_pixel(format: Format) -> usize
+pub(crate) fn bytes_of_pixel(format: Format) -> usize
     ensures { result ≡ pixel_bytes format }
 {
     match format {

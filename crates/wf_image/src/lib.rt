@@ -7,6 +7,7 @@ mod canvas;
 mod contents;
 mod image;
 mod paint;
+mod painting;
 
 pub use canvas::Canvas;
 pub use contents::Contents;
