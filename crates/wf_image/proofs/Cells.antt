@@ -1,11 +1,11 @@
 -- The bytes of pixels, one after the other.
-use Rattle.std.proofs.Common.{◌≡◌, ℕ, zero, suc, ◌+◌, ◌-◌, ◌*◌, ◌<◌, ◌≤◌, List, [], ◌∷◌, ◌++◌, length, get_or, take, drop, refl, sym, ap, ◌∙◌, append_assoc, arith, length-append, length-drop, length-take, drop-cons}
+use Rattle.std.proofs.Common.{◌≡◌, ℕ, zero, suc, ◌+◌, ◌*◌, ◌<◌, ◌≤◌, List, [], ◌∷◌, ◌++◌, length, get_or, take, drop, refl, sym, ap, ◌∙◌, append_assoc, arith, length-append, drop-cons}
 use Rattle.std.specs.Prelude.{flat_map}
 use Rattle.std.specs.List.{range_with_len}
-use Rattle.std.proofs.Math.Seq.{take-add, drop-append-add}
+use Rattle.std.proofs.Math.Seq.{take-add}
 use Rattle.std.proofs.Math.Nat.{zero-add, add-zero, suc-add, zero-mul}
 use Rattle.std.proofs.Math.Numerals.{add-one}
-use Rattle.std.proofs.lemmas.List.{append-nil, take_at, take_all, drop-drop, take-append-drop}
+use Rattle.std.proofs.lemmas.List.{drop-drop}
 use Rattle.wf_pixel.specs.declared.Rgba.{Rgba}
 use Rattle.wf_pixel.specs.declared.Format.{Format}
 use Rattle.wf_pixel.specs.declared.Format.TheVariants.{Rgba8, Rgba8Pre, Rgbx8, A8}

@@ -1,5 +1,5 @@
 -- Painted cells and rows.
-use Rattle.std.proofs.Common.{◌≡◌, ℕ, zero, suc, ◌+◌, ◌-◌, ◌*◌, ◌<◌, ◌≤◌, Bool, true, false, List, [], ◌∷◌, ◌++◌, length, get_or, take, drop, refl, sym, ap, ◌∙◌, append_assoc, arith, length-append, length-drop, length-take}
+use Rattle.std.proofs.Common.{◌≡◌, ℕ, zero, suc, ◌+◌, ◌-◌, ◌*◌, ◌<◌, ◌≤◌, true, false, List, [], ◌++◌, length, get_or, take, drop, refl, sym, ap, ◌∙◌, append_assoc, arith, length-append, length-drop}
 use Rattle.std.specs.Prelude.{flat_map, unwrap_or, Option, Some, None, is_some, ◌&&◌, nat_le, nat_lt}
 use Rattle.std.specs.List.{range_with_len}
 use Rattle.std.proofs.Math.Seq.{drop-append-add}
@@ -156,7 +156,7 @@ module _ (size : Size) (format : Format) (bytes : List ℕ) (paint : Paint) wher
       before ∙ ap (λ (rest : List ℕ). rows size format bytes paint 0 size.h ++ rest) behind ∙ append-nil (rows size format bytes paint 0 size.h)
       ∙ cells_are (λ y. painted_row size format (row_at size format bytes y) paint y) (λ y. drawn_row size.w format (λ x. unwrap_or (named_colour paint size x y) (pixel (record { size = size; format = format; bytes = bytes }) x y))) 0 size.h
       (λ y low high. cells_are (λ x. stored format (chosen size format (row_at size format bytes y) paint y x)) (λ x. stored format (unwrap_or (named_colour paint size x y) (pixel (record { size = size; format = format; bytes = bytes }) x y))) 0 size.w
-        (λ x left right. ap (λ (color : Rgba). stored format (unwrap_or (named_colour paint size x y) color)) (pixel_of_row size format bytes x y (omega arith))))
+      (λ x left right. ap (λ (color : Rgba). stored format (unwrap_or (named_colour paint size x y) color)) (pixel_of_row size format bytes x y (omega arith))))
 
 -- a row that is painted in its place
 pub row_in_place : (size : Size) (format : Format) (bytes row : List ℕ) (paint : Paint) (y start n : ℕ) → n ≡ size.w * pixel_bytes format → row ≡ painted_row size format (take n (drop start bytes)) paint y

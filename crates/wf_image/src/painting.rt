@@ -72,7 +72,10 @@ fn span_of_row(p: &Paint, size: Size, y: u32) -> (u32, u32)
 {
     match p {
         Paint::Rectangle { area, .. } => span_of_rectangle(*area, size.w, y),
-        Paint::Row { y: row, pixels } if *row == y => (0, size.w.min(pixels.as_slice().len() as u32)),
+        Paint::Row { y: row, pixels } if *row == y => (
+            0,
+            size.w.min(pixels.as_slice().len() as u32),
+        ),
         Paint::Row { .. } => (0, 0),
         _ => (0, size.w),
     }

@@ -1,5 +1,5 @@
 use Rattle.std.proofs.Common.{arith}
-use Rattle.std.specs.Prelude.{◌≡◌, ℕ}
+use Rattle.std.specs.Prelude.{◌≡◌}
 use Rattle.wf_image.proofs.Spans.{starts, goes_on, is_painted}
 use Rattle.wf_image.proofs.painting.paint_row.Goals as goal
 

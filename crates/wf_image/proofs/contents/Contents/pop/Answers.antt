@@ -1,0 +1,7 @@
+use Rattle.std.proofs.Common.{sym, ap, ◌∙◌}
+use Rattle.wf_image.specs.Contents.{somes}
+use Rattle.wf_image.proofs.Places.{somes_out}
+use Rattle.wf_image.proofs.contents.Contents.pop.Goals as goal
+
+pub returns-clause-last : goal.returns-clause-last
+returns-clause-last c = sym c.self.view_is ∙ ap (λ l. somes l) c.in_ok-pop.ensures.items ∙ somes_out c.pop.new.self.items c.in_ok-pop.field-0
