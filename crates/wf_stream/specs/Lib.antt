@@ -1,3 +1,4 @@
--- The buffers of a stream, and the streams that are kept.
+-- The buffers of a stream, how they are kept, and the streams that are kept.
 pub mod Buffers
+pub mod Inside
 pub mod Streams

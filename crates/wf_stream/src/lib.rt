@@ -1,6 +1,10 @@
 //! Streams of images, and the store that keeps them.
 #![tactic(auto)]
 
+mod stream;
+
+pub use stream::{Refused, Stream};
+
 /// How many streams are kept, and the bytes of all their buffers.
 #[derive(Clone, Copy, Debug, PartialEq, Eq)]
 pub struct Held {
