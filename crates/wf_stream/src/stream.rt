@@ -181,7 +181,7 @@ impl Stream {
 
 impl Read {
     ghost use Rattle.wf_stream.specs.Inside.{read_of, left_of};
-    ghost use Rattle.wf_stream.specs.Buffers.{home_image};
+    ghost use Rattle.wf_stream.specs.Buffers.{home_image, read_count};
     ghost use Rattle.std.specs.Prelude.{is_some};
 
     /// The read buffer is there and home.
@@ -197,6 +197,7 @@ impl Read {
     /// The image that is home goes away.
     fn leave(&mut self) -> Option<Image>
         ensures image { result ≡ home_image (read_of self.old) }
+        ensures count { IfSome result (λ _. read_count (read_of self.old) ≡ 1) }
         ensures left { self.new ≡ left_of self.old }
     {
         match mem::replace(self, Read::Away) {
