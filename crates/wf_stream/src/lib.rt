@@ -1,9 +1,13 @@
 //! Streams of images, and the store that keeps them.
 #![tactic(auto)]
 
+mod store;
 mod stream;
+mod streams;
 
+pub use store::Store;
 pub use stream::{Refused, Stream};
+pub use wf_life::{BadHandle, Kind, MakeStop};
 
 /// How many streams are kept, and the bytes of all their buffers.
 #[derive(Clone, Copy, Debug, PartialEq, Eq)]

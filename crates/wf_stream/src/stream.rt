@@ -1,11 +1,11 @@
 //! One stream: its buffers, which are free, out, finished or read.
 
-ghost use Rattle.std.specs.Prelude.{◌≡◌, ◌↔◌, ◌<◌, ◌≤◌, ◌≢◌, not, ◌&&◌, IfOk, OnOk, OnErr, IfSome, IsErrOf, IsTrue};
+ghost use Rattle.std.specs.Prelude.{◌≡◌, ◌↔◌, ◌*◌, ◌<◌, ◌≤◌, ◌≢◌, not, ◌&&◌, IfOk, OnOk, OnErr, IfSome, IsErrOf, IsTrue};
 ghost use Rattle.std.specs.List.{All};
 ghost use Rattle.std.specs.Vec.{vec_len, vec_capacity};
 ghost use Rattle.wf_pixel.specs.Choice.{has_sides};
-ghost use Rattle.wf_image.specs.Bitmap.{blank};
-ghost use Rattle.wf_stream.specs.Buffers.{fresh, acquired, posted, discarded, newest, latched, latched_if, returned, is_blocked, away, HasShape};
+ghost use Rattle.wf_image.specs.Bitmap.{blank, pixel_bytes, image_bytes};
+ghost use Rattle.wf_stream.specs.Buffers.{fresh, acquired, posted, discarded, newest, latched, latched_if, returned, is_blocked, away, HasShape, buffer_bytes};
 
 use std::alloc::Global;
 use std::marker::Model;
@@ -96,6 +96,14 @@ impl Stream {
         ensures { result ≡ self.now.out }
     {
         self.out
+    }
+
+    /// The bytes of all its buffers.
+    pub(crate) fn bytes(&self) -> u64
+        ensures bytes { result ≡ buffer_bytes self.now }
+        ensures most { result ≤ 16777216 }
+    {
+        bytes_of(self.size, self.format, self.buffers)
     }
 
     /// A buffer is free: now, or after a `latch`.
@@ -231,4 +239,24 @@ fn clear(image: &mut Image)
     ensures { image.new ≡ blank image.old.size image.old.format }
 {
     image.bytes_mut().fill(0);
+}
+
+/// The bytes of buffers of one size and format.
+pub(crate) fn bytes_of(size: Size, format: Format, buffers: u32) -> u64
+    requires sides { IsTrue (has_sides size) }
+    requires most { buffers ≤ 4 }
+    ensures bytes { result ≡ image_bytes size format * buffers }
+    ensures most { result ≤ 16777216 }
+{
+    size.w as u64 * size.h as u64 * bytes_of_pixel(format) * buffers as u64
+}
+
+/// How many bytes a pixel takes.
+fn bytes_of_pixel(format: Format) -> u64
+    ensures { result ≡ pixel_bytes format }
+{
+    match format {
+        Format::A8 => 1,
+        _ => 4,
+    }
 }
