@@ -1,9 +1,9 @@
 -- The handle table against the streams.
-use Rattle.std.proofs.Common.{◌≡◌, ◌≢◌, ℕ, ◌+◌, ◌<◌, ◌≤◌, Bool, true, false, cond, ◌==◌, not, ◌&&◌, ◌||◌, List, [], ◌∷◌, ◌++◌, map, length, Option, None, Some, refl, sym, ap, subst, ◌∙◌, rules, arith}
-use Rattle.std.specs.List.{list_any, filter, find, count_by}
+use Rattle.std.proofs.Common.{◌≡◌, ℕ, ◌<◌, ◌≤◌, Bool, true, false, cond, ◌==◌, not, ◌&&◌, ◌||◌, List, [], ◌∷◌, ◌++◌, map, None, Some, refl, sym, ap, subst, ◌∙◌, arith}
+use Rattle.std.specs.List.{filter, count_by}
 use Rattle.std.specs.Option.{option_map, is_some}
 use Rattle.std.proofs.lemmas.Bool.Decides.{nat_tests}
-use Rattle.std.proofs.lemmas.List.{map-append, append_nil}
+use Rattle.std.proofs.lemmas.List.{map-append, append-nil}
 use Rattle.std.proofs.lemmas.List.Elements.{filter-append}
 use Rattle.std.proofs.lemmas.List.Sums.{sum_by-cons}
 use Rattle.wf_life.specs.declared.Kind.{Kind}
@@ -269,9 +269,9 @@ without_last low high (x ∷ streams) s rising above =
 
 -- the tables after a stream was made without a handle, or under one
 pub screen_tied : (streams : List KeptStream) (s : KeptStream) → s.handle ≡ 0 → live_streams (streams ++ s ∷ []) ≡ live_streams streams
-screen_tied streams s bare =
+screen_tied streams s zero =
     let none : live_streams (s ∷ []) ≡ [] = grind (arith, nat_tests) in
-    entries_push streams s ∙ ap (λ (ls : List Live). live_streams streams ++ ls) none ∙ append_nil (live_streams streams)
+    entries_push streams s ∙ ap (λ (ls : List Live). live_streams streams ++ ls) none ∙ append-nil (live_streams streams)
 
 pub made_tied : (live : List Live) (streams : List KeptStream) (s : KeptStream) → stream_handles live ≡ live_streams streams → 0 < s.handle → stream_handles (live ++ live_of s ∷ []) ≡ live_streams (streams ++ s ∷ [])
 made_tied live streams s tied some =
@@ -280,4 +280,4 @@ made_tied live streams s tied some =
 
 pub made_others : (live : List Live) (s : KeptStream) → others_of (live ++ live_of s ∷ []) ≡ others_of live
 made_others live s =
-    filter-append (λ (l : Live). not (is_of_stream l)) live (live_of s ∷ []) ∙ append_nil (others_of live)
+    filter-append (λ (l : Live). not (is_of_stream l)) live (live_of s ∷ []) ∙ append-nil (others_of live)

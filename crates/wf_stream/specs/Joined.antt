@@ -1,5 +1,5 @@
 -- How the store is kept: the handle table, in which a stream's key is its number, and the streams.
-use Rattle.std.specs.Prelude.{◌≡◌, ℕ, ◌+◌, ◌≤◌, Bool, not, List, map, filter}
+use Rattle.std.specs.Prelude.{◌≡◌, ◌+◌, ◌≤◌, Bool, not, List, map, filter}
 use Rattle.wf_life.specs.declared.Kind.TheVariants as kind
 use Rattle.wf_life.specs.Handles.{Live, IsOrderly}
 use Rattle.wf_stream.specs.declared.store.Store.TheInside.{Inside}

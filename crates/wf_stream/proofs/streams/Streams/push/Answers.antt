@@ -1,5 +1,5 @@
-use Rattle.std.proofs.Common.{◌≤◌, sym, ap, refl, ◌∙◌, ◌-◌, arith}
-use Rattle.wf_life.specs.Pool.{IsKept, value_at}
+use Rattle.std.proofs.Common.{◌≤◌, refl, arith}
+use Rattle.wf_life.specs.Pool.{IsKept}
 use Rattle.wf_stream.proofs.Shelves.{shelf_push, shelf_same, agree_twice}
 use Rattle.wf_stream.proofs.streams.Streams.push.Goals as goal
 
