@@ -4,6 +4,8 @@
 mod store;
 mod stream;
 mod streams;
+#[cfg(test)]
+mod tests;
 
 pub use store::Store;
 pub use stream::{Refused, Stream};
