@@ -65,6 +65,13 @@ impl Handles {
         }
     }
 
+    /// Every handle was given.
+    pub fn is_full(&self) -> bool
+        ensures { result ≡ is_full self.now.made }
+    {
+        self.made >= MOST_HANDLES
+    }
+
     /// A handle for a new object of this kind, which keeps this key for its owner.
     pub fn make(&mut self, kind: Kind, key: u32) -> Result<u32, MakeStop>
         ensures handle { IfOk result (λ handle. handle ≡ self.old.made + 1) }

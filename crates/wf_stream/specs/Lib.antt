@@ -1,3 +1,8 @@
--- The buffers of a stream, and the streams that are kept.
+-- The buffers of a stream and how they are kept; the streams that are kept, how, and what a loan of one leaves.
 pub mod Buffers
+pub mod Inside
 pub mod Streams
+pub mod Handed
+pub mod Shelf
+pub mod Joined
+pub mod Lending

@@ -1,6 +1,16 @@
 //! Streams of images, and the store that keeps them.
 #![tactic(auto)]
 
+mod store;
+mod stream;
+mod streams;
+#[cfg(test)]
+mod tests;
+
+pub use store::Store;
+pub use stream::{Refused, Stream};
+pub use wf_life::{BadHandle, Kind, MakeStop};
+
 /// How many streams are kept, and the bytes of all their buffers.
 #[derive(Clone, Copy, Debug, PartialEq, Eq)]
 pub struct Held {

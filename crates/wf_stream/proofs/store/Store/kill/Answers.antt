@@ -1,0 +1,61 @@
+use Rattle.std.proofs.Common.{◌≡◌, map, refl, sym, ap, ◌∙◌}
+use Rattle.std.specs.Result.{result_ok}
+use Rattle.wf_stream.specs.Streams.{unnamed}
+use Rattle.wf_stream.specs.Joined.{live_streams}
+use Rattle.wf_stream.proofs.Joined.{number_found, live_found, rising_streams, rising_without, unnamed_found, unnamed_none, numbered_unnamed, killed_tied, killed_others}
+use Rattle.wf_stream.proofs.store.Store.kill.Goals as goal
+
+pub kill-requires : goal.kill-requires
+kill-requires c =
+    let alive = rw (← c.self.view_is) at c.requires in
+    rw (live_found c.args.handle c.self.inside.handles.live c.self.inside.streams c.self.invariant.tied) alive
+
+pub invariant_of-self : goal.invariant_of-self
+invariant_of-self c =
+    let live = c.self.inside.handles.live in
+    let streams = c.self.inside.streams in
+    let sound = c.self.invariant in
+    let found = sym (number_found c.args.handle live streams sound.tied) ∙ sym c.in-Ok.ensures.found in
+    let under = rising_streams c.self.inside.handles.made live streams sound.orderly sound.tied in
+    let view : c.hand_over.new.self ≡ map (unnamed c.args.handle) streams = c.hand_over.ensures ∙ unnamed_found 0 c.self.inside.numbered 0 c.self.inside.handles.made c.args.handle c.in-Ok.number streams sound.rising under found in
+    rw (c.kill.ensures.killed, view) (record {
+      limit = sound.limit;
+      room = sound.room;
+      rising = numbered_unnamed 0 c.self.inside.numbered c.args.handle streams sound.rising;
+      orderly = rising_without c.self.inside.handles.made c.args.handle live sound.orderly;
+      tied = killed_tied c.args.handle live streams sound.tied;
+    })
+
+pub invariant_of-self-in_default : goal.invariant_of-self-in_default
+invariant_of-self-in_default c =
+    let live = c.self.inside.handles.live in
+    let streams = c.self.inside.streams in
+    let sound = c.self.invariant in
+    let none = sym (number_found c.args.handle live streams sound.tied) ∙ (sym c.find-found.ensures.found ∙ ap result_ok c.in_default.is) in
+    let view : map (unnamed c.args.handle) streams ≡ streams = unnamed_none c.args.handle streams none in
+    rw c.kill.ensures.killed (record {
+      limit = sound.limit;
+      room = sound.room;
+      rising = sound.rising;
+      orderly = rising_without c.self.inside.handles.made c.args.handle live sound.orderly;
+      tied = killed_tied c.args.handle live streams sound.tied ∙ ap live_streams view;
+    })
+
+pub returns-in-Ok : goal.returns-in-Ok
+returns-in-Ok c =
+    let live = c.self.inside.handles.live in
+    let streams = c.self.inside.streams in
+    let sound = c.self.invariant in
+    let found = sym (number_found c.args.handle live streams sound.tied) ∙ sym c.in-Ok.ensures.found in
+    let under = rising_streams c.self.inside.handles.made live streams sound.orderly sound.tied in
+    let view : c.hand_over.new.self ≡ map (unnamed c.args.handle) streams = c.hand_over.ensures ∙ unnamed_found 0 c.self.inside.numbered 0 c.self.inside.handles.made c.args.handle c.in-Ok.number streams sound.rising under found in
+    rw (← c.self.view_is, c.kill.ensures.killed, view, killed_others c.args.handle live) refl
+
+pub returns-in_default : goal.returns-in_default
+returns-in_default c =
+    let live = c.self.inside.handles.live in
+    let streams = c.self.inside.streams in
+    let sound = c.self.invariant in
+    let none = sym (number_found c.args.handle live streams sound.tied) ∙ (sym c.find-found.ensures.found ∙ ap result_ok c.in_default.is) in
+    let view : map (unnamed c.args.handle) streams ≡ streams = unnamed_none c.args.handle streams none in
+    rw (← c.self.view_is, c.kill.ensures.killed, view, killed_others c.args.handle live) refl

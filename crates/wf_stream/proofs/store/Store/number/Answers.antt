@@ -1,0 +1,7 @@
+use Rattle.std.proofs.Common.{◌∙◌}
+use Rattle.wf_stream.proofs.Joined.{number_found}
+use Rattle.wf_stream.proofs.store.Store.number.Goals as goal
+
+pub returns : goal.returns
+returns c =
+    rw (← c.self.view_is) (c.find.ensures.found ∙ number_found c.args.handle c.self.inside.handles.live c.self.inside.streams c.self.invariant.tied)

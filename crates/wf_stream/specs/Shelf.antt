@@ -1,0 +1,43 @@
+-- How the streams are kept: a map from numbers to the places in a pool, each place with one number.
+use Rattle.std.specs.Prelude.{◌≢◌, ℕ, List, [], ◌∷◌, map, unwrap_or}
+use Rattle.wf_life.specs.declared.pool.Kept.{Kept}
+use Rattle.wf_life.specs.Pool.{IsKept, value_at}
+use Rattle.std.specs.Prelude.{Option}
+use Rattle.wf_pixel.specs.declared.Format.TheVariants.{A8}
+use Rattle.wf_stream.specs.declared.streams.Place.{Place}
+use Rattle.wf_stream.specs.declared.streams.Streams.TheInside.{Inside}
+use Rattle.wf_stream.specs.Buffers.{Buffers, fresh}
+use Rattle.wf_stream.specs.Streams.{KeptStream, IsNumbered}
+
+-- the buffers under a key of the pool; each key that a place has is kept
+abbrev pub pooled : ℕ → List (Option (Kept Buffers)) → Buffers
+pooled key pool = unwrap_or (value_at key pool) (fresh (record { w = 0; h = 0 }) A8 0)
+
+abbrev pub kept_stream : List (Option (Kept Buffers)) → ℕ × Place → KeptStream
+kept_stream pool e = record { number = e.0; handle = e.1.handle; buffers = pooled e.1.key pool }
+
+abbrev pub shelved : List (Option (Kept Buffers)) → List (ℕ × Place) → List KeptStream
+shelved pool places = map (kept_stream pool) places
+
+abbrev pub streams_of : Inside → List KeptStream
+streams_of s = shelved s.pool s.places.entries
+
+-- the pool keeps a stream for each place
+abbrev pub AreKept : List (Option (Kept Buffers)) → List (ℕ × Place) → Type 0
+AreKept pool [] = Unit {0}
+AreKept pool (e ∷ places) = IsKept e.1.key pool × AreKept pool places
+
+-- no place has this key
+abbrev pub HasNone : ℕ → List (ℕ × Place) → Type 0
+HasNone key [] = Unit {0}
+HasNone key (e ∷ places) = (e.1.key ≢ key) × HasNone key places
+
+-- no two places have one key
+abbrev pub AreApart : List (ℕ × Place) → Type 0
+AreApart [] = Unit {0}
+AreApart (e ∷ places) = HasNone e.1.key places × AreApart places
+
+pub record IsSound (s : Inside) : Type 0 where
+  pub rising : IsNumbered 0 (streams_of s) 4294967295
+  pub kept : AreKept s.pool s.places.entries
+  pub apart : AreApart s.places.entries

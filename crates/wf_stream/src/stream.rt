@@ -1,0 +1,262 @@
+//! One stream: its buffers, which are free, out, finished or read.
+
+ghost use Rattle.std.specs.Prelude.{◌≡◌, ◌↔◌, ◌*◌, ◌<◌, ◌≤◌, ◌≢◌, not, ◌&&◌, IfOk, OnOk, OnErr, IfSome, IsErrOf, IsTrue};
+ghost use Rattle.std.specs.List.{All};
+ghost use Rattle.std.specs.Vec.{vec_len, vec_capacity};
+ghost use Rattle.wf_pixel.specs.Choice.{has_sides};
+ghost use Rattle.wf_image.specs.Bitmap.{blank, pixel_bytes, image_bytes};
+ghost use Rattle.wf_stream.specs.Buffers.{fresh, acquired, posted, discarded, newest, latched, latched_if, returned, is_blocked, away, HasShape, buffer_bytes};
+
+use std::alloc::Global;
+use std::marker::Model;
+use std::mem;
+use wf_image::{Canvas, Image, NoMemory};
+use wf_pixel::{Format, Size};
+
+/// Why no write buffer was given.
+#[derive(Clone, Copy, Debug, PartialEq, Eq)]
+pub enum Refused {
+    /// The write buffer is out.
+    Busy,
+    /// None is out, and none is free.
+    NoBuffer,
+}
+
+/// The read buffer: not there yet, away in the running frame, or home.
+#[derive(Drop)]
+enum Read {
+    Never,
+    Away,
+    Home(Image),
+}
+
+/// A size, a format, and 2 to 4 buffers of them. At most one is out for writing, at most one is finished, at most one
+/// is read, and the others are free. All are taken when the stream is made: no later call takes memory or copies an
+/// image.
+#[derive(Drop)]
+pub struct Stream {
+    size: Size,
+    format: Format,
+    buffers: u32,
+    out: bool,
+    ready: Option<Image>,
+    read: Read,
+    free: Vec<Image>,
+}
+
+impl Model for Stream {
+    ghost use Rattle.wf_stream.specs.Buffers.{Buffers};
+
+    ghost Value = { Buffers };
+
+    ghost use Rattle.wf_stream.specs.Inside.{buffers_of, IsSound};
+
+    ghost view = { buffers_of };
+
+    ghost invariant = { IsSound };
+}
+
+impl Stream {
+    /// A stream without any post, with all its buffers.
+    pub fn new(alloc: Global, size: Size, format: Format, buffers: u32) -> Result<Stream, NoMemory>
+        requires sides { IsTrue (has_sides size) }
+        requires least { 2 ≤ buffers }
+        requires most { buffers ≤ 4 }
+        ensures { IfOk result (λ stream. stream ≡ fresh size format buffers) }
+    {
+        let free = images(alloc, size, format, buffers)?;
+        Ok(Stream {
+            size,
+            format,
+            buffers,
+            out: false,
+            ready: None,
+            read: Read::Never,
+            free,
+        })
+    }
+
+    /// Width and height in pixels.
+    pub fn size(&self) -> Size
+        ensures size { result ≡ self.now.size }
+        ensures sides { IsTrue (has_sides result) }
+    {
+        self.size
+    }
+
+    /// How the bytes of its images are read.
+    pub fn format(&self) -> Format
+        ensures { result ≡ self.now.format }
+    {
+        self.format
+    }
+
+    /// Its write buffer is out.
+    pub fn is_out(&self) -> bool
+        ensures { result ≡ self.now.out }
+    {
+        self.out
+    }
+
+    /// The bytes of all its buffers.
+    pub(crate) fn bytes(&self) -> u64
+        ensures bytes { result ≡ buffer_bytes self.now }
+        ensures most { result ≤ 16777216 }
+    {
+        bytes_of(self.size, self.format, self.buffers)
+    }
+
+    /// A buffer is free: now, or after a `latch`.
+    pub fn roomy(&self, latched: bool) -> bool
+        requires { IsTrue latched → self.now.read ≢ away }
+        ensures { result ≡ not (is_blocked (latched_if latched self.now)) }
+    {
+        !self.free.is_empty() || latched && self.ready.is_some() && self.read.is_home()
+    }
+
+    /// A free buffer, all zero, to be written for the stream of this number.
+    pub fn acquire(&mut self, number: u32) -> Result<Canvas, Refused>
+        ensures canvas { IfOk result (λ canvas. canvas ≡ record { stream = number; image = blank self.old.size self.old.format }) }
+        ensures acquired { OnOk result (self.new ≡ acquired self.old) }
+
+        ensures busy { IsErrOf result Refused.Busy ↔ IsTrue self.old.out }
+        ensures no_buffer { IsErrOf result Refused.NoBuffer ↔ IsTrue (not self.old.out && is_blocked self.old) }
+        ensures refused { OnErr result (self.new ≡ self.old) }
+    {
+        if self.out {
+            return Err(Refused::Busy);
+        }
+        let Some(mut image) = self.free.pop() else {
+            return Err(Refused::NoBuffer);
+        };
+        clear(&mut image);
+        self.out = true;
+        Ok(Canvas {
+            stream: number,
+            image,
+        })
+    }
+
+    /// The write buffer is finished. A finished one that no frame took is free again.
+    pub fn post(&mut self, c: Canvas)
+        requires out { IsTrue self.old.out }
+        requires shape { HasShape self.old.size self.old.format c.image }
+        ensures { self.new ≡ posted c.image self.old }
+    {
+        self.out = false;
+        if let Some(image) = self.ready.replace(c.image) {
+            self.free.push_reserved(image);
+        }
+    }
+
+    /// The write buffer is free again, and what is on it is dropped.
+    pub fn discard(&mut self, c: Canvas)
+        requires out { IsTrue self.old.out }
+        requires shape { HasShape self.old.size self.old.format c.image }
+        ensures { self.new ≡ discarded self.old }
+    {
+        self.free.push_reserved(c.image);
+        self.out = false;
+    }
+
+    /// The newest finished image, for a frame. It is away until the frame gives it back.
+    pub fn latch(&mut self) -> Option<Image>
+        requires { self.old.read ≢ away }
+        ensures image { result ≡ newest self.old }
+        ensures shape { IfSome result (HasShape self.old.size self.old.format) }
+        ensures latched { self.new ≡ latched self.old }
+    {
+        let before = self.read.leave();
+        let Some(image) = self.ready.take() else {
+            return before;
+        };
+        self.read = Read::Away;
+        if let Some(old) = before {
+            self.free.push_reserved(old);
+        }
+        Some(image)
+    }
+
+    /// The image of a frame is home again.
+    pub fn give_back(&mut self, i: Image)
+        requires away { self.old.read ≡ away }
+        requires shape { HasShape self.old.size self.old.format i }
+        ensures { self.new ≡ returned i self.old }
+    {
+        self.read = Read::Home(i);
+    }
+}
+
+impl Read {
+    ghost use Rattle.wf_stream.specs.Inside.{read_of, left_of};
+    ghost use Rattle.wf_stream.specs.Buffers.{home_image, read_count};
+    ghost use Rattle.std.specs.Prelude.{is_some};
+
+    /// The read buffer is there and home.
+    fn is_home(&self) -> bool
+        ensures { result ≡ is_some (home_image (read_of self.now)) }
+    {
+        match self {
+            Read::Home(_) => true,
+            _ => false,
+        }
+    }
+
+    /// The image that is home goes away.
+    fn leave(&mut self) -> Option<Image>
+        ensures image { result ≡ home_image (read_of self.old) }
+        ensures count { IfSome result (λ _. read_count (read_of self.old) ≡ 1) }
+        ensures left { self.new ≡ left_of self.old }
+    {
+        match mem::replace(self, Read::Away) {
+            Read::Home(image) => Some(image),
+            Read::Away => None,
+            Read::Never => {
+                *self = Read::Never;
+                None
+            }
+        }
+    }
+}
+
+/// Images of one size and format.
+fn images(alloc: Global, size: Size, format: Format, count: u32) -> Result<Vec<Image>, NoMemory>
+    requires { IsTrue (has_sides size) }
+    ensures count { IfOk result (λ images. vec_len images ≡ count) }
+    ensures room { IfOk result (λ images. vec_capacity images ≡ count) }
+    ensures shapes { IfOk result (λ images. All (HasShape size format) images.items) }
+{
+    let count = count as usize;
+    let mut images = Vec::with_capacity(alloc, count)?;
+    while images.len() < count {
+        images.push_reserved(Image::new(alloc, size, format)?);
+    }
+    Ok(images)
+}
+
+/// Every byte of an image becomes 0.
+fn clear(image: &mut Image)
+    ensures { image.new ≡ blank image.old.size image.old.format }
+{
+    image.bytes_mut().fill(0);
+}
+
+/// The bytes of buffers of one size and format.
+pub(crate) fn bytes_of(size: Size, format: Format, buffers: u32) -> u64
+    requires sides { IsTrue (has_sides size) }
+    requires most { buffers ≤ 4 }
+    ensures bytes { result ≡ image_bytes size format * buffers }
+    ensures most { result ≤ 16777216 }
+{
+    size.w as u64 * size.h as u64 * bytes_of_pixel(format) * buffers as u64
+}
+
+/// How many bytes a pixel takes.
+fn bytes_of_pixel(format: Format) -> u64
+    ensures { result ≡ pixel_bytes format }
+{
+    match format {
+        Format::A8 => 1,
+        _ => 4,
+    }
+}
