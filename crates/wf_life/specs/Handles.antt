@@ -4,6 +4,7 @@ use Rattle.std.specs.List.{list_any}
 use Rattle.wf_life.specs.declared.Kind.{Kind}
 use Rattle.wf_life.specs.declared.Kind.TheVariants as kind
 
+-- the two kinds are one
 abbrev pub same_kind : Kind → Kind → Bool
 same_kind kind.Stream kind.Stream = true
 same_kind kind.Device kind.Device = true
@@ -38,6 +39,7 @@ IsOrderly t = IsRising 0 t.live t.made
 abbrev pub is_full : ℕ → Bool
 is_full made = not (nat_lt made 4294967291)
 
+-- how many live objects are of a kind
 abbrev pub live_count : Kind → List Live → ℕ
 live_count k live = count_by (λ l. same_kind l.kind k) live
 

@@ -9,17 +9,20 @@ module _ {T : Type 0} where
   abbrev pub kept_at : ℕ → List (Option (Kept T)) → Option (Kept T)
   kept_at key pool = slice_index_or pool key None
 
+  -- a value is kept under the key
   abbrev pub IsKept : ℕ → List (Option (Kept T)) → Type 0
   IsKept key pool = IsSome (kept_at key pool)
 
+  -- the value under a key
   abbrev pub value_at : ℕ → List (Option (Kept T)) → Option T
   value_at key pool = option_map (λ kept. kept.value) (kept_at key pool)
 
+  -- how many hold what is kept; 0 where nothing is
   abbrev pub count_of : Option (Kept T) → ℕ
   count_of None = 0
   count_of (Some kept) = kept.count
 
-  -- how many hold the value under a key; 0 where none is kept
+  -- how many hold the value under a key; 0 where the key is not kept
   abbrev pub count_at : ℕ → List (Option (Kept T)) → ℕ
   count_at key pool = count_of (kept_at key pool)
 
@@ -36,6 +39,7 @@ module _ {T : Type 0} where
     pub changed : kept_at key new ≡ slot
     pub others : (other : ℕ) → other ≢ key → kept_at other new ≡ kept_at other old
 
+  -- one holder more
   abbrev pub one_more : Kept T → Kept T
   one_more kept = record kept { count = kept.count + 1 }
 
@@ -43,7 +47,7 @@ module _ {T : Type 0} where
   abbrev pub one_less : Kept T → Option (Kept T)
   one_less kept = if kept.count - 1 == 0 then None else Some (record kept { count = kept.count - 1 })
 
-  -- the value that its last holder lets go
+  -- the value, where its last holder lets it go
   abbrev pub let_go : Kept T → Option T
   let_go kept = if kept.count - 1 == 0 then Some kept.value else None
 
@@ -51,13 +55,15 @@ module _ {T : Type 0} where
   abbrev pub retained : ℕ → List (Option (Kept T)) → List (Option (Kept T))
   retained key pool = slice_set pool key (option_map one_more (kept_at key pool))
 
-  -- the pool with one holder fewer of a key's value, and the value where it was the last
+  -- the pool with one holder fewer of a key's value, which is gone where that was the last
   abbrev pub released : ℕ → List (Option (Kept T)) → List (Option (Kept T))
   released key pool = slice_set pool key (option_and_then one_less (kept_at key pool))
 
+  -- what a holder that lets go of a key's value gets: the value, where it was the last
   abbrev pub released_value : ℕ → List (Option (Kept T)) → Option T
   released_value key pool = option_and_then let_go (kept_at key pool)
 
+  -- another value with the same holders
   abbrev pub holding : T → Kept T → Kept T
   holding value kept = record kept { value = value }
 

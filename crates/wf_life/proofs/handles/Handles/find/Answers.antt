@@ -1,6 +1,6 @@
 use Rattle.std.proofs.Common.{◌≡◌, true, false, refl, sym, ap, ◌∙◌}
 use Rattle.std.specs.Option.{option_copied}
-use Rattle.wf_life.specs.Handles.{same_kind, is_live, key_of}
+use Rattle.wf_life.specs.Handles.{same_kind}
 use Rattle.wf_life.proofs.Tables.{key_of_lookup, is_live_lookup, same_test}
 use Rattle.wf_life.proofs.handles.Handles.find.Goals as goal
 

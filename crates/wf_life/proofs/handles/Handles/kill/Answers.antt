@@ -1,6 +1,5 @@
-use Rattle.std.proofs.Common.{◌≡◌, ◌+◌, ◌-◌, ◌≤◌, map, refl, ap, sym, ◌∙◌, arith}
-use Rattle.wf_life.specs.Handles.{without}
-use Rattle.wf_life.specs.Inside.{live_of, place_of}
+use Rattle.std.proofs.Common.{map, refl, sym, arith}
+use Rattle.wf_life.specs.Inside.{live_of}
 use Rattle.wf_life.proofs.Tables.{remove_without, rising_without, tally_less, count_without, same_kind_self}
 use Rattle.wf_life.proofs.handles.Handles.kill.Goals as goal
 

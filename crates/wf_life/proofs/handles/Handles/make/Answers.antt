@@ -1,4 +1,4 @@
-use Rattle.std.proofs.Common.{◌≡◌, ◌+◌, ◌++◌, map, refl, arith}
+use Rattle.std.proofs.Common.{◌+◌, map, refl, arith}
 use Rattle.wf_life.specs.Inside.{live_of}
 use Rattle.wf_life.proofs.Tables.{live_made, rising_push, is_live_above, tally_more, tally_fits}
 use Rattle.wf_life.proofs.handles.Handles.make.Goals as goal
