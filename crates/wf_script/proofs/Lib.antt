@@ -1,3 +1,3 @@
 pub mod Decimals
-pub mod Ticks
-pub mod Scripts
+pub mod TickRows
+pub mod TickScripts

@@ -1,4 +1,4 @@
 -- Scripts: what one is, its text, and what bytes stand for one.
 pub mod Script
-pub mod Text
-pub mod Reading
+pub mod TickText
+pub mod TickReading

@@ -3,14 +3,16 @@
 
 mod fault;
 mod line;
+mod name;
 mod pieces;
-mod reading;
 mod script;
+mod ticks;
 
 pub use fault::ScriptFault;
 pub use line::{Line, Verb};
-pub use reading::{one_script, parse};
+pub use name::Name;
 pub use script::Script;
+pub use ticks::{one_tick_script, parse_ticks};
 
 #[cfg(test)]
 mod tests;

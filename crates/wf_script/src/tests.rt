@@ -5,10 +5,10 @@ use std::alloc::{AllocError, Global};
 use std::test::Fail;
 use wf_pixel::Size;
 
-const TICK: Line = Line {
-    client: 0,
-    verb: Verb::Tick,
-};
+/// Whether a line is a tick.
+fn is_tick(line: &Line) -> bool {
+    line.client == 0 && line.name.is_none() && matches!(line.verb, Verb::Tick)
+}
 
 /// A script of one mode, with this many ticks.
 fn script_text(alloc: Global, size: &[u8], ticks: usize) -> Result<Vec<u8>, AllocError> {
@@ -23,7 +23,7 @@ fn script_text(alloc: Global, size: &[u8], ticks: usize) -> Result<Vec<u8>, Allo
 }
 
 #[test]
-fn accepts(rt: HostRuntime) -> Result<(), Fail> {
+fn accepts_ticks(rt: HostRuntime) -> Result<(), Fail> {
     let cases: [(&[u8], Size, usize); 4] = [
         (b"4x2", Size { w: 4, h: 2 }, 1),
         (b"1x1", Size { w: 1, h: 1 }, 0),
@@ -32,19 +32,19 @@ fn accepts(rt: HostRuntime) -> Result<(), Fail> {
     ];
     for (name, size, ticks) in cases {
         let text = script_text(rt.alloc(), name, ticks)?;
-        let script = parse(rt.alloc(), &text)?;
+        let script = parse_ticks(rt.alloc(), &text)?;
         let ports = script.ports();
         assert_eq!(rt; ports.pipes, 0);
         assert_eq!(rt; ports.modes.len(), 1);
         assert_eq!(rt; ports.modes[0].sizes.as_slice(), [size].as_slice());
         assert_eq!(rt; script.lines().len(), ticks);
-        assert!(rt; script.lines().iter().all(|line| *line == TICK));
+        assert!(rt; script.lines().iter().all(is_tick));
     }
     Ok(())
 }
 
 #[test]
-fn refuses(rt: HostRuntime) -> Result<(), Fail> {
+fn refuses_but_ticks(rt: HostRuntime) -> Result<(), Fail> {
     let long = script_text(rt.alloc(), b"4x2", 16_382)?;
     let cases: [&[u8]; 22] = [
         b"",
@@ -71,7 +71,7 @@ fn refuses(rt: HostRuntime) -> Result<(), Fail> {
         &long,
     ];
     for bytes in cases {
-        let fault = parse(rt.alloc(), bytes).err();
+        let fault = parse_ticks(rt.alloc(), bytes).err();
         assert_eq!(rt;
             fault,
             Some(ScriptFault::Line { line: 0, rule: 0 }),

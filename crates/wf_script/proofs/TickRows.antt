@@ -1,6 +1,6 @@
 -- Rows of ticks: their text, and that a text is one row's at most.
-use Rattle.std.proofs.Common.{◌≡◌, ◌≢◌, ◌∙◌, ℕ, ◌<◌, true, List, [], ◌∷◌, ◌++◌, IsTrue, length, flat_map, codes, refl, sym, ap, arith, append_assoc}
-use Rattle.std.proofs.lemmas.Bool.{eqb-true, and_parts, and_from}
+use Rattle.std.proofs.Common.{◌≡◌, ◌≢◌, ◌∙◌, ℕ, ◌<◌, ◌==◌, Option, None, Some, true, false, List, [], ◌∷◌, ◌++◌, IsTrue, length, flat_map, codes, refl, sym, ap, arith, append_assoc}
+use Rattle.std.proofs.lemmas.Bool.{eqb-true, and_parts, and_from, and_right, false≢true}
 use Rattle.std.proofs.lemmas.Fmt.{decimal_digit}
 use Rattle.std.proofs.lemmas.List.{append_cancel_left}
 use Rattle.std.proofs.lemmas.List.Concat.{flat_map-append}
@@ -8,18 +8,20 @@ use Rattle.std.specs.List.{list_all}
 use Rattle.wf_script.specs.declared.line.Line.{Line}
 use Rattle.wf_script.specs.declared.line.Verb.{Verb}
 use Rattle.wf_script.specs.declared.line.Verb.TheVariants as verb
-use Rattle.wf_script.specs.Text.{event_line, is_tick, text_line}
+use Rattle.wf_script.specs.TickText.{event_line, is_tick, text_line}
 
 -- the one line that is a tick
 abbrev pub tick : Line
-tick = record { client = 0; verb = verb.Tick }
+tick = record { client = 0; name = None; verb = verb.Tick }
 
 -- a line that passes is that line
-tick_parts : (client : ℕ) (asked : Verb) → IsTrue (is_tick (record { client = client; verb = asked })) → ◌≡◌ {A = Line} (record { client = client; verb = asked }) tick
-tick_parts client verb.Tick h = ap (λ n. record { client = n; verb = verb.Tick }) (eqb-true client 0 h)
+tick_parts : (client : ℕ) (name : Option (List ℕ)) (asked : Verb) → IsTrue (is_tick (record { client = client; name = name; verb = asked })) → ◌≡◌ {A = Line} (record { client = client; name = name; verb = asked }) tick
+tick_parts client None verb.Tick h = ap (λ n. record { client = n; name = None; verb = verb.Tick }) (eqb-true client 0 (and_parts (client == 0) true h).0)
+tick_parts client (Some _) verb.Tick h = absurd (false≢true (sym (and_right (client == 0) false refl) ∙ h))
+tick_parts client name _ h = cc
 
 is_the_tick : (line : Line) → IsTrue (is_tick line) → line ≡ tick
-is_the_tick line h = tick_parts line.client line.verb h
+is_the_tick line h = tick_parts line.client line.name line.verb h
 
 -- the text of a tick
 tick_text : (line : Line) → IsTrue (is_tick line) → event_line line ≡ codes "0 tick\n"

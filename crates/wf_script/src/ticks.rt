@@ -1,12 +1,12 @@
-//! Reads a script.
+//! Reads a script that does nothing but tick.
 
 ghost use Rattle.std.specs.Prelude.{◌≡◌, ◌≢◌, ◌↔◌, ◌<◌, ◌≤◌, ℕ, List, ◌++◌, length, flat_map, codes, IfSome, IfNone, IfOk, IsTrue};
 ghost use Rattle.std.specs.List.{list_all};
 ghost use Rattle.wf_pixel.specs.declared.Size.{Size};
 ghost use Rattle.wf_pixel.specs.Choice.{has_sides};
-ghost use Rattle.wf_script.specs.Reading.{opened, plain};
+ghost use Rattle.wf_script.specs.TickReading.{opened, plain};
 ghost use Rattle.wf_script.specs.Script.{PlainScript};
-ghost use Rattle.wf_script.specs.Text.{Parses, Stands, event_line, is_tick};
+ghost use Rattle.wf_script.specs.TickText.{Parses, Stands, event_line, is_tick};
 
 use crate::fault::ScriptFault;
 use crate::line::{Line, Verb};
@@ -25,7 +25,7 @@ const MOST_LINES: usize = 16_384 - 3;
 const NO_SCRIPT: ScriptFault = ScriptFault::Line { line: 0, rule: 0 };
 
 /// The script that the bytes stand for.
-pub fn parse(alloc: Global, bytes: &[u8]) -> Result<Script, ScriptFault>
+pub fn parse_ticks(alloc: Global, bytes: &[u8]) -> Result<Script, ScriptFault>
     ensures { Parses bytes.now result }
 {
     let Some((size, rest)) = opening(bytes) else {
@@ -64,6 +64,7 @@ fn ticks(alloc: Global, bytes: &[u8]) -> Result<(Vec<Line>, &[u8]), NoMemory>
     {
         lines.push(Line {
             client: 0,
+            name: None,
             verb: Verb::Tick,
         })?;
         rest = behind;
@@ -90,6 +91,6 @@ fn script_of(size: Size, lines: Vec<Line>) -> Script
 }
 
 /// No bytes stand for two scripts.
-pub fn one_script()
+pub fn one_tick_script()
     ensures { (bytes : List ℕ) (s t : PlainScript) → Stands bytes s → Stands bytes t → s ≡ t }
 {}

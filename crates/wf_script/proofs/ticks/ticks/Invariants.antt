@@ -1,8 +1,8 @@
 use Rattle.std.proofs.Common.{◌≡◌, ◌++◌, ◌-◌, ◌≤◌, vec_len, IsTrue, flat_map}
 use Rattle.std.specs.List.{list_all}
-use Rattle.wf_script.specs.declared.reading.TheConstants.{MOST_LINES}
-use Rattle.wf_script.specs.Text.{event_line, is_tick}
-use Rattle.wf_script.proofs.reading.ticks.Given as goal
+use Rattle.wf_script.specs.declared.ticks.TheConstants.{MOST_LINES}
+use Rattle.wf_script.specs.TickText.{event_line, is_tick}
+use Rattle.wf_script.proofs.ticks.ticks.Given as goal
 
 -- the lines so far stand in front of what is left
 abbrev pub invariant-loop-rest : goal.invariant-loop-rest

@@ -1,9 +1,9 @@
 use Rattle.std.proofs.Common.{◌∙◌, ◌++◌, List, ℕ, flat_map, refl, sym, ap}
 use Rattle.std.proofs.lemmas.Bool.{false≢true}
-use Rattle.wf_script.specs.Reading.{opened}
-use Rattle.wf_script.specs.Text.{event_line}
-use Rattle.wf_script.proofs.Scripts.{accepted, is_plain, one_reading, plain_text}
-use Rattle.wf_script.proofs.reading.parse.Goals as goal
+use Rattle.wf_script.specs.TickReading.{opened}
+use Rattle.wf_script.specs.TickText.{event_line}
+use Rattle.wf_script.proofs.TickScripts.{accepted, is_plain, one_reading, plain_text}
+use Rattle.wf_script.proofs.ticks.parse_ticks.Goals as goal
 
 pub returns-in_default : goal.returns-in_default
 returns-in_default c = (refl, refl, λ script stands. let p = is_plain script stands.accepted in c.in_default.ensures.none p.size _ p.sides (stands.text ∙ p.text))

@@ -1,9 +1,9 @@
 use Rattle.std.proofs.Common.{◌∙◌, ◌++◌, List, ℕ, flat_map, refl, sym, ap, arith}
 use Rattle.std.proofs.lemmas.Bool.{and_from}
 use Rattle.std.proofs.lemmas.List.Folds.{list_all-append}
-use Rattle.wf_script.specs.Text.{event_line}
-use Rattle.wf_script.proofs.Ticks.{tick, one_more}
-use Rattle.wf_script.proofs.reading.ticks.Goals as goal
+use Rattle.wf_script.specs.TickText.{event_line}
+use Rattle.wf_script.proofs.TickRows.{tick, one_more}
+use Rattle.wf_script.proofs.ticks.ticks.Goals as goal
 
 pub loop-rest-preserved : goal.loop-rest-preserved
 loop-rest-preserved c =

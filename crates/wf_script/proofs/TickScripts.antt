@@ -8,11 +8,11 @@ use Rattle.wf_pixel.specs.declared.Size.{Size}
 use Rattle.wf_calls.specs.PortRules.{may_declare}
 use Rattle.wf_calls.specs.declared.ports.Modes.{Modes}
 use Rattle.wf_script.proofs.Decimals.{one_side}
-use Rattle.wf_script.proofs.Ticks.{one_row}
+use Rattle.wf_script.proofs.TickRows.{one_row}
 use Rattle.wf_script.specs.declared.line.Line.{Line}
-use Rattle.wf_script.specs.Reading.{opened, plain}
+use Rattle.wf_script.specs.TickReading.{opened, plain}
 use Rattle.wf_script.specs.Script.{PlainScript}
-use Rattle.wf_script.specs.Text.{IsAccepted, Stands, canonical, event_line, has_one_mode, is_tick}
+use Rattle.wf_script.specs.TickText.{IsAccepted, Stands, canonical, event_line, has_one_mode, is_tick}
 
 -- pieces of a text, grouped to the right
 regroup : (w x h feed events end : List ℕ) → (((((w ++ x) ++ h) ++ []) ++ feed) ++ []) ++ events ++ end ≡ w ++ (x ++ (h ++ (feed ++ (events ++ end))))

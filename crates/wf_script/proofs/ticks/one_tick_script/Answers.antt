@@ -1,7 +1,7 @@
 use Rattle.std.proofs.Common.{◌∙◌, codes, sym}
-use Rattle.wf_script.proofs.Scripts.{is_plain, one_reading}
-use Rattle.wf_script.proofs.Ticks.{no_tick}
-use Rattle.wf_script.proofs.reading.one_script.Goals as goal
+use Rattle.wf_script.proofs.TickScripts.{is_plain, one_reading}
+use Rattle.wf_script.proofs.TickRows.{no_tick}
+use Rattle.wf_script.proofs.ticks.one_tick_script.Goals as goal
 
 pub returns : goal.returns
 returns c = λ bytes s t first second.

@@ -2,7 +2,7 @@ use Rattle.std.proofs.Common.{◌≡◌, ◌∷◌, ◌++◌, decimal, arith}
 use Rattle.std.proofs.lemmas.Bool.{and_parts}
 use Rattle.wf_pixel.specs.Choice.{is_side}
 use Rattle.wf_script.proofs.Decimals.{one_side}
-use Rattle.wf_script.proofs.reading.opening.Goals as goal
+use Rattle.wf_script.proofs.ticks.opening.Goals as goal
 
 pub returns-in_err-h-clause-none : goal.returns-in_err-h-clause-none
 returns-in_err-h-clause-none c = rw c.from_residual-in_err-h.ensures (λ size rest sides is.

@@ -1,5 +1,5 @@
--- The text of a script, the scripts that are accepted, and which script bytes stand for.
-use Rattle.std.specs.Prelude.{◌≡◌, ℕ, ◌+◌, ◌≤◌, ◌&&◌, ◌==◌, Bool, List, [], ◌∷◌, ◌++◌, length, map, flat_map, codes, decimal, IsTrue, true, Result, Ok, Err}
+-- Scripts with one port of one mode that do nothing but tick: their text, and which one bytes stand for.
+use Rattle.std.specs.Prelude.{◌≡◌, ℕ, ◌+◌, ◌≤◌, ◌&&◌, ◌==◌, Bool, List, [], ◌∷◌, ◌++◌, length, map, flat_map, codes, decimal, IsTrue, true, false, is_none, Result, Ok, Err}
 use Rattle.std.specs.List.{join_by, list_all}
 use Rattle.wf_pixel.specs.declared.Size.{Size}
 use Rattle.wf_calls.specs.declared.ports.Modes.{Modes}
@@ -24,9 +24,10 @@ size_word s = decimal s.w ++ codes "x" ++ decimal s.h
 abbrev pub port_line : Modes → List ℕ
 port_line m = text_line (codes "port" ∷ map size_word m.sizes.items)
 
--- the words of a verb
+-- the words of a tick
 abbrev pub words : Verb → List Word
 words verb.Tick = codes "tick" ∷ []
+words _ = []
 
 abbrev pub event_line : Line → List ℕ
 event_line l = text_line (decimal l.client ∷ words l.verb)
@@ -39,10 +40,11 @@ canonical script =
 
 -- a line of the clock
 abbrev pub is_tick : Line → Bool
-is_tick l = of_verb l.verb && (l.client == 0)
+is_tick l = of_verb l.verb && ((l.client == 0) && is_none l.name)
   where
     of_verb : Verb → Bool
     of_verb verb.Tick = true
+    of_verb _ = false
 
 -- one mode
 abbrev pub has_one_mode : Modes → Bool
@@ -71,3 +73,4 @@ abbrev pub Parses : List ℕ → Result PlainScript ScriptFault → Type 0
 Parses bytes (Ok script) = Stands bytes script
 Parses bytes (Err (fault.Line line rule)) = (line ≡ 0) × (rule ≡ 0) × StandsForNone bytes
 Parses bytes (Err fault.NoMemory) = Unit {0}
+Parses bytes (Err _) = ⊥

@@ -1,4 +1,4 @@
--- What the functions that read a script say of their pieces.
+-- What the functions that read a script of ticks say of their pieces.
 use Rattle.std.specs.Prelude.{ℕ, List, [], ◌∷◌, ◌++◌, codes, decimal}
 use Rattle.wf_pixel.specs.declared.Size.{Size}
 use Rattle.wf_script.specs.declared.line.Line.{Line}
