@@ -2,3 +2,4 @@
 pub mod Script
 pub mod TickText
 pub mod TickReading
+pub mod Words

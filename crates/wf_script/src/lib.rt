@@ -4,9 +4,11 @@
 mod fault;
 mod line;
 mod name;
+mod numbers;
 mod pieces;
 mod script;
 mod ticks;
+mod words;
 
 pub use fault::ScriptFault;
 pub use line::{Line, Verb};
