@@ -1,4 +1,5 @@
 pub mod Cuts
+pub mod NameText
 pub mod Decimals
 pub mod TickRows
 pub mod TickScripts

@@ -4,6 +4,7 @@
 mod fault;
 mod line;
 mod name;
+mod names;
 mod numbers;
 mod pieces;
 mod script;

@@ -20,6 +20,7 @@ fn is_digit(byte: u8) -> bool
 }
 
 /// The number that 1 to 10 digits stand for.
+#[tactic(auto, using(std::proofs::lemmas::Bool::Decides::nat_tests, std::proofs::lemmas::List::Folds::list_all_at), unfolding(crate::specs::Words::digits_of))]
 fn digits_of(word: &[u8]) -> Option<u64>
     ensures { result ≡ digits_of word.now }
 {
@@ -37,8 +38,9 @@ fn digits_of(word: &[u8]) -> Option<u64>
 }
 
 /// The number without a sign that a word stands for, where it is in a range.
+#[tactic(auto, using(std::proofs::lemmas::Bool::Decides::nat_tests), unfolding(crate::specs::Words::count_in))]
 pub(crate) fn count_in(low: u32, high: u32, word: &[u8]) -> Option<u32>
-    ensures value { result ≡ count_in low high word.now }
+    ensures { result ≡ count_in low high word.now }
 {
     let count = digits_of(word)?;
     if u64::from(low) <= count && count <= u64::from(high) {
@@ -49,16 +51,32 @@ pub(crate) fn count_in(low: u32, high: u32, word: &[u8]) -> Option<u32>
 }
 
 /// The number with an optional minus that a word stands for.
+#[tactic(auto, using(std::proofs::lemmas::Bool::Decides::nat_tests), unfolding(crate::specs::Words::integer_of))]
 pub(crate) fn integer_of(word: &[u8]) -> Option<i64>
     ensures { result ≡ integer_of word.now }
 {
     match word.split_first() {
+        None => None,
         Some((b'-', digits)) => Some(-i64::from(count_in(0, GREATEST, digits)?)),
-        _ => Some(i64::from(count_in(0, GREATEST, word)?)),
+        Some(_) => Some(i64::from(count_in(0, GREATEST, word)?)),
+    }
+}
+
+/// The number with an optional minus that a word stands for, where it is in a range.
+#[tactic(auto, using(std::proofs::lemmas::Bool::Decides::nat_tests), unfolding(crate::specs::Words::integer_in))]
+pub(crate) fn integer_in(low: i64, high: i64, word: &[u8]) -> Option<i64>
+    ensures { result ≡ integer_in low high word.now }
+{
+    let number = integer_of(word)?;
+    if low <= number && number <= high {
+        Some(number)
+    } else {
+        None
     }
 }
 
 /// The size that two sides with an `x` between stand for.
+#[tactic(auto, unfolding(crate::specs::Words::size_of))]
 pub(crate) fn size_of(word: &[u8]) -> Option<Size>
     ensures { result ≡ size_of word.now }
 {
