@@ -3,3 +3,6 @@ pub mod Script
 pub mod TickText
 pub mod TickReading
 pub mod Words
+pub mod Rules
+pub mod Forms
+pub mod Given

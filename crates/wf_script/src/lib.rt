@@ -2,11 +2,15 @@
 #![tactic(auto)]
 
 mod fault;
+mod form;
+mod given;
 mod line;
 mod name;
 mod names;
 mod numbers;
+mod pick;
 mod pieces;
+mod rule;
 mod script;
 mod ticks;
 mod words;
