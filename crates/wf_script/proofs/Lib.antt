@@ -1,5 +1,7 @@
 pub mod Cuts
 pub mod NameText
+pub mod Sight
+pub mod SizeRow
 pub mod Decimals
 pub mod TickRows
 pub mod TickScripts

@@ -6,3 +6,7 @@ pub mod Words
 pub mod Rules
 pub mod Forms
 pub mod Given
+pub mod Visible
+pub mod Grammar
+pub mod Seen
+pub mod Reader

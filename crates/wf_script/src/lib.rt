@@ -8,10 +8,13 @@ mod line;
 mod name;
 mod names;
 mod numbers;
+mod parts;
 mod pick;
 mod pieces;
+mod reader;
 mod rule;
 mod script;
+mod seen;
 mod ticks;
 mod words;
 

@@ -3,7 +3,7 @@
 ghost use Rattle.std.specs.Prelude.{◌≡◌};
 ghost use Rattle.wf_script.specs.Rules.{rule_number};
 
-use std::alloc::{AllocError, AllocFailed};
+use std::alloc::AllocFailed;
 
 /// The rules that a line other than the first may break, in the order in which they are looked at.
 #[derive(Clone, Copy, Debug, PartialEq, Eq)]
@@ -58,12 +58,12 @@ impl From<Rule> for LineFault {
     }
 }
 
-impl From<AllocError> for LineFault {
+impl From<wf_words::NoMemory> for LineFault {
     ghost use Rattle.wf_script.specs.declared.rule.LineFault.TheVariants.{NoMemory};
 
     ghost from_gives = { λ _ fault. fault ≡ NoMemory };
 
-    fn from(_error: AllocError) -> LineFault {
+    fn from(_want: wf_words::NoMemory) -> LineFault {
         LineFault::NoMemory
     }
 }
