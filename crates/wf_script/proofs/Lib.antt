@@ -1,5 +1,6 @@
 pub mod Cuts
 pub mod NameText
+pub mod LineRow
 pub mod Sight
 pub mod SizeRow
 pub mod Decimals

@@ -198,8 +198,8 @@ read_script bytes = of_lines (lines_of bytes)
 abbrev pub Stands : List ℕ → PlainScript → Type 0
 Stands bytes script = read_script bytes ≡ Ok script
 
--- this was answered to bytes: what reading them gives, unless memory ran out
-abbrev pub Answers : {A : Type 0} → Result A ScriptFault → Result A ScriptFault → Type 0
-Answers (Err fault.NoMemory) read = Unit {0}
-Answers (Err broken) read = read ≡ Err broken
-Answers (Ok x) read = read ≡ Ok x
+-- this was answered, seen so: what reading gives, unless memory ran out
+abbrev pub Answers : {A B : Type 0} → (A → B) → Result A ScriptFault → Result B ScriptFault → Type 0
+Answers view (Err fault.NoMemory) read = Unit {0}
+Answers view (Err broken) read = read ≡ Err broken
+Answers view (Ok x) read = read ≡ Ok (view x)

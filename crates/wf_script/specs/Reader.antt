@@ -6,6 +6,11 @@ use Rattle.wf_pixel.specs.declared.Size.{Size}
 use Rattle.wf_script.specs.declared.reader.Reader as declared
 use Rattle.wf_script.specs.declared.rule.Rule.{Rule}
 use Rattle.wf_script.specs.declared.parts.Parts as parts
+use Rattle.wf_script.specs.declared.fault.ScriptFault.{ScriptFault}
+use Rattle.wf_script.specs.declared.fault.ScriptFault.TheVariants as fault
+use Rattle.wf_script.specs.declared.rule.LineFault.{LineFault}
+use Rattle.wf_script.specs.declared.rule.LineFault.TheVariants as line_fault
+use Rattle.wf_script.specs.Rules.{rule_number}
 use Rattle.wf_script.specs.Grammar.{Parts, Reading, alone}
 use Rattle.wf_script.specs.Words.{Word, words_in}
 
@@ -26,3 +31,8 @@ SizesAre (Err broken) read = read ≡ Err broken
 abbrev pub FindsParts : Result parts.Parts Rule → Result Parts Rule → Type 0
 FindsParts (Ok p) read = read ≡ Ok (record { name = option_map (λ w. w.now) p.name; verb = p.verb.now; arguments = words_in p.arguments.now })
 FindsParts (Err broken) read = read ≡ Err broken
+
+-- the fault of a line with a number
+abbrev pub fault_at : ℕ → LineFault → ScriptFault
+fault_at n (line_fault.Breaks broken) = fault.Line n (rule_number broken)
+fault_at n line_fault.NoMemory = fault.NoMemory

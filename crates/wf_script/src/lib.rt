@@ -8,6 +8,7 @@ mod line;
 mod name;
 mod names;
 mod numbers;
+mod reading;
 mod parts;
 mod pick;
 mod pieces;
@@ -21,6 +22,7 @@ mod words;
 pub use fault::ScriptFault;
 pub use line::{Line, Verb};
 pub use name::Name;
+pub use reading::parse;
 pub use script::Script;
 pub use ticks::{one_tick_script, parse_ticks};
 

@@ -1,6 +1,6 @@
 //! Words that stand for numbers.
 
-ghost use Rattle.std.specs.Prelude.{◌≡◌, ◌≤◌, ◌<◌, ◌^◌, ◌&&◌, nat_le};
+ghost use Rattle.std.specs.Prelude.{◌≡◌, ◌<◌, IfSome};
 ghost use Rattle.wf_script.specs.Words.{client_of, count_in, digits_of, integer_in, integer_of, is_digit, size_of};
 
 use crate::words::cut_at;
@@ -88,7 +88,8 @@ pub(crate) fn size_of(word: &[u8]) -> Option<Size>
 
 /// The client that one digit stands for.
 pub(crate) fn client_of(word: &[u8]) -> Option<u8>
-    ensures { result ≡ client_of word.now }
+    ensures value { result ≡ client_of word.now }
+    ensures small { IfSome result (λ n. n < 8) }
 {
     if word.len() == 1 && b'0' <= word[0] && word[0] <= b'7' {
         Some(word[0] - b'0')

@@ -2,7 +2,7 @@
 
 ghost use Rattle.std.specs.Prelude.{◌≡◌, ◌↔◌, ◌<◌, ◌≤◌, ◌==◌, not, [], ◌∷◌, ◌++◌, length, IsTrue, IfOk, OnOk, option_map};
 ghost use Rattle.wf_words.specs.Refusals.{left_by};
-ghost use Rattle.wf_script.specs.Grammar.{end_line, event_line, line_of, no_event_here, no_pipes_here, no_port_here, nothing_read, pipes_line, port_line, sizes};
+ghost use Rattle.wf_script.specs.Grammar.{end_line, event_line, line_of, no_event_here, no_pipes_here, no_port_here, nothing_read, pipes_line, port_line, read_line, script_of, sizes};
 ghost use Rattle.wf_script.specs.Reader.{SizesAre, alone_is, reading};
 ghost use Rattle.wf_script.specs.Rules.{Gives};
 ghost use Rattle.wf_script.specs.Seen.{SeesAll};
@@ -15,11 +15,12 @@ use crate::numbers::{client_of, count_in, size_of};
 use crate::parts::{bound_name, has_its_name, is_its_client, parts_of};
 use crate::pick::word_count;
 use crate::rule::{LineFault, Rule};
+use crate::script::Script;
 use crate::seen::Seen;
-use crate::words::next_word;
+use crate::words::{are_allowed, next_word, without_comment, without_return};
 use arrayvec::ArrayVec;
 use std::alloc::Global;
-use wf_calls::Modes;
+use wf_calls::{Modes, Ports};
 use wf_pixel::Size;
 
 /// The most ports, and the most modes of a port.
@@ -30,6 +31,7 @@ const MOST_PIPES: u32 = 8;
 
 /// What was read so far: the ports' modes, the number of pipelines where it was declared, the event lines, whether the
 /// end stood, and the names.
+#[derive(Drop)]
 pub(crate) struct Reader<'a> {
     pub modes: ArrayVec<Modes, 4>,
     pub pipes: Option<u32>,
@@ -92,7 +94,7 @@ impl<'a> Reader<'a> {
     #[tactic(auto, using(std::proofs::lemmas::Bool::Decides::nat_tests), unfolding(crate::specs::Grammar::port_line))]
     fn port_line(&mut self, words: &[u8]) -> Result<(), Rule>
         ensures read { left_by result (reading self.new) ≡ port_line (reading self.old) (words_in words.now) }
-        ensures names { self.new.names ≡ self.old.names }
+        ensures right { SeesAll self.old.names self.old.lines.items → SeesAll self.new.names self.new.lines.items }
     {
         if self.no_port_here() {
             return Err(Rule::Place);
@@ -117,7 +119,7 @@ impl<'a> Reader<'a> {
     #[tactic(auto, unfolding(crate::specs::Grammar::pipes_line))]
     fn pipes_line(&mut self, words: &[u8]) -> Result<(), Rule>
         ensures read { left_by result (reading self.new) ≡ pipes_line (reading self.old) (words_in words.now) }
-        ensures names { self.new.names ≡ self.old.names }
+        ensures right { SeesAll self.old.names self.old.lines.items → SeesAll self.new.names self.new.lines.items }
     {
         if self.no_pipes_here() {
             return Err(Rule::Place);
@@ -139,7 +141,7 @@ impl<'a> Reader<'a> {
     #[tactic(auto, using(std::proofs::lemmas::Bool::Decides::nat_tests), unfolding(crate::specs::Grammar::end_line))]
     fn end_line(&mut self, words: &[u8]) -> Result<(), Rule>
         ensures read { left_by result (reading self.new) ≡ end_line (reading self.old) (words_in words.now) }
-        ensures names { self.new.names ≡ self.old.names }
+        ensures right { SeesAll self.old.names self.old.lines.items → SeesAll self.new.names self.new.lines.items }
     {
         if self.no_event_here() {
             return Err(Rule::Place);
@@ -182,5 +184,56 @@ impl<'a> Reader<'a> {
             verb: given.verb,
         })?;
         Ok(())
+    }
+
+    /// The words of a line.
+    #[tactic(auto, unfolding(crate::specs::Grammar::line_of))]
+    fn words(&mut self, words: &'a [u8]) -> Result<(), LineFault>
+        requires { SeesAll self.old.names self.old.lines.items }
+        ensures read { Gives (λ _. reading self.new) result (line_of (reading self.old) (words_in words.now)) }
+        ensures right { OnOk result (SeesAll self.new.names self.new.lines.items) }
+    {
+        let Some((word, rest)) = next_word(words) else {
+            return Ok(());
+        };
+        if word == b"port".as_slice() {
+            self.port_line(rest)?;
+            return Ok(());
+        }
+        if word == b"pipes".as_slice() {
+            self.pipes_line(rest)?;
+            return Ok(());
+        }
+        if word == b"end".as_slice() {
+            self.end_line(rest)?;
+            return Ok(());
+        }
+        let client = client_of(word).ok_or(Rule::Client)?;
+        self.event_line(client, rest)
+    }
+
+    /// The next line.
+    #[tactic(auto, unfolding(crate::specs::Grammar::read_line))]
+    pub(crate) fn line(&mut self, line: &'a [u8]) -> Result<(), LineFault>
+        requires { SeesAll self.old.names self.old.lines.items }
+        ensures read { Gives (λ _. reading self.new) result (read_line (reading self.old) line.now) }
+        ensures right { OnOk result (SeesAll self.new.names self.new.lines.items) }
+    {
+        let line = without_return(line);
+        if !are_allowed(line) {
+            return Err(LineFault::Breaks(Rule::Byte));
+        }
+        self.words(without_comment(line))
+    }
+
+    /// The script that was read.
+    pub(crate) fn script(self) -> Script
+        ensures { result ≡ script_of (reading self.entry) }
+    {
+        let ports = Ports {
+            modes: self.modes,
+            pipes: self.pipes.unwrap_or(0),
+        };
+        Script::new(ports, self.lines)
     }
 }
