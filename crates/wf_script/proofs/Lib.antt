@@ -1,5 +1,7 @@
+pub mod Behind
 pub mod Cuts
 pub mod NameText
+pub mod HexRow
 pub mod LineRow
 pub mod Sight
 pub mod SizeRow

@@ -4,21 +4,9 @@ use Rattle.wf_words.specs.Refusals.{◌>>=◌, found_or}
 use Rattle.wf_pixel.specs.declared.Size.{Size}
 use Rattle.wf_script.specs.declared.rule.Rule.{Rule}
 use Rattle.wf_script.specs.declared.rule.Rule.TheVariants as rule
+use Rattle.wf_script.proofs.Behind.{behind, joined}
 use Rattle.wf_script.specs.Grammar.{sizes}
 use Rattle.wf_script.specs.Words.{Word, size_of}
-
--- sizes before those that are read
-abbrev pub behind : List Size → Result (List Size) Rule → Result (List Size) Rule
-behind done (Ok others) = Ok (done ++ others)
-behind done (Err broken) = Err broken
-
-pub none_before : (read : Result (List Size) Rule) → behind [] read ≡ read
-none_before (Ok others) = refl
-none_before (Err broken) = refl
-
-joined : (done : List Size) (size : Size) (read : Result (List Size) Rule) → behind done (read >>= (λ others. Ok (size ∷ others))) ≡ behind (done ++ size ∷ []) read
-joined done size (Ok others) = ap (λ (s : List Size). Ok s) (sym (append_assoc done (size ∷ []) others))
-joined done size (Err broken) = refl
 
 -- one more size
 pub size_more : (done : List Size) (size : Size) (w : Word) (ws : List Word) → size_of w ≡ Some size → behind done (sizes (w ∷ ws)) ≡ behind (done ++ size ∷ []) (sizes ws)

@@ -8,34 +8,20 @@ use Rattle.wf_script.specs.declared.line.Verb.TheVariants as verb
 use Rattle.wf_script.specs.declared.name.Name.{Name}
 use Rattle.wf_script.specs.declared.rule.Rule.{Rule}
 use Rattle.wf_script.specs.declared.rule.Rule.TheVariants as rule
+use Rattle.wf_script.specs.PaintWords.{paint_of}
+use Rattle.wf_script.specs.Pick.{counted, first, first_as}
 use Rattle.wf_script.specs.Words.{Word, look_up, integer_of, handle_of, formats, stat_words}
 
 -- the verbs
 abbrev pub forms : List (Word × Form)
 forms =
     (codes "stream", form.Stream) ∷ (codes "acquire", form.Acquire) ∷ (codes "post", form.Post) ∷ (codes "discard", form.Discard)
-    ∷ (codes "stat", form.Stat) ∷ (codes "tick", form.Tick) ∷ []
+    ∷ (codes "stat", form.Stat) ∷ (codes "paint", form.Paint) ∷ (codes "frame", form.Frame) ∷ (codes "tick", form.Tick) ∷ []
 
 -- the forms whose line makes something that a name then stands for
 abbrev pub creates : Form → Bool
 creates form.Stream = true
 creates _ = false
-
--- so many words
-abbrev pub counted : ℕ → List Word → Result (Unit {0}) Rule
-counted count ws = refuse_if rule.Count (not (length ws == count))
-
--- the first word, and those behind it
-abbrev pub first : List Word → Result (Word × List Word) Rule
-first [] = Err rule.Count
-first (w ∷ ws) = Ok (w, ws)
-
--- the first word by its kind, and the words behind it
-abbrev pub first_as : {A : Type 0} → (Word → Option A) → List Word → Result (A × List Word) Rule
-first_as kind ws = do
-  w ← first ws
-  x ← found_or rule.Word (kind w.0)
-  Ok (x, w.1)
 
 -- what the words behind a verb give, with the names that they use, or the rule that they break: their number
 -- before what they are
@@ -68,6 +54,18 @@ no_words v ws = do
   _ ← counted 0 ws
   Ok (v, [])
 
+unfoldable pub paint_words : List Word → Given
+paint_words ws = do
+  paint ← paint_of ws
+  Ok (verb.Paint paint, [])
+
+unfoldable pub frame_words : List Word → Given
+frame_words ws = do
+  s ← first ws
+  paint ← paint_of s.1
+  stream ← found_or rule.Word (handle_of s.0)
+  Ok (verb.Frame stream paint, option_to_list stream)
+
 -- the words of each form
 abbrev pub arguments : Form → List Word → Given
 arguments form.Stream = stream_words
@@ -75,4 +73,6 @@ arguments form.Acquire = acquire_words
 arguments form.Post = no_words verb.Post
 arguments form.Discard = no_words verb.Discard
 arguments form.Stat = stat_words_of
+arguments form.Paint = paint_words
+arguments form.Frame = frame_words
 arguments form.Tick = no_words verb.Tick

@@ -4,6 +4,8 @@ pub mod TickText
 pub mod TickReading
 pub mod Words
 pub mod Rules
+pub mod Pick
+pub mod PaintWords
 pub mod Forms
 pub mod Given
 pub mod Visible

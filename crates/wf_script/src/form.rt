@@ -12,6 +12,8 @@ pub(crate) enum Form {
     Post,
     Discard,
     Stat,
+    Paint,
+    Frame,
     Tick,
 }
 
@@ -30,6 +32,10 @@ impl Form {
             Some(Form::Discard)
         } else if verb == b"stat".as_slice() {
             Some(Form::Stat)
+        } else if verb == b"paint".as_slice() {
+            Some(Form::Paint)
+        } else if verb == b"frame".as_slice() {
+            Some(Form::Frame)
         } else if verb == b"tick".as_slice() {
             Some(Form::Tick)
         } else {

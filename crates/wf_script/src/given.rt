@@ -1,7 +1,7 @@
 //! The words behind a verb.
 
 ghost use Rattle.std.specs.Prelude.{◌≡◌, Some, option_map};
-ghost use Rattle.wf_script.specs.Forms.{acquire_words, arguments, no_words, stat_words_of, stream_words};
+ghost use Rattle.wf_script.specs.Forms.{acquire_words, arguments, frame_words, no_words, paint_words, stat_words_of, stream_words};
 ghost use Rattle.wf_script.specs.Given.{given};
 ghost use Rattle.wf_script.specs.Rules.{Gives};
 ghost use Rattle.wf_script.specs.Words.{handle_of, words_in};
@@ -10,8 +10,10 @@ use crate::form::Form;
 use crate::line::Verb;
 use crate::name::Name;
 use crate::names::handle_of;
+use crate::paints::paint_of;
 use crate::pick::{counted, first, format, number, stat_word};
 use crate::rule::{LineFault, Rule};
+use std::alloc::Global;
 
 /// What the words behind a verb give: what is asked for, and the word of the name that it uses.
 #[derive(Drop)]
@@ -21,7 +23,7 @@ pub(crate) struct Given<'a> {
 }
 
 /// What the words behind a verb of this form give.
-pub(crate) fn arguments(form: Form, words: &[u8]) -> Result<Given<'_>, LineFault>
+pub(crate) fn arguments(alloc: Global, form: Form, words: &[u8]) -> Result<Given<'_>, LineFault>
     ensures { Gives given result (arguments form (words_in words.now)) }
 {
     match form {
@@ -30,6 +32,8 @@ pub(crate) fn arguments(form: Form, words: &[u8]) -> Result<Given<'_>, LineFault
         Form::Post => alone(Verb::Post, words),
         Form::Discard => alone(Verb::Discard, words),
         Form::Stat => stat(words),
+        Form::Paint => painting(alloc, words),
+        Form::Frame => frame(alloc, words),
         Form::Tick => alone(Verb::Tick, words),
     }
 }
@@ -84,6 +88,29 @@ fn stat(words: &[u8]) -> Result<Given<'_>, LineFault>
     let (what, _) = stat_word(words)?;
     let verb = Verb::Stat { what };
     Ok(Given { verb, used: None })
+}
+
+/// What is painted into the write buffer that was taken last.
+#[tactic(auto, unfolding(crate::specs::Forms::paint_words))]
+fn painting(alloc: Global, words: &[u8]) -> Result<Given<'_>, LineFault>
+    ensures { Gives given result (paint_words (words_in words.now)) }
+{
+    let paint = paint_of(alloc, words)?;
+    let verb = Verb::Paint(paint);
+    Ok(Given { verb, used: None })
+}
+
+/// A stream, and what is painted into it.
+#[tactic(auto, unfolding(crate::specs::Forms::frame_words))]
+fn frame(alloc: Global, words: &[u8]) -> Result<Given<'_>, LineFault>
+    ensures { Gives given result (frame_words (words_in words.now)) }
+{
+    let (word, words) = first(words)?;
+    let paint = paint_of(alloc, words)?;
+    let stream = handle_of(word).ok_or(Rule::Word)?;
+    let used = used_word(&stream, word);
+    let verb = Verb::Frame { stream, paint };
+    Ok(Given { verb, used })
 }
 
 /// A verb without a word behind it.

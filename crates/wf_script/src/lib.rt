@@ -4,11 +4,14 @@
 mod fault;
 mod form;
 mod given;
+mod hex;
 mod line;
 mod name;
 mod names;
 mod numbers;
 mod reading;
+mod paint_form;
+mod paints;
 mod parts;
 mod pick;
 mod pieces;

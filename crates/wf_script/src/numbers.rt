@@ -1,6 +1,6 @@
 //! Words that stand for numbers.
 
-ghost use Rattle.std.specs.Prelude.{◌≡◌, ◌<◌, IfSome};
+ghost use Rattle.std.specs.Prelude.{◌≡◌, ◌<◌, ◌≤◌, ◌≤ℤ◌, IfSome};
 ghost use Rattle.wf_script.specs.Words.{client_of, count_in, digits_of, integer_in, integer_of, is_digit, size_of};
 
 use crate::words::cut_at;
@@ -40,7 +40,8 @@ fn digits_of(word: &[u8]) -> Option<u64>
 /// The number without a sign that a word stands for, where it is in a range.
 #[tactic(auto, using(std::proofs::lemmas::Bool::Decides::nat_tests), unfolding(crate::specs::Words::count_in))]
 pub(crate) fn count_in(low: u32, high: u32, word: &[u8]) -> Option<u32>
-    ensures { result ≡ count_in low high word.now }
+    ensures value { result ≡ count_in low high word.now }
+    ensures within { IfSome result (λ n. (low ≤ n) × (n ≤ high)) }
 {
     let count = digits_of(word)?;
     if u64::from(low) <= count && count <= u64::from(high) {
@@ -65,7 +66,8 @@ pub(crate) fn integer_of(word: &[u8]) -> Option<i64>
 /// The number with an optional minus that a word stands for, where it is in a range.
 #[tactic(auto, using(std::proofs::lemmas::Bool::Decides::nat_tests), unfolding(crate::specs::Words::integer_in))]
 pub(crate) fn integer_in(low: i64, high: i64, word: &[u8]) -> Option<i64>
-    ensures { result ≡ integer_in low high word.now }
+    ensures value { result ≡ integer_in low high word.now }
+    ensures within { IfSome result (λ n. (low ≤ℤ n) × (n ≤ℤ high)) }
 {
     let number = integer_of(word)?;
     if low <= number && number <= high {

@@ -1,13 +1,11 @@
 //! Words by their kinds, from the front of a text.
 
 ghost use Rattle.std.specs.Prelude.{◌≡◌, ◌+◌, ◌≤◌, length};
-ghost use Rattle.wf_script.specs.Forms.{counted, first, first_as};
+ghost use Rattle.wf_script.specs.Pick.{counted, first, first_as};
 ghost use Rattle.wf_script.specs.Rules.{FirstWord, Reads};
-ghost use Rattle.wf_script.specs.Words.{formats, handle_of, integer_of, look_up, stat_words, words_in};
+ghost use Rattle.wf_script.specs.Words.{count_in, formats, integer_in, integer_of, look_up, stat_words, words_in};
 
-use crate::name::Name;
-use crate::names::handle_of;
-use crate::numbers::integer_of;
+use crate::numbers::{count_in, integer_in, integer_of};
 use crate::rule::Rule;
 use crate::words::next_word;
 use wf_calls::StatWord;
@@ -53,13 +51,13 @@ pub(crate) fn number(text: &[u8]) -> Result<(i64, &[u8]), Rule>
     Ok((number, behind))
 }
 
-/// A name or `none`, beside its word.
-pub(crate) fn handle(text: &[u8]) -> Result<(Option<Name>, &[u8]), Rule>
-    ensures { Reads result (first_as handle_of (words_in text.now)) }
+/// A number without a sign, in a range.
+pub(crate) fn count(low: u32, high: u32, text: &[u8]) -> Result<(u32, &[u8]), Rule>
+    ensures { Reads result (first_as (count_in low high) (words_in text.now)) }
 {
     let (word, behind) = first(text)?;
-    let name = handle_of(word).ok_or(Rule::Word)?;
-    Ok((name, behind))
+    let count = count_in(low, high, word).ok_or(Rule::Word)?;
+    Ok((count, behind))
 }
 
 /// The format that a word stands for.

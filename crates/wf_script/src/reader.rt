@@ -155,7 +155,7 @@ impl<'a> Reader<'a> {
 
     /// An event line.
     #[tactic(auto, unfolding(crate::specs::Grammar::event_line))]
-    fn event_line(&mut self, client: u8, words: &'a [u8]) -> Result<(), LineFault>
+    fn event_line(&mut self, alloc: Global, client: u8, words: &'a [u8]) -> Result<(), LineFault>
         requires client { client < 8 }
         requires right { SeesAll self.old.names self.old.lines.items }
         ensures read { Gives (λ _. reading self.new) result (event_line (reading self.old) client (words_in words.now)) }
@@ -169,7 +169,7 @@ impl<'a> Reader<'a> {
         if self.no_event_here() || !is_its_client(form, client) {
             return Err(LineFault::Breaks(Rule::Place));
         }
-        let given = arguments(form, parts.arguments)?;
+        let given = arguments(alloc, form, parts.arguments)?;
         let name = bound_name(parts.name)?;
         if !self.names.sees(client, given.used) {
             return Err(LineFault::Breaks(Rule::Name));
@@ -188,7 +188,7 @@ impl<'a> Reader<'a> {
 
     /// The words of a line.
     #[tactic(auto, unfolding(crate::specs::Grammar::line_of))]
-    fn words(&mut self, words: &'a [u8]) -> Result<(), LineFault>
+    fn words(&mut self, alloc: Global, words: &'a [u8]) -> Result<(), LineFault>
         requires { SeesAll self.old.names self.old.lines.items }
         ensures read { Gives (λ _. reading self.new) result (line_of (reading self.old) (words_in words.now)) }
         ensures right { OnOk result (SeesAll self.new.names self.new.lines.items) }
@@ -209,12 +209,12 @@ impl<'a> Reader<'a> {
             return Ok(());
         }
         let client = client_of(word).ok_or(Rule::Client)?;
-        self.event_line(client, rest)
+        self.event_line(alloc, client, rest)
     }
 
     /// The next line.
     #[tactic(auto, unfolding(crate::specs::Grammar::read_line))]
-    pub(crate) fn line(&mut self, line: &'a [u8]) -> Result<(), LineFault>
+    pub(crate) fn line(&mut self, alloc: Global, line: &'a [u8]) -> Result<(), LineFault>
         requires { SeesAll self.old.names self.old.lines.items }
         ensures read { Gives (λ _. reading self.new) result (read_line (reading self.old) line.now) }
         ensures right { OnOk result (SeesAll self.new.names self.new.lines.items) }
@@ -223,7 +223,7 @@ impl<'a> Reader<'a> {
         if !are_allowed(line) {
             return Err(LineFault::Breaks(Rule::Byte));
         }
-        self.words(without_comment(line))
+        self.words(alloc, without_comment(line))
     }
 
     /// The script that was read.

@@ -69,7 +69,7 @@ fn read_lines(alloc: Global, bytes: &[u8]) -> Result<Reader<'_>, ScriptFault>
         if number > MOST_LINES {
             return Err(ScriptFault::TooManyLines);
         }
-        if let Err(fault) = reader.line(line) {
+        if let Err(fault) = reader.line(alloc, line) {
             return Err(fault_at(number, fault));
         }
         rest = behind;
