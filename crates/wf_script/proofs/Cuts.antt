@@ -11,9 +11,9 @@ module _ (p : ℕ → Bool) where
   -- the first place that passes, or the end
   pub place_or_end : (xs : List ℕ) → unwrap_or (position p xs) (length xs) ≡ position_or_len p xs
   place_or_end xs = elim (cases_lt (position_or_len p xs) (length xs)) [
-      inl here ↦ rw (lt-ltb (position_or_len p xs) (length xs) here) refl
+    | inl here ↦ rw (lt-ltb (position_or_len p xs) (length xs) here) refl
     | inr none ↦ rw (le-ltb (position_or_len p xs) (length xs) none) (omega (arith, prefix_len-le-length (λ x. not (p x)) xs))
-    ]
+  ]
 
   -- the first piece of a text is the last, or stands before those of what is behind its end
   abbrev FirstPiece : List ℕ → Type 0
@@ -23,18 +23,18 @@ module _ (p : ℕ → Bool) where
 
   first_piece : (xs : List ℕ) → FirstPiece xs
   first_piece xs = elim (cases_lt (position_or_len p xs) (length xs)) [
-      inl here ↦ inr (slice_split_first p xs 0 here)
+    | inl here ↦ inr (slice_split_first p xs 0 here)
     | inr none ↦
         let all : take (position_or_len p xs) xs ≡ xs = take_all (position_or_len p xs) xs none in
         inl (slice_split_none p xs (λ k d h. fails_before_first p xs k d (omega arith)) ∙ ap (λ (ys : List ℕ). ys ∷ []) (sym all), drop_all (position_or_len p xs + 1) xs (omega arith), all)
-    ]
+  ]
 
   -- there is a piece
   some_piece : (xs : List ℕ) → (x : List ℕ) × (ys : List (List ℕ)) × (slice_split p xs ≡ x ∷ ys)
   some_piece xs = elim (first_piece xs) [
-      inl last ↦ (before_first p xs, [], last.0)
+    | inl last ↦ (before_first p xs, [], last.0)
     | inr more ↦ (before_first p xs, slice_split p (after_first p xs), more)
-    ]
+  ]
 
 -- the first line, and those behind it
 pub first_line : (text : List ℕ) → 0 < length text → lines_of text ≡ before_first (λ b. b == 10) text ∷ lines_of (after_first (λ b. b == 10) text)
@@ -44,13 +44,13 @@ first_line (x ∷ xs) some =
     let p : ℕ → Bool = λ b. b == 10 in
     let text : List ℕ = x ∷ xs in
     elim (first_piece p text) [
-      inl last ↦
-        let end : without_empty_end (before_first p text ∷ []) ≡ before_first p text ∷ [] = rw last.2 refl in
-        ap without_empty_end last.0 ∙ end ∙ ap (λ (behind : List ℕ). before_first p text ∷ without_empty_end (slice_split p behind)) (sym last.1)
-    | inr more ↦
-        let piece = some_piece p (after_first p text) in
-        ap without_empty_end (more ∙ ap (λ (ys : List (List ℕ)). before_first p text ∷ ys) piece.2)
-        ∙ ap (λ (ys : List (List ℕ)). before_first p text ∷ without_empty_end ys) (sym piece.2)
+      | inl last ↦
+          let end : without_empty_end (before_first p text ∷ []) ≡ before_first p text ∷ [] = rw last.2 refl in
+          ap without_empty_end last.0 ∙ end ∙ ap (λ (behind : List ℕ). before_first p text ∷ without_empty_end (slice_split p behind)) (sym last.1)
+      | inr more ↦
+          let piece = some_piece p (after_first p text) in
+          ap without_empty_end (more ∙ ap (λ (ys : List (List ℕ)). before_first p text ∷ ys) piece.2)
+          ∙ ap (λ (ys : List (List ℕ)). before_first p text ∷ without_empty_end ys) (sym piece.2)
     ]
 
 -- no text, no line
@@ -68,16 +68,16 @@ no_word (x ∷ xs) none = absurd (omega arith)
 -- the pieces at blanks that are words
 filter_first : (w : Word) (ws : List Word) → filter is_word (w ∷ ws) ≡ filter is_word (w ∷ []) ++ filter is_word ws
 filter_first w ws = elim (cases_Bool (is_word w)) [
-    inl is ↦ rw is refl
+  | inl is ↦ rw is refl
   | inr isnt ↦ rw isnt refl
-  ]
+]
 
 cut_word : (text : List ℕ) → words_in text ≡ filter is_word (before_first is_blank text ∷ []) ++ words_in (after_first is_blank text)
 unfolding words_in
 cut_word text = elim (first_piece is_blank text) [
-    inl last ↦ ap (filter is_word) last.0 ∙ sym (ap (λ (behind : List ℕ). filter is_word (before_first is_blank text ∷ []) ++ words_in behind) last.1 ∙ append-nil (filter is_word (before_first is_blank text ∷ [])))
+  | inl last ↦ ap (filter is_word) last.0 ∙ sym (ap (λ (behind : List ℕ). filter is_word (before_first is_blank text ∷ []) ++ words_in behind) last.1 ∙ append-nil (filter is_word (before_first is_blank text ∷ [])))
   | inr more ↦ ap (filter is_word) more ∙ filter_first (before_first is_blank text) (slice_split is_blank (after_first is_blank text))
-  ]
+]
 
 -- the first piece is a word
 pub next_is_word : (text word rest : List ℕ) → word ≡ before_first is_blank text → rest ≡ after_first is_blank text → 0 < length word → words_in text ≡ word ∷ words_in rest
@@ -99,9 +99,9 @@ return_dropped (x ∷ y ∷ ys) = ap (λ (zs : List ℕ). x ∷ zs) (return_drop
 pub no_return : (line : List ℕ) → ((front : List ℕ) → line ≢ front ++ 13 ∷ []) → without_return line ≡ line
 no_return [] none = refl
 no_return (x ∷ []) none = elim (cases_Bool (x == 13)) [
-    inl is ↦ absurd (none [] (ap (λ (b : ℕ). b ∷ []) (eqb-true x 13 is)))
+  | inl is ↦ absurd (none [] (ap (λ (b : ℕ). b ∷ []) (eqb-true x 13 is)))
   | inr isnt ↦ rw isnt refl
-  ]
+]
 no_return (x ∷ y ∷ ys) none = ap (λ (zs : List ℕ). x ∷ zs) (no_return (y ∷ ys) (λ front same. none (x ∷ front) (ap (λ (zs : List ℕ). x ∷ zs) same)))
 
 -- what is left of a line, where its end may have been found to be a carriage return

@@ -3,6 +3,7 @@ pub mod Cuts
 pub mod NameText
 pub mod HexRow
 pub mod LineRow
+mod Rows
 pub mod Sight
 pub mod SizeRow
 pub mod Decimals

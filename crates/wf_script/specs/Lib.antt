@@ -12,3 +12,4 @@ pub mod Visible
 pub mod Grammar
 pub mod Seen
 pub mod Reader
+pub mod Canonical

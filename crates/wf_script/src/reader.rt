@@ -87,7 +87,10 @@ impl<'a> Reader<'a> {
     fn no_port_here(&self) -> bool
         ensures { result ≡ no_port_here (reading self.now) }
     {
-        self.ended || self.pipes.is_some() || !self.lines.as_slice().is_empty() || self.modes.len() >= MOST
+        self.ended
+            || self.pipes.is_some()
+            || !self.lines.as_slice().is_empty()
+            || self.modes.len() >= MOST
     }
 
     /// A port with its modes.
@@ -112,7 +115,10 @@ impl<'a> Reader<'a> {
     fn no_pipes_here(&self) -> bool
         ensures { result ≡ no_pipes_here (reading self.now) }
     {
-        self.ended || self.modes.is_empty() || self.pipes.is_some() || !self.lines.as_slice().is_empty()
+        self.ended
+            || self.modes.is_empty()
+            || self.pipes.is_some()
+            || !self.lines.as_slice().is_empty()
     }
 
     /// The number of pipelines.

@@ -18,8 +18,8 @@ returns-in-Err c =
     let r = reading c.loop-line.reader in
     let few : n ≤ 16384 = omega arith in
     rw c.fault_at.ensures
-        (line_fault_is n r (reading c.line.new.self) c.in-Err.fault c.in-Some.line.now (lines_of c.in-Some.behind.now) (read_lines 2 nothing_read (lines_of c.args.bytes.now)) few c.in-Err.ensures.read
-            (sym (ap (λ (ls : List (List ℕ)). read_lines n r ls) c.in-Some.ensures.lines) ∙ c.loop-line.invariant.same))
+    (line_fault_is n r (reading c.line.new.self) c.in-Err.fault c.in-Some.line.now (lines_of c.in-Some.behind.now) (read_lines 2 nothing_read (lines_of c.args.bytes.now)) few c.in-Err.ensures.read
+    (sym (ap (λ (ls : List (List ℕ)). read_lines n r ls) c.in-Some.ensures.lines) ∙ c.loop-line.invariant.same))
 
 pub loop-line-preserved : goal.loop-line-preserved
 loop-line-preserved c =
