@@ -1,3 +1,11 @@
+pub mod Behind
+pub mod Cuts
+pub mod NameText
+pub mod HexRow
+pub mod LineRow
+mod Rows
+pub mod Sight
+pub mod SizeRow
 pub mod Decimals
-pub mod Ticks
-pub mod Scripts
+pub mod TickRows
+pub mod TickScripts

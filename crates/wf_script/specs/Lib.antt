@@ -1,4 +1,15 @@
 -- Scripts: what one is, its text, and what bytes stand for one.
 pub mod Script
-pub mod Text
-pub mod Reading
+pub mod TickText
+pub mod TickReading
+pub mod Words
+pub mod Rules
+pub mod Pick
+pub mod PaintWords
+pub mod Forms
+pub mod Given
+pub mod Visible
+pub mod Grammar
+pub mod Seen
+pub mod Reader
+pub mod Canonical

@@ -2,11 +2,18 @@
 
 ghost use Rattle.std.specs.Prelude.{◌≡◌};
 
-/// Why bytes are no script.
+/// Why bytes are no script: the first line that breaks a rule, counted from 1, and the least rule that it breaks.
 #[derive(Clone, Copy, Debug, PartialEq, Eq)]
 pub enum ScriptFault {
-    /// A line breaks a rule. Line 0 with rule 0 stands for any fault.
+    /// Line 1 is not the header.
+    Header,
+    /// A line breaks a rule: 1 byte, 2 client, 3 verb, 4 place, 5 count, 6 word, 7 name. At `parse_ticks` line 0 with
+    /// rule 0 stands for any fault.
     Line { line: u32, rule: u32 },
+    /// There are more than 16,384 lines.
+    TooManyLines,
+    /// The bytes end without the line `end`. The line is the one behind the last.
+    NoEnd { line: u32 },
     NoMemory,
 }
 

@@ -2,15 +2,32 @@
 #![tactic(auto)]
 
 mod fault;
+mod form;
+mod given;
+mod hex;
 mod line;
+mod name;
+mod names;
+mod numbers;
+mod paint_form;
+mod paints;
+mod parts;
+mod pick;
 mod pieces;
+mod reader;
 mod reading;
+mod rule;
 mod script;
+mod seen;
+mod ticks;
+mod words;
 
 pub use fault::ScriptFault;
 pub use line::{Line, Verb};
+pub use name::Name;
 pub use reading::{one_script, parse};
 pub use script::Script;
+pub use ticks::{one_tick_script, parse_ticks};
 
 #[cfg(test)]
 mod tests;

@@ -32,7 +32,7 @@ pub(crate) fn side_before(bytes: &[u8], mark: u8) -> Option<(u32, &[u8])>
 }
 
 /// Where the mark stands first.
-fn place_of(bytes: &[u8], mark: u8) -> Option<usize>
+pub(crate) fn place_of(bytes: &[u8], mark: u8) -> Option<usize>
     ensures { result ≡ position (λ b. b == mark) bytes.now }
 {
     bytes.iter().position(|b| *b == mark)

@@ -1,92 +1,85 @@
 //! Reads a script.
 
-ghost use Rattle.std.specs.Prelude.{◌≡◌, ◌≢◌, ◌↔◌, ◌<◌, ◌≤◌, ℕ, List, ◌++◌, length, flat_map, codes, IfSome, IfNone, IfOk, IsTrue};
-ghost use Rattle.std.specs.List.{list_all};
-ghost use Rattle.wf_pixel.specs.declared.Size.{Size};
-ghost use Rattle.wf_pixel.specs.Choice.{has_sides};
-ghost use Rattle.wf_script.specs.Reading.{opened, plain};
+ghost use Rattle.std.specs.Prelude.{◌≡◌, ℕ, List};
+ghost use Rattle.wf_script.specs.Grammar.{Answers, Stands, is_header, nothing_read, read_lines, read_script};
+ghost use Rattle.wf_script.specs.Reader.{fault_at, reading};
 ghost use Rattle.wf_script.specs.Script.{PlainScript};
-ghost use Rattle.wf_script.specs.Text.{Parses, Stands, event_line, is_tick};
+ghost use Rattle.wf_script.specs.Words.{lines_of};
 
 use crate::fault::ScriptFault;
-use crate::line::{Line, Verb};
-use crate::pieces::{after, side_before};
+use crate::reader::Reader;
+use crate::rule::LineFault;
 use crate::script::Script;
-use arrayvec::ArrayVec;
+use crate::words::{are_allowed, next_line, next_word, without_comment, without_return};
 use std::alloc::Global;
-use wf_calls::{Modes, Ports};
-use wf_pixel::Size;
-use wf_words::NoMemory;
 
-/// How many event lines a script has at most: 16,384 lines, less the header, the port and the end.
-const MOST_LINES: usize = 16_384 - 3;
+/// The most lines of a script.
+const MOST_LINES: u32 = 16_384;
 
-/// The answer to bytes that are no script.
-const NO_SCRIPT: ScriptFault = ScriptFault::Line { line: 0, rule: 0 };
-
-/// The script that the bytes stand for.
+/// The script that the bytes stand for, or the first line that breaks a rule, with the least rule that it breaks. In
+/// one pass; memory is taken for the script and for the names that it binds.
+#[tactic(auto, unfolding(crate::specs::Grammar::read_script))]
 pub fn parse(alloc: Global, bytes: &[u8]) -> Result<Script, ScriptFault>
-    ensures { Parses bytes.now result }
+    ensures { Answers (λ script. script) result (read_script bytes.now) }
 {
-    let Some((size, rest)) = opening(bytes) else {
-        return Err(NO_SCRIPT);
+    let Some((header, rest)) = next_line(bytes) else {
+        return Err(ScriptFault::Header);
     };
-    let (lines, rest) = ticks(alloc, rest)?;
-    if !is_end(rest) {
-        return Err(NO_SCRIPT);
+    if !is_header(header) {
+        return Err(ScriptFault::Header);
     }
-    Ok(script_of(size, lines))
+    let reader = read_lines(alloc, rest)?;
+    Ok(reader.script())
 }
 
-/// The size of the one mode of the one port, and what stands behind its line.
-fn opening(bytes: &[u8]) -> Option<(Size, &[u8])>
-    ensures sides { IfSome result (λ x. IsTrue (has_sides x.0)) }
-    ensures found { IfSome result (λ x. bytes.now ≡ opened x.0 x.1.now) }
-    ensures none { IfNone result ((size : Size) (rest : List ℕ) → IsTrue (has_sides size) → bytes.now ≢ opened size rest) }
+/// Whether a line is the header.
+fn is_header(line: &[u8]) -> bool
+    ensures { result ≡ is_header line.now }
 {
-    let rest = after(bytes, b"WFS1\nport ")?;
-    let (w, rest) = side_before(rest, b'x')?;
-    let (h, rest) = side_before(rest, b'\n')?;
-    Some((Size { w, h }, rest))
+    let line = without_return(line);
+    if !are_allowed(line) {
+        return false;
+    }
+    match next_word(without_comment(line)) {
+        Some((word, rest)) => word == b"WFS1".as_slice() && next_word(rest).is_none(),
+        None => false,
+    }
 }
 
-/// As many ticks as stand at the front, up to the most that a script can have, and what stands behind them.
-fn ticks(alloc: Global, bytes: &[u8]) -> Result<(Vec<Line>, &[u8]), NoMemory>
-    ensures read { IfOk result (λ x. bytes.now ≡ flat_map event_line x.0.items ++ x.1.now) }
-    ensures ticks { IfOk result (λ x. IsTrue (list_all is_tick x.0.items)) }
-    ensures few { IfOk result (λ x. length x.0.items ≤ MOST_LINES) }
-    ensures all { IfOk result (λ x. length x.0.items < MOST_LINES → (rest : List ℕ) → x.1.now ≢ codes "0 tick\n" ++ rest) }
+/// A line's fault as a script's.
+fn fault_at(line: u32, fault: LineFault) -> ScriptFault
+    ensures { result ≡ fault_at line fault }
 {
-    let mut lines = Vec::new(alloc);
+    match fault {
+        LineFault::Breaks(rule) => ScriptFault::Line {
+            line,
+            rule: rule.number(),
+        },
+        LineFault::NoMemory => ScriptFault::NoMemory,
+    }
+}
+
+/// Reads the lines behind the header.
+fn read_lines(alloc: Global, bytes: &[u8]) -> Result<Reader<'_>, ScriptFault>
+    ensures { Answers reading result (read_lines 2 nothing_read (lines_of bytes.now)) }
+{
+    let mut reader = Reader::new(alloc);
     let mut rest = bytes;
-    while lines.len() < MOST_LINES
-        && let Some(behind) = after(rest, b"0 tick\n")
-    {
-        lines.push(Line {
-            client: 0,
-            verb: Verb::Tick,
-        })?;
+    let mut number = 2;
+    while let Some((line, behind)) = next_line(rest) {
+        if number > MOST_LINES {
+            return Err(ScriptFault::TooManyLines);
+        }
+        if let Err(fault) = reader.line(alloc, line) {
+            return Err(fault_at(number, fault));
+        }
         rest = behind;
+        number += 1;
     }
-    Ok((lines, rest))
-}
-
-/// Whether just the last line stands there.
-fn is_end(rest: &[u8]) -> bool
-    ensures { IsTrue result ↔ (rest.now ≡ codes "end\n") }
-{
-    rest == b"end\n".as_slice()
-}
-
-/// The script with one port of one mode, and these event lines.
-fn script_of(size: Size, lines: Vec<Line>) -> Script
-    ensures { result ≡ plain size lines.items }
-{
-    let mut sizes = ArrayVec::new();
-    sizes.push(size);
-    let mut modes = ArrayVec::new();
-    modes.push(Modes { sizes });
-    Script::new(Ports { modes, pipes: 0 }, lines)
+    if !reader.ended {
+        return Err(ScriptFault::NoEnd { line: number });
+    }
+    Ok(reader)
 }
 
 /// No bytes stand for two scripts.

@@ -1,0 +1,18 @@
+-- What is read behind what was read before.
+use Rattle.std.proofs.Common.{◌≡◌, Result, Ok, Err, List, [], ◌∷◌, ◌++◌, refl, sym, ap, append_assoc}
+use Rattle.wf_words.specs.Refusals.{◌>>=◌}
+use Rattle.wf_script.specs.declared.rule.Rule.{Rule}
+
+module _ {A : Type 0} where
+  -- a list before that which is read
+  abbrev pub behind : List A → Result (List A) Rule → Result (List A) Rule
+  behind done (Ok others) = Ok (done ++ others)
+  behind done (Err broken) = Err broken
+
+  pub none_before : (read : Result (List A) Rule) → behind [] read ≡ read
+  none_before (Ok others) = refl
+  none_before (Err broken) = refl
+
+  pub joined : (done : List A) (x : A) (read : Result (List A) Rule) → behind done (read >>= (λ others. Ok (x ∷ others))) ≡ behind (done ++ x ∷ []) read
+  joined done x (Ok others) = ap (λ (s : List A). Ok s) (sym (append_assoc done (x ∷ []) others))
+  joined done x (Err broken) = refl

@@ -1,0 +1,35 @@
+//! Names.
+
+ghost use Rattle.std.specs.Prelude.{◌≡◌};
+
+use arrayvec::ArrayString;
+use std::marker::Model;
+
+/// A name that a script binds: a lower-case letter and at most 15 lower-case letters, digits or `_`.
+#[derive(Drop)]
+pub struct Name {
+    text: ArrayString<16>,
+}
+
+impl Model for Name {
+    ghost use Rattle.std.specs.Prelude.{List, ℕ};
+
+    ghost Value = { List ℕ };
+
+    ghost view = { λ name. name.text.bytes };
+}
+
+impl Name {
+    pub(crate) fn new(text: ArrayString<16>) -> Name
+        ensures { result ≡ text.bytes }
+    {
+        Name { text }
+    }
+
+    /// The letters of the name.
+    pub fn as_str(&self) -> &str
+        ensures { result.now ≡ self.now }
+    {
+        self.text.as_str()
+    }
+}

@@ -1,0 +1,111 @@
+//! The names that are bound so far, and who sees them.
+
+ghost use Rattle.std.specs.Prelude.{◌≡◌, ◌<◌, ◌++◌, ◌∷◌, ◌==◌, ◌||◌, ◌&&◌, [], ℕ, List, false, length, slice_index_or, OnOk, option_map, option_to_list};
+ghost use Rattle.std.specs.List.{list_all, list_any};
+ghost use Rattle.wf_script.specs.declared.line.Line.{Line};
+ghost use Rattle.wf_script.specs.Seen.{SeesAll, sees};
+ghost use Rattle.wf_script.specs.Visible.{is_name_in};
+
+use std::alloc::Global;
+use std::collections::BTreeMap;
+use wf_words::NoMemory;
+
+/// How many clients there are.
+pub(crate) const CLIENTS: usize = 8;
+
+/// For each name the clients that see it, and whether only client 0 has spoken.
+#[derive(Drop)]
+pub(crate) struct Seen<'a> {
+    pub clients: BTreeMap<&'a [u8], [bool; 8]>,
+    pub in_setup: bool,
+}
+
+/// Whether only client 0 has spoken, with a line of a client.
+fn stays_setup(in_setup: bool, client: u8) -> bool
+    ensures { result ≡ (in_setup && (client == 0)) }
+{
+    in_setup && client == 0
+}
+
+impl<'a> Seen<'a> {
+    /// No names.
+    pub(crate) fn new(alloc: Global) -> Seen<'a>
+        ensures { SeesAll result [] }
+    {
+        Seen {
+            clients: BTreeMap::new(alloc),
+            in_setup: true,
+        }
+    }
+
+    /// Whether a client sees a name.
+    fn is_visible(&self, client: u8, name: &'a [u8]) -> bool
+        requires { client < CLIENTS }
+        ensures { result ≡ sees self.now client name.now }
+    {
+        match self.clients.get(&name) {
+            Some(clients) => clients[usize::from(client)],
+            None => false,
+        }
+    }
+
+    /// Whether a client sees the name, if there is one.
+    pub(crate) fn sees(&self, client: u8, name: Option<&'a [u8]>) -> bool
+        requires { client < CLIENTS }
+        ensures { result ≡ list_all (sees self.now client) (option_to_list (option_map (λ w. w.now) name.entry)) }
+    {
+        match name {
+            Some(name) => self.is_visible(client, name),
+            None => true,
+        }
+    }
+
+    /// Whether there is a name, and a client sees it.
+    pub(crate) fn has(&self, client: u8, name: Option<&'a [u8]>) -> bool
+        requires { client < CLIENTS }
+        ensures { result ≡ list_any (sees self.now client) (option_to_list (option_map (λ w. w.now) name.entry)) }
+    {
+        match name {
+            Some(name) => self.is_visible(client, name),
+            None => false,
+        }
+    }
+
+    /// Takes the line of a client in, with the name that it binds.
+    pub(crate) fn take_line(&mut self, client: u8, name: Option<&'a [u8]>) -> Result<(), NoMemory>
+        requires { client < CLIENTS }
+        ensures { OnOk result ((lines : List Line) (line : Line) → line.client ≡ client → line.name ≡ option_map (λ w. w.now) name.entry → SeesAll self.old lines → SeesAll self.new (lines ++ line ∷ [])) }
+    {
+        let in_setup = stays_setup(self.in_setup, client);
+        self.bind(client, in_setup, name)?;
+        self.in_setup = in_setup;
+        Ok(())
+    }
+
+    /// Binds the name of a client's line, in the setup or behind it, if there is one.
+    fn bind(&mut self, client: u8, in_setup: bool, name: Option<&'a [u8]>) -> Result<(), NoMemory>
+        requires { client < CLIENTS }
+        ensures { OnOk result ((other : ℕ) (word : List ℕ) → other < CLIENTS → sees self.new other word ≡ (sees self.old other word || (is_name_in word (option_map (λ w. w.now) name.entry) && (in_setup || (client == other))))) }
+    {
+        let Some(name) = name else {
+            return Ok(());
+        };
+        let clients = self.clients_with(client, in_setup, name);
+        self.clients.insert(name, clients)?;
+        Ok(())
+    }
+
+    /// The clients that see a name once a client binds it, in the setup or behind it.
+    fn clients_with(&self, client: u8, in_setup: bool, name: &'a [u8]) -> [bool; 8]
+        requires { client < CLIENTS }
+        ensures length { length result ≡ CLIENTS }
+        ensures seen { (other : ℕ) → other < CLIENTS → slice_index_or result other false ≡ (sees self.now other name.now || (in_setup || (client == other))) }
+    {
+        if in_setup {
+            return [true; 8];
+        }
+        let mut clients = self.clients.get(&name).copied().unwrap_or([false; 8]);
+        clients[usize::from(client)] = true;
+        clients
+    }
+}
