@@ -1,5 +1,5 @@
 -- Turns: one step of the machine for the next call of a client's program.
-use Rattle.std.specs.Prelude.{ℕ, zero, Bool, true, false, not, ◌&&◌, ◌==◌, nat_lt, List, [], ◌∷◌, ◌++◌, map, position, length, unwrap_or, Option, Some, None, is_none, slice_get, if◌then◌else◌}
+use Rattle.std.specs.Prelude.{take, filter, is_some, option_map, ℕ, zero, Bool, true, false, not, ◌&&◌, ◌==◌, nat_lt, List, [], ◌∷◌, ◌++◌, map, position, length, unwrap_or, Option, Some, None, is_none, slice_get, if◌then◌else◌}
 use Rattle.std.specs.List.{range_with_len, list_all, enumerate_from}
 use Rattle.wf_calls.specs.declared.call.Job.{Job}
 use Rattle.wf_calls.specs.declared.call.JobKind.{JobKind}
@@ -17,16 +17,25 @@ use Rattle.wf_script.specs.declared.line.Line.{Line}
 use Rattle.wf_script.specs.Script.{PlainScript}
 use Rattle.wf_turn.specs.Program.{Program, Wanted, program, next, took, painted_job}
 
--- the state, the eight programs by client, the frames so far, and the place in the file at which the setup ends
+-- the place in the file at which the setup ends, and how many names it binds
+pub record Setup : Type 0 where
+  pub end : ℕ
+  pub names : ℕ
+
+-- the state, the eight programs by client, the frames so far, and the setup
 pub record Show : Type 0 where
   pub state : State
   pub programs : List Program
   pub frames : List Frame
-  pub setup_end : ℕ
+  pub setup : Setup
 
 -- how many lines stand before the first line of a client other than 0
 abbrev pub setup_lines : List Line → ℕ
 setup_lines lines = unwrap_or (position (λ l. not (l.client == 0)) lines) (length lines)
+
+abbrev pub setup_of : List Line → Setup
+setup_of lines =
+    record { end = setup_lines lines; names = length (filter (λ l. is_some l.name) (take (setup_lines lines) lines)) }
 
 abbrev pub opening_show : PlainScript → Show
 opening_show script =
@@ -34,7 +43,7 @@ opening_show script =
       state = opening script.ports;
       programs = map (program script) (range_with_len 0 8);
       frames = [];
-      setup_end = setup_lines script.lines;
+      setup = setup_of script.lines;
     }
 
 -- the place in the file of a program's first line that is not through
@@ -55,12 +64,20 @@ setup_through show = of_clock (slice_get show.programs 0)
   where
     of_clock : Option Program → Bool
     of_clock None = false
-    of_clock (Some clock) = not (is_before show.setup_end (place_of clock))
+    of_clock (Some clock) = not (is_before show.setup.end (place_of clock))
+
+-- a program of another client sees the values of the names that the setup bound
+abbrev pub learned : ℕ → Option Program → Program → Program
+learned count None p = p
+learned count (Some clock) p = record p { learned = take count clock.own }
 
 -- the program whose turn it may be: that of another client than 0 only behind the setup
 abbrev pub program_of : Show → ℕ → Option Program
 program_of show zero = slice_get show.programs 0
-program_of show client = if setup_through show then slice_get show.programs client else None
+program_of show client =
+    if setup_through show
+    then option_map (learned show.setup.names (slice_get show.programs 0)) (slice_get show.programs client)
+    else None
 
 abbrev pub with_program : ℕ → Program → List Program → List Program
 with_program client p programs = map (λ row. if row.0 == client then p else row.1) (enumerate_from 0 programs)
