@@ -66,7 +66,7 @@ key_of_others h k (l ∷ live) other =
 pub key_found : (h : ℕ) (k : Kind) (live : List Live) (streams : List KeptStream) → stream_handles live ≡ live_streams streams → key_of h k live ≡ cond (is_stream k) (number_of h streams) (key_of h k (others_of live))
 key_found h k live streams tied =
     elim (is_stream k) as (λ b. is_stream k ≡ b → key_of h k live ≡ cond b (number_of h streams) (key_of h k (others_of live))) [
-      true ↦ λ is. subst (λ (x : Kind). key_of h x live ≡ number_of h streams) (sym (is_stream_is k is)) (number_found h live streams tied)
+      | true ↦ λ is. subst (λ (x : Kind). key_of h x live ≡ number_of h streams) (sym (is_stream_is k is)) (number_found h live streams tied)
       | false ↦ λ other. key_of_others h k live other
     ] refl
 
@@ -100,7 +100,7 @@ count_others k (l ∷ live) other =
 pub count_found : (k : Kind) (live : List Live) (streams : List KeptStream) → stream_handles live ≡ live_streams streams → live_count k live ≡ cond (is_stream k) (count_by has_handle streams) (live_count k (others_of live))
 count_found k live streams tied =
     elim (is_stream k) as (λ b. is_stream k ≡ b → live_count k live ≡ cond b (count_by has_handle streams) (live_count k (others_of live))) [
-      true ↦ λ is. subst (λ (x : Kind). live_count x live ≡ count_by has_handle streams) (sym (is_stream_is k is)) (count_streams live ∙ ap (live_count kind.Stream) tied ∙ count_entries streams)
+      | true ↦ λ is. subst (λ (x : Kind). live_count x live ≡ count_by has_handle streams) (sym (is_stream_is k is)) (count_streams live ∙ ap (live_count kind.Stream) tied ∙ count_entries streams)
       | false ↦ λ other. count_others k live other
     ] refl
 
@@ -143,14 +143,14 @@ data First (low high : ℕ) (s : KeptStream) (streams : List KeptStream) : Type 
 first_of_streams : (low high : ℕ) (s : KeptStream) (streams : List KeptStream) → IsRising low (live_streams (s ∷ streams)) high → First low high s streams
 first_of_streams low high s streams rising =
     elim (s.handle == 0) as (λ b. (s.handle == 0) ≡ b → IsRising low (map live_of (cond (not b) (s ∷ filter has_handle streams) (filter has_handle streams))) high → First low high s streams) [
-      true ↦ λ is under. bare (grind (arith, nat_tests))
+      | true ↦ λ is under. bare (grind (arith, nat_tests))
       | false ↦ λ is under. named under.0 under.1
     ] refl rising
 
 rest_of_streams : (low high : ℕ) (s : KeptStream) (streams : List KeptStream) → IsRising low (live_streams (s ∷ streams)) high → IsRising low (live_streams streams) high
 rest_of_streams low high s streams rising =
     elim (s.handle == 0) as (λ b. IsRising low (map live_of (cond (not b) (s ∷ filter has_handle streams) (filter has_handle streams))) high → IsRising low (live_streams streams) high) [
-      true ↦ λ under. under
+      | true ↦ λ under. under
       | false ↦ λ under. rising_lower s.handle low high (live_streams streams) under.1 (omega (arith, under.0))
     ] rising
 
@@ -192,18 +192,18 @@ pub unnamed_found : (low high bottom top h n : ℕ) (streams : List KeptStream) 
 unnamed_found low high bottom top h n [] rising under found = cc
 unnamed_found low high bottom top h n (s ∷ streams) rising under found =
     elim ((s.handle == h) && not (h == 0)) as (λ b. ((s.handle == h) && not (h == 0)) ≡ b → option_map (λ (x : KeptStream). x.number) (cond b (Some s) (stream_of h streams)) ≡ Some n → hand_over n 0 (s ∷ streams) ≡ map (unnamed h) (s ∷ streams)) [
-      true ↦ λ is here. (
-        let same : s.handle ≡ h = grind (arith, nat_tests) in
-        let some : 0 < h = grind (arith, nat_tests) in
-        let number : s.number ≡ n = cc in
-        let handed : hand_over n 0 streams ≡ streams = change_below s.number high n (under_handle 0) streams rising.1 (omega arith) in
-        let rest : map (unnamed h) streams ≡ streams = elim (first_of_streams bottom top s streams under) [ bare zero ↦ absurd (omega arith) | named above more ↦ unnamed_below s.handle top h streams more some (omega arith) ] in
-        grind (arith, nat_tests, handed, rest))
+      | true ↦ λ is here. (
+          let same : s.handle ≡ h = grind (arith, nat_tests) in
+          let some : 0 < h = grind (arith, nat_tests) in
+          let number : s.number ≡ n = cc in
+          let handed : hand_over n 0 streams ≡ streams = change_below s.number high n (under_handle 0) streams rising.1 (omega arith) in
+          let rest : map (unnamed h) streams ≡ streams = elim (first_of_streams bottom top s streams under) [ bare zero ↦ absurd (omega arith) | named above more ↦ unnamed_below s.handle top h streams more some (omega arith) ] in
+          grind (arith, nat_tests, handed, rest))
       | false ↦ λ isnt found_later. (
-        let above = number_above s.number high h n streams rising.1 found_later in
-        let some = found_some h n streams found_later in
-        let later = unnamed_found s.number high bottom top h n streams rising.1 (rest_of_streams bottom top s streams under) found_later in
-        grind (arith, nat_tests, above, later, some))
+          let above = number_above s.number high h n streams rising.1 found_later in
+          let some = found_some h n streams found_later in
+          let later = unnamed_found s.number high bottom top h n streams rising.1 (rest_of_streams bottom top s streams under) found_later in
+          grind (arith, nat_tests, above, later, some))
     ] refl found
 
 -- the handles of streams rise, as all do

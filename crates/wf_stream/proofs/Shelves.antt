@@ -250,19 +250,19 @@ lent_view low high n o p (e ∷ es) w rising kept apart found =
     let agree : AgreeBut o.key p q = set_agrees o.key p (option_map (holding w) (kept_at o.key p)) in
     let found_here : cond (e.0 == n) (Some e.1) (lookup (at n) es) ≡ Some o = subst (λ (b : Bool). cond b (Some e.1) (lookup (at n) es) ≡ Some o) (at_same n e.0) found in
     elim (e.0 == n) as (λ b. (e.0 == n) ≡ b → cond b (Some e.1) (lookup (at n) es) ≡ Some o → kept_stream q e ∷ shelved q es ≡ cond b (with_here w e) (kept_stream p e) ∷ change_stream n (λ _. w) (shelved p es)) [
-      true ↦ λ here is. (
-        let same : e.1 ≡ o = cc in
-        let key : e.1.key ≡ o.key = ap (λ (x : Place). x.key) same in
-        let value : pooled e.1.key q ≡ w = subst (λ (k : ℕ). pooled k q ≡ w) (sym key) (lent_here o.key p w (subst (λ (k : ℕ). IsKept k p) key kept.0)) in
-        let head : kept_stream q e ≡ with_here w e = ap (λ (b : Buffers). with_here b e) value in
-        let under : n ≤ e.0 = grind (arith, nat_tests) in
-        let rest : shelved q es ≡ change_stream n (λ _. w) (shelved p es) =
+      | true ↦ λ here is. (
+          let same : e.1 ≡ o = cc in
+          let key : e.1.key ≡ o.key = ap (λ (x : Place). x.key) same in
+          let value : pooled e.1.key q ≡ w = subst (λ (k : ℕ). pooled k q ≡ w) (sym key) (lent_here o.key p w (subst (λ (k : ℕ). IsKept k p) key kept.0)) in
+          let head : kept_stream q e ≡ with_here w e = ap (λ (b : Buffers). with_here b e) value in
+          let under : n ≤ e.0 = grind (arith, nat_tests) in
+          let rest : shelved q es ≡ change_stream n (λ _. w) (shelved p es) =
           shelved_same o.key p q es agree (subst (λ (k : ℕ). HasNone k es) key apart.0) ∙ sym (change_below e.0 high n (λ s. record s { buffers = w }) (shelved p es) rising.1 under) in
-        cc)
+          cc)
       | false ↦ λ other is. (
-        let head : kept_stream q e ≡ kept_stream p e = ap (λ (b : Buffers). with_here b e) (pooled_same e.1.key p q (agree e.1.key (λ same. found_other n e.1.key o es is apart.0 (sym same)))) in
-        let rest = lent_view e.0 high n o p es w rising.1 kept.1 apart.1 is in
-        cc)
+          let head : kept_stream q e ≡ kept_stream p e = ap (λ (b : Buffers). with_here b e) (pooled_same e.1.key p q (agree e.1.key (λ same. found_other n e.1.key o es is apart.0 (sym same)))) in
+          let rest = lent_view e.0 high n o p es w rising.1 kept.1 apart.1 is in
+          cc)
     ] refl found_here
 
 -- what is left of the shelf where one place was added, was taken out, or had its stream lent
@@ -271,7 +271,7 @@ shelf_push n o p q es after counted rising fits kept apart free agree new is =
     let none = none_free o.key p es free kept in
     let last : after ≡ es ++ (n, o) ∷ [] = is ∙ insert_last 0 (n - 1) n o p es rising (omega arith) in
     let view : shelved q (es ++ (n, o) ∷ []) ≡ shelved p es ++ kept_stream q (n, o) ∷ [] =
-      map-append (kept_stream q) es ((n, o) ∷ []) ∙ ap (λ (ss : List KeptStream). ss ++ kept_stream q (n, o) ∷ []) (shelved_same o.key p q es agree none) in
+    map-append (kept_stream q) es ((n, o) ∷ []) ∙ ap (λ (ss : List KeptStream). ss ++ kept_stream q (n, o) ∷ []) (shelved_same o.key p q es agree none) in
     rw last (
       view,
       rw view (numbered_push 0 (n - 1) 4294967295 (shelved p es) (kept_stream q (n, o)) rising (omega arith) fits),
@@ -297,12 +297,12 @@ held_some w (Some kept) some = refl
 lent_kept_at : (key other : ℕ) (p : Slots) (w : Buffers) → IsKept key p → IsKept other p → IsKept other (with_value key p w)
 lent_kept_at key other p w found kept =
     elim (other == key) as (λ b. (other == key) ≡ b → IsKept other (with_value key p w)) [
-      true ↦ λ is. (
-        let same : key ≡ other = grind (arith, nat_tests) in
-        subst (λ (k : ℕ). IsKept k (with_value key p w)) same (rw (lent_slot key p w found) (held_some w (kept_at key p) found)))
+      | true ↦ λ is. (
+          let same : key ≡ other = grind (arith, nat_tests) in
+          subst (λ (k : ℕ). IsKept k (with_value key p w)) same (rw (lent_slot key p w found) (held_some w (kept_at key p) found)))
       | false ↦ λ is. (
-        let apart : other ≢ key = λ same. (let yes : (other == key) ≡ true = grind (arith, nat_tests) in cc) in
-        rw (set_agrees key p (option_map (holding w) (kept_at key p)) other apart) kept)
+          let apart : other ≢ key = λ same. (let yes : (other == key) ≡ true = grind (arith, nat_tests) in cc) in
+          rw (set_agrees key p (option_map (holding w) (kept_at key p)) other apart) kept)
     ] refl
 
 pub lent_kept : (o : Place) (p : Slots) (es : Places) (w : Buffers) → IsKept o.key p → AreKept p es → AreKept (with_value o.key p w) es

@@ -7,11 +7,11 @@ ghost use Rattle.std.specs.Borrow.{sem};
 ghost use Rattle.wf_pixel.specs.Choice.{has_sides};
 ghost use Rattle.wf_life.specs.Handles.{is_full};
 ghost use Rattle.wf_stream.specs.Buffers.{fresh};
-ghost use Rattle.wf_stream.specs.Streams.{held, empty, with_screen, with_live_stream, with_other, has_no_room, number_of, key_in, is_alive, is_stream, count_in, killed, buffers_at};
+ghost use Rattle.wf_stream.specs.Streams.{held, empty, with_screen, with_live_stream, with_other, has_no_room, number_of, key_in, is_alive, is_stream, count_in, killed, buffers_at, IsNumbered};
 
-use crate::stream::{bytes_of, Stream};
-use crate::streams::Streams;
 use crate::Held;
+use crate::stream::{Stream, bytes_of};
+use crate::streams::Streams;
 use std::alloc::Global;
 use std::marker::Model;
 use wf_image::NoMemory;
@@ -131,7 +131,8 @@ impl Store {
 
     /// The number of the live stream that has the handle.
     pub fn number(&self, handle: u32) -> Result<u32, BadHandle>
-        ensures { result_ok result ≡ number_of handle self.now.streams }
+        ensures number { result_ok result ≡ number_of handle self.now.streams }
+        ensures numbered { IsNumbered 0 self.now.streams self.now.numbered }
     {
         self.handles.find(handle, Kind::Stream)
     }
@@ -164,7 +165,8 @@ impl Store {
 
     /// The stream of a number.
     pub fn get(&self, number: u32) -> Option<&Stream>
-        ensures { option_copied result ≡ buffers_at number self.now.streams }
+        ensures value { option_copied result ≡ buffers_at number self.now.streams }
+        ensures numbered { IsNumbered 0 self.now.streams self.now.numbered }
     {
         self.streams.get(number)
     }
@@ -173,6 +175,7 @@ impl Store {
     pub fn get_mut(&mut self, number: u32) -> Option<&mut Stream>
         ensures* writes_back { sem 𝓛 (lends_stream self.entry number result) }
         ensures value { option_copied_mut result ≡ buffers_at number self.old.streams }
+        ensures numbered { IsNumbered 0 self.old.streams self.old.numbered }
     {
         self.streams.get_mut(number)
     }

@@ -61,21 +61,48 @@ fn a_post_that_no_frame_took_is_replaced(rt: HostRuntime) -> Result<(), Fail> {
 #[test]
 fn the_store_counts_what_it_holds(rt: HostRuntime) -> Result<(), Fail> {
     let mut store = Store::new(rt.alloc());
-    assert_eq!(rt; store.held(), Held { streams: 0, bytes: 0 });
+    assert_eq!(rt;
+        store.held(),
+        Held {
+            streams: 0,
+            bytes: 0
+        }
+    );
     assert_eq!(rt; store.screen(Size { w: 1, h: 1 }), Ok(1));
     assert_eq!(rt; store.make(SMALL, Format::A8, 2), Ok(1));
     assert_eq!(rt; store.mint(Kind::Device, 5), Ok(2));
     assert_eq!(rt; store.make(SMALL, Format::Rgba8, 4), Ok(3));
-    assert_eq!(rt; store.held(), Held { streams: 3, bytes: 12 + 4 + 32 });
-    assert_eq!(rt; (store.number(1), store.number(2), store.number(3)), (Ok(2), Err(BadHandle), Ok(3)));
-    assert_eq!(rt; (store.find(2, Kind::Device), store.find(2, Kind::Mask)), (Ok(5), Err(BadHandle)));
+    assert_eq!(rt;
+        store.held(),
+        Held {
+            streams: 3,
+            bytes: 12 + 4 + 32
+        }
+    );
+    assert_eq!(rt;
+        (store.number(1), store.number(2), store.number(3)),
+        (Ok(2), Err(BadHandle), Ok(3))
+    );
+    assert_eq!(rt;
+        (store.find(2, Kind::Device), store.find(2, Kind::Mask)),
+        (Ok(5), Err(BadHandle))
+    );
     if let Some(stream) = store.get_mut(3) {
         stream.acquire(3)?;
     }
     assert_eq!(rt; store.get(3).map(|stream| stream.is_out()), Some(true));
     store.kill(3);
-    assert_eq!(rt; (store.number(3), store.live(Kind::Stream)), (Err(BadHandle), 1));
-    assert_eq!(rt; store.held(), Held { streams: 3, bytes: 48 });
+    assert_eq!(rt;
+        (store.number(3), store.live(Kind::Stream)),
+        (Err(BadHandle), 1)
+    );
+    assert_eq!(rt;
+        store.held(),
+        Held {
+            streams: 3,
+            bytes: 48
+        }
+    );
     Ok(())
 }
 
@@ -86,7 +113,13 @@ fn the_store_is_full(rt: HostRuntime) -> Result<(), Fail> {
     for number in 1..=8u32 {
         assert_eq!(rt; store.make(large, Format::Rgba8, 4), Ok(number));
     }
-    assert_eq!(rt; store.held(), Held { streams: 8, bytes: 134_217_728 });
+    assert_eq!(rt;
+        store.held(),
+        Held {
+            streams: 8,
+            bytes: 134_217_728
+        }
+    );
     assert_eq!(rt; store.make(SMALL, Format::A8, 2), Err(MakeStop::Limit));
     Ok(())
 }

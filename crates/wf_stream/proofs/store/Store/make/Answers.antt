@@ -11,7 +11,7 @@ invariant_of-self-in_default-make c =
     let streams = c.self.inside.streams in
     let sound = c.self.invariant in
     let back : c.remove.new.self ≡ streams =
-      c.remove.ensures ∙ ap (without_number (c.self.inside.numbered + 1)) c.in-Ok-push.ensures.pushed ∙ without_last 0 c.self.inside.numbered streams _ sound.rising (omega arith) in
+    c.remove.ensures ∙ ap (without_number (c.self.inside.numbered + 1)) c.in-Ok-push.ensures.pushed ∙ without_last 0 c.self.inside.numbered streams _ sound.rising (omega arith) in
     rw (c.in_default-make.ensures.refused, back) sound
 
 pub returns-in_default-make-clause-refused : goal.returns-in_default-make-clause-refused
@@ -19,7 +19,7 @@ returns-in_default-make-clause-refused c =
     let streams = c.self.inside.streams in
     let sound = c.self.invariant in
     let back : c.remove.new.self ≡ streams =
-      c.remove.ensures ∙ ap (without_number (c.self.inside.numbered + 1)) c.in-Ok-push.ensures.pushed ∙ without_last 0 c.self.inside.numbered streams _ sound.rising (omega arith) in
+    c.remove.ensures ∙ ap (without_number (c.self.inside.numbered + 1)) c.in-Ok-push.ensures.pushed ∙ without_last 0 c.self.inside.numbered streams _ sound.rising (omega arith) in
     rw (c.in_default-make.ensures.refused, back) c.self.view_is
 
 pub invariant_of-self-2 : goal.invariant_of-self-2
@@ -29,8 +29,8 @@ invariant_of-self-2 c =
     let n = c.self.inside.numbered + 1 in
     let s : KeptStream = record { number = n; handle = c.self.inside.handles.made + 1; buffers = c.in-Ok.stream } in
     let last : c.hand_over.new.self ≡ streams ++ s ∷ [] =
-      c.hand_over.ensures ∙ ap (hand_over n c.in-Ok-make.handle) c.in-Ok-push.ensures.pushed ∙ handed_last 0 c.self.inside.numbered c.in-Ok-make.handle streams _ sound.rising (omega arith)
-        ∙ ap (λ (h : ℕ). streams ++ record s { handle = h } ∷ []) c.in-Ok-make.ensures.handle in
+    c.hand_over.ensures ∙ ap (hand_over n c.in-Ok-make.handle) c.in-Ok-push.ensures.pushed ∙ handed_last 0 c.self.inside.numbered c.in-Ok-make.handle streams _ sound.rising (omega arith)
+    ∙ ap (λ (h : ℕ). streams ++ record s { handle = h } ∷ []) c.in-Ok-make.ensures.handle in
     let left : is_full c.self.inside.handles.made ≡ false = sym c.is_full.ensures ∙ c.if-is_full.false in
     let some : c.self.inside.handles.made < 4294967291 = grind (arith, nat_tests, left) in
     let orderly = rw c.in-Ok-make.ensures.made at c.in-Ok-make.ensures.orderly in
@@ -49,6 +49,6 @@ returns-clause-made c =
     let n = c.self.inside.numbered + 1 in
     let s : KeptStream = record { number = n; handle = c.self.inside.handles.made + 1; buffers = c.in-Ok.stream } in
     let last : c.hand_over.new.self ≡ streams ++ s ∷ [] =
-      c.hand_over.ensures ∙ ap (hand_over n c.in-Ok-make.handle) c.in-Ok-push.ensures.pushed ∙ handed_last 0 c.self.inside.numbered c.in-Ok-make.handle streams _ sound.rising (omega arith)
-        ∙ ap (λ (h : ℕ). streams ++ record s { handle = h } ∷ []) c.in-Ok-make.ensures.handle in
+    c.hand_over.ensures ∙ ap (hand_over n c.in-Ok-make.handle) c.in-Ok-push.ensures.pushed ∙ handed_last 0 c.self.inside.numbered c.in-Ok-make.handle streams _ sound.rising (omega arith)
+    ∙ ap (λ (h : ℕ). streams ++ record s { handle = h } ∷ []) c.in-Ok-make.ensures.handle in
     rw (← c.self.view_is, c.in-Ok-make.ensures.made, last, c.in-Ok.ensures, made_others c.self.inside.handles.live s) refl

@@ -21,13 +21,13 @@ invariant_of-self-lent c _ =
     let is = sym c.in-Some.ensures.value in
     let kept = found_kept c.args.number c.in-Some.place.now p es is sound.kept in
     let after = λ (w : Buffers). (
-      let view = lent_view 0 4294967295 c.args.number c.in-Some.place.now p es w sound.rising sound.kept sound.apart is in
-      let lent : IsSound (record { pool = with_value c.in-Some.place.now.key p w; places = c.self.inside.places }) = record {
-        rising = rw view (numbered_changed 0 4294967295 c.args.number w _ sound.rising);
-        kept = lent_kept c.in-Some.place.now p es w kept sound.kept;
-        apart = sound.apart;
-      } in
-      lent) in
+    let view = lent_view 0 4294967295 c.args.number c.in-Some.place.now p es w sound.rising sound.kept sound.apart is in
+    let lent : IsSound (record { pool = with_value c.in-Some.place.now.key p w; places = c.self.inside.places }) = record {
+      rising = rw view (numbered_changed 0 4294967295 c.args.number w _ sound.rising);
+      kept = lent_kept c.in-Some.place.now p es w kept sound.kept;
+      apart = sound.apart;
+    } in
+    lent) in
     (after, sound)
 
 pub returns : goal.returns
