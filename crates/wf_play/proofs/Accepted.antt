@@ -1,6 +1,6 @@
 -- A script that is accepted is a script of ticks.
 use Rattle.std.proofs.Common.{◌≡◌, ℕ, zero, suc, Bool, true, false, List, [], ◌∷◌, length, get_or, refl, sym, ap, ◌∙◌, arith}
-use Rattle.std.specs.Prelude.{replicate, IsTrue, ◌==◌, ◌&&◌}
+use Rattle.std.specs.Prelude.{replicate, Option, Some, None, IsTrue, ◌==◌, ◌&&◌}
 use Rattle.std.specs.List.{list_all}
 use Rattle.std.proofs.lemmas.Bool.{eqb-true}
 use Rattle.std.proofs.lemmas.Bool.Decides.{nat_tests}
@@ -10,8 +10,9 @@ use Rattle.wf_calls.specs.declared.ports.Modes.{Modes}
 use Rattle.wf_script.specs.declared.line.Line.{Line}
 use Rattle.wf_script.specs.declared.line.Verb.{Verb}
 use Rattle.wf_script.specs.declared.line.Verb.TheVariants as verb
+use Rattle.wf_script.specs.declared.name.Name.{Name}
 use Rattle.wf_script.specs.Script.{PlainScript}
-use Rattle.wf_script.specs.Text.{IsAccepted, is_tick, has_one_mode}
+use Rattle.wf_script.specs.TickText.{IsAccepted, is_tick, has_one_mode}
 use Rattle.wf_play.specs.Ticks.{tick_line, tick_script}
 
 -- a list of one element
@@ -25,14 +26,22 @@ both true b h = (refl, h)
 both false b h = absurd cc
 
 -- a line that is a tick of the clock
-tick_is : (client : ℕ) (v : Verb) → is_tick (record { client = client; verb = v }) ≡ true → record { client = client; verb = v } ≡ tick_line
-tick_is client verb.Tick h = ap (λ (n : ℕ). record { client = n; verb = verb.Tick }) (eqb-true client 0 h)
+tick_is : (client : ℕ) (name : Option Name) (v : Verb) → is_tick (record { client = client; name = name; verb = v }) ≡ true → record { client = client; name = name; verb = v } ≡ tick_line
+tick_is client None verb.Tick h = ap (λ (n : ℕ). record { client = n; name = None; verb = verb.Tick }) (eqb-true client 0 (both (client == 0) true h).0)
+tick_is client (Some name) verb.Tick h = let no : false ≡ true = (both (client == 0) false h).1 in absurd cc
+tick_is client name (verb.StreamNew width height format buffers) h = absurd cc
+tick_is client name (verb.Acquire stream) h = absurd cc
+tick_is client name verb.Post h = absurd cc
+tick_is client name verb.Discard h = absurd cc
+tick_is client name (verb.Stat what) h = absurd cc
+tick_is client name (verb.Paint paint) h = absurd cc
+tick_is client name (verb.Frame stream paint) h = absurd cc
 
 ticks_are : (lines : List Line) → list_all is_tick lines ≡ true → lines ≡ replicate (length lines) tick_line
 ticks_are [] h = refl
 ticks_are (l ∷ ls) h =
     let parts = both (is_tick l) (list_all is_tick ls) h in
-    ap (λ (line : Line). line ∷ ls) (tick_is l.client l.verb parts.0) ∙ ap (λ (lines : List Line). tick_line ∷ lines) (ticks_are ls parts.1)
+    ap (λ (line : Line). line ∷ ls) (tick_is l.client l.name l.verb parts.0) ∙ ap (λ (lines : List Line). tick_line ∷ lines) (ticks_are ls parts.1)
 
 pub accepted_is : (script : PlainScript) (modes : Modes) (sizes : List Size) (d : Size) → IsAccepted script → modes ≡ get_or script.ports.modes.items 0 modes → sizes ≡ modes.sizes.items
     → script ≡ tick_script (get_or sizes 0 d) (length script.lines)

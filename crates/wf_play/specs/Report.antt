@@ -4,7 +4,7 @@ use Rattle.wf_io.specs.Bytes.{Puts, PutsNothing, PutsPart}
 use Rattle.wf_io.specs.Causes.{Rose}
 use Rattle.wf_calls.specs.declared.order.Turn.{Turn}
 use Rattle.wf_script.specs.Script.{PlainScript}
-use Rattle.wf_script.specs.Text.{Stands, StandsForNone}
+use Rattle.wf_script.specs.TickText.{Stands, StandsForNone}
 use Rattle.wf_turn.specs.Play.{IsLegal, film, serial_order}
 use Rattle.wf_play.specs.declared.report.Status.{Status}
 use Rattle.wf_play.specs.declared.report.Status.TheVariants as status

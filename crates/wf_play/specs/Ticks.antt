@@ -1,5 +1,5 @@
 -- A script of ticks: the turns and the frames that it comes to.
-use Rattle.std.specs.Prelude.{ℕ, zero, suc, ◌+◌, List, [], ◌∷◌, ◌++◌, replicate}
+use Rattle.std.specs.Prelude.{ℕ, zero, suc, ◌+◌, List, [], ◌∷◌, ◌++◌, None, replicate}
 use Rattle.wf_pixel.specs.declared.Size.{Size}
 use Rattle.wf_pixel.specs.declared.Format.TheVariants.{Rgba8Pre}
 use Rattle.wf_image.specs.Bitmap.{Bitmap}
@@ -13,7 +13,7 @@ use Rattle.wf_model.specs.Display.{scene_of_port}
 use Rattle.wf_model.specs.Picture.{picture}
 
 abbrev pub tick_line : Line
-tick_line = record { client = 0; verb = verb.Tick }
+tick_line = record { client = 0; name = None; verb = verb.Tick }
 
 -- a script of one port of this size and so many ticks
 abbrev pub tick_script : Size → ℕ → PlainScript

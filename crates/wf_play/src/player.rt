@@ -6,7 +6,7 @@ ghost use Rattle.wf_io.specs.Causes.{HasCause};
 ghost use Rattle.wf_pixel.specs.Choice.{has_sides};
 ghost use Rattle.wf_calls.specs.declared.order.Turn.{Turn};
 ghost use Rattle.wf_film.specs.Film.{frame_bytes, film_bytes};
-ghost use Rattle.wf_script.specs.Text.{IsAccepted};
+ghost use Rattle.wf_script.specs.TickText.{IsAccepted};
 ghost use Rattle.wf_play.specs.Ticks.{entry, tick_script, tick_turns, turns_of, port_scene, port_picture, frames_from};
 ghost use Rattle.wf_play.specs.Player.{PlaysFilm, IsCaused};
 

@@ -4,7 +4,7 @@ ghost use Rattle.std.specs.Prelude.{◌≡◌, ◌≢◌, ◌≤◌, ◌⊎◌, 
 ghost use Rattle.wf_io.specs.Bytes.{PutsNothing};
 ghost use Rattle.wf_io.specs.Causes.{Rose};
 ghost use Rattle.wf_script.specs.Script.{PlainScript};
-ghost use Rattle.wf_script.specs.Text.{IsAccepted, Stands};
+ghost use Rattle.wf_script.specs.TickText.{IsAccepted, Stands};
 ghost use Rattle.wf_play.specs.Report.{script_limit, IsPlainFilm, IsComplete, SaysOfInput, SaysOfFilm, IsCaused, ReadsScript, IsReadStop};
 ghost use Rattle.wf_play.specs.Words.{AreAccepted};
 
@@ -17,7 +17,7 @@ use std::sync::Wait;
 use std::thread::Threads;
 use wf_calls::Order;
 use wf_io::{ReadStop, Sink, Source, read_all};
-use wf_script::{Script, ScriptFault, parse};
+use wf_script::{Script, ScriptFault, parse_ticks};
 
 /// The longest script, in bytes.
 const SCRIPT_LIMIT: usize = 1_048_576;
@@ -72,10 +72,12 @@ fn read_script<I: Source>(alloc: Global, input: &mut I) -> Result<Script, Status
         Err(ReadStop::TooLong) => return Err(Status::TooLong),
         Err(ReadStop::NoMemory) => return Err(Status::NoMemory),
     };
-    match parse(alloc, &bytes) {
+    match parse_ticks(alloc, &bytes) {
         Ok(script) => Ok(script),
         Err(ScriptFault::Line { line, rule }) => Err(Status::Refused { line, rule }),
         Err(ScriptFault::NoMemory) => Err(Status::NoMemory),
+        // The reader of ticks answers no other fault.
+        Err(_) => unreachable!(),
     }
 }
 

@@ -1,10 +1,10 @@
 -- Texts that are cut into lines and words.
-use Rattle.std.proofs.Common.{◌≡◌, ◌≢◌, ◌∙◌, ℕ, ◌+◌, ◌<◌, ◌≤◌, ◌==◌, ◌⊎◌, inl, inr, Bool, true, false, not, Option, Some, None, MatchOption, Bor, List, [], ◌∷◌, ◌++◌, length, take, drop, filter, position, cond, unwrap_or, refl, sym, ap, arith, append-nil}
+use Rattle.std.proofs.Common.{◌≡◌, ◌≢◌, ◌∙◌, ℕ, ◌+◌, ◌<◌, ◌==◌, ◌⊎◌, inl, inr, Bool, not, Option, Some, None, MatchOption, Bor, List, [], ◌∷◌, ◌++◌, length, take, filter, position, unwrap_or, refl, sym, ap, arith, append-nil}
 use Rattle.std.proofs.lemmas.Bool.{cases_lt, cases_Bool, lt-ltb, le-ltb, eqb-true}
 use Rattle.std.proofs.lemmas.List.{drop_all, take_all}
 use Rattle.std.proofs.lemmas.List.Splits.{slice_split_first, slice_split_none}
 use Rattle.std.proofs.lemmas.List.Sums.{fails_before_first, prefix_len-le-length}
-use Rattle.std.specs.List.{before_first, after_first, position_or_len, slice_split, onto_first}
+use Rattle.std.specs.List.{before_first, after_first, position_or_len, slice_split}
 use Rattle.wf_script.specs.Words.{Word, is_blank, is_word, lines_of, words_in, without_empty_end, without_return}
 
 module _ (p : ℕ → Bool) where

@@ -6,7 +6,7 @@ use Rattle.wf_script.specs.declared.fault.ScriptFault.TheVariants as fault
 use Rattle.wf_script.specs.Canonical.{canonical}
 use Rattle.wf_script.specs.Forms.{acquire_words, frame_words, no_words, paint_words, stat_words_of, stream_words}
 use Rattle.wf_script.specs.Grammar.{end_line, event_line, line_of, parts_of, pipes_line, port_line, read_line, read_lines, read_script, sizes}
-use Rattle.wf_script.specs.PaintWords.{checker, color, fill, hex_byte, hex_pixel, hex_pixels, paint_of, ramp, rectangle, row, row_number}
+use Rattle.wf_script.specs.PaintWords.{checker, color, hex_byte, hex_pixel, hex_pixels, paint_of, rectangle, row, row_number}
 use Rattle.wf_script.specs.Script.{PlainScript}
 use Rattle.wf_script.specs.Words.{count_in, digits_of, handle_of, integer_in, integer_of, lines_of, name_of, size_of, words_in}
 

@@ -1,8 +1,6 @@
 -- The sizes of a port, read one by one.
-use Rattle.std.proofs.Common.{◌≡◌, ◌∙◌, Option, Some, None, Result, Ok, Err, List, [], ◌∷◌, ◌++◌, refl, sym, ap, append_assoc, append-nil}
-use Rattle.wf_words.specs.Refusals.{◌>>=◌, found_or}
+use Rattle.std.proofs.Common.{◌≡◌, Some, None, Ok, Err, List, [], ◌∷◌, ◌++◌, refl, append-nil}
 use Rattle.wf_pixel.specs.declared.Size.{Size}
-use Rattle.wf_script.specs.declared.rule.Rule.{Rule}
 use Rattle.wf_script.specs.declared.rule.Rule.TheVariants as rule
 use Rattle.wf_script.proofs.Behind.{behind, joined}
 use Rattle.wf_script.specs.Grammar.{sizes}

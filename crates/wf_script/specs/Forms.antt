@@ -1,6 +1,6 @@
 -- The forms of event lines: for each verb its word, whether its line binds a name, and the words behind it.
-use Rattle.std.specs.Prelude.{ℕ, Bool, true, false, not, ◌==◌, ℤ, List, [], ◌∷◌, length, codes, Option, Some, None, option_to_list, Result, Ok, Err}
-use Rattle.wf_words.specs.Refusals.{◌>>=◌, refuse_if, found_or}
+use Rattle.std.specs.Prelude.{Bool, true, false, List, [], ◌∷◌, codes, option_to_list, Result, Ok}
+use Rattle.wf_words.specs.Refusals.{◌>>=◌, found_or}
 use Rattle.wf_script.specs.declared.form.Form.{Form}
 use Rattle.wf_script.specs.declared.form.Form.TheVariants as form
 use Rattle.wf_script.specs.declared.line.Verb.{Verb}

@@ -1,4 +1,4 @@
-use Rattle.std.proofs.Common.{◌≡◌, ◌∙◌, ◌∷◌, List, length, sym, ap, arith}
+use Rattle.std.proofs.Common.{◌∙◌, List, length, sym, ap, arith}
 use Rattle.wf_script.specs.Grammar.{sizes}
 use Rattle.wf_script.specs.Words.{Word, words_in}
 use Rattle.wf_script.proofs.Behind.{behind}

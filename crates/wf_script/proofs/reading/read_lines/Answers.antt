@@ -1,5 +1,5 @@
-use Rattle.std.proofs.Common.{◌≡◌, ◌∙◌, ◌+◌, ◌<◌, ◌≤◌, ◌∷◌, ℕ, List, sym, ap, arith}
-use Rattle.wf_script.specs.Grammar.{Answers, nothing_read, read_lines}
+use Rattle.std.proofs.Common.{◌∙◌, ◌≤◌, ℕ, List, sym, ap, arith}
+use Rattle.wf_script.specs.Grammar.{nothing_read, read_lines}
 use Rattle.wf_script.specs.Reader.{reading}
 use Rattle.wf_script.specs.Words.{lines_of}
 use Rattle.wf_script.proofs.LineRow.{ended, line_fault_is, line_taken, no_end, too_many}

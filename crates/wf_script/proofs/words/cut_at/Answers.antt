@@ -1,4 +1,4 @@
-use Rattle.std.proofs.Common.{◌∙◌, ℕ, ◌+◌, ◌==◌, take, drop, length, unwrap_or, ap}
+use Rattle.std.proofs.Common.{◌∙◌, ◌+◌, ◌==◌, take, drop, length, unwrap_or, ap}
 use Rattle.wf_script.proofs.Cuts.{place_or_end}
 use Rattle.wf_script.proofs.words.cut_at.Goals as goal
 
