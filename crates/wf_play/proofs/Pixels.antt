@@ -1,12 +1,11 @@
 -- Pixels of one colour.
-use Rattle.std.proofs.Common.{◌≡◌, ℕ, zero, suc, ◌+◌, ◌*◌, ◌/◌, ◌≤◌, List, [], ◌∷◌, ◌++◌, length, take, drop, refl, sym, ap, ◌∙◌, append_assoc, arith, length-append, length-drop}
+use Rattle.std.proofs.Common.{◌≡◌, ℕ, zero, suc, ◌+◌, ◌*◌, ◌/◌, ◌≤◌, List, [], ◌∷◌, ◌++◌, length, take, drop, refl, sym, ap, ◌∙◌, arith}
 use Rattle.std.specs.Prelude.{flat_map, reverse, ℤ, pos, Option, Some, None}
 use Rattle.std.specs.List.{range_with_len}
 use Rattle.std.proofs.Math.Nat.{zero-add, suc-add, zero-mul, mul_comm}
-use Rattle.std.proofs.lemmas.List.{append-nil, take_at, drop_at, drop-drop, drop-append-le}
+use Rattle.std.proofs.lemmas.List.{take_at, drop-drop}
 use Rattle.std.proofs.Math.Seq.{drop-append-add}
 use Rattle.wf_pixel.specs.declared.Rgba.{Rgba}
-use Rattle.wf_pixel.specs.declared.Size.{Size}
 use Rattle.wf_pixel.specs.declared.Format.TheVariants.{Rgba8Pre}
 use Rattle.wf_image.specs.Bitmap.{Bitmap, image_bytes, pixel, stored, drawn_row, drawn}
 use Rattle.wf_image.specs.Lending.{with_bytes}

@@ -1,9 +1,9 @@
 -- What the player's answers say, from what was put and noted.
-use Rattle.std.proofs.Common.{◌≡◌, ℕ, ◌+◌, ◌^◌, ◌<◌, ◌≤◌, List, [], Result, Ok, Err, sym, ap, subst, ◌∙◌, arith}
+use Rattle.std.proofs.Common.{◌≡◌, ℕ, ◌^◌, ◌<◌, ◌≤◌, List, [], Result, Ok, Err, sym, ap, subst, ◌∙◌}
 use Rattle.wf_io.specs.Bytes.{Puts, PutsPart}
 use Rattle.wf_pixel.specs.declared.Size.{Size}
 use Rattle.wf_calls.specs.declared.order.Turn.{Turn}
-use Rattle.wf_turn.specs.Play.{film, serial_order, marks, IsLegal}
+use Rattle.wf_turn.specs.Play.{film, marks}
 use Rattle.wf_play.specs.declared.player.PlayStop.{PlayStop}
 use Rattle.wf_play.specs.declared.player.PlayStop.TheVariants as stop
 use Rattle.wf_play.specs.Player.{PlaysFilm}

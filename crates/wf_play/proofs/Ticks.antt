@@ -1,5 +1,5 @@
 -- What the definitions say of a script of ticks: its turns, its frames, and that its programs are through.
-use Rattle.std.proofs.Common.{◌≡◌, ℕ, zero, suc, ◌+◌, ◌-◌, ◌*◌, ◌^◌, ◌<◌, ◌≤◌, Bool, true, false, List, [], ◌∷◌, ◌++◌, length, refl, sym, ap, subst, ◌∙◌, arith, append_assoc, eq-eqb}
+use Rattle.std.proofs.Common.{◌≡◌, ℕ, zero, suc, ◌+◌, ◌-◌, ◌*◌, ◌^◌, ◌<◌, ◌≤◌, Bool, true, false, List, [], ◌∷◌, ◌++◌, length, refl, sym, ap, ◌∙◌, arith, append_assoc, eq-eqb}
 use Rattle.std.specs.List.{enumerate_from}
 use Rattle.std.proofs.lemmas.Bool.{lt-ltb}
 use Rattle.std.proofs.lemmas.List.{append-nil, length-replicate}
@@ -13,20 +13,13 @@ use Rattle.wf_stream.specs.Streams.{KeptStream}
 use Rattle.wf_calls.specs.declared.call.Job.{Job}
 use Rattle.wf_calls.specs.declared.call.JobKind.TheVariants as kind
 use Rattle.wf_calls.specs.declared.order.Turn.{Turn}
-use Rattle.wf_calls.specs.declared.ports.Ports.{Ports}
-use Rattle.wf_film.specs.Film.{Frame, frame_of, film_bytes}
+use Rattle.wf_film.specs.Film.{Frame, film_bytes}
 use Rattle.wf_script.specs.declared.line.Line.{Line}
-use Rattle.wf_script.specs.declared.line.Verb.TheVariants as verb
-use Rattle.wf_script.specs.Script.{PlainScript}
-use Rattle.wf_model.specs.Display.{black}
 use Rattle.wf_model.specs.Frames.{is_of_frame}
-use Rattle.wf_model.specs.State.{screen}
-use Rattle.wf_model.specs.Picture.{picture}
-use Rattle.wf_model.specs.State.{State, opening}
 use Rattle.wf_model.specs.Step.{step}
 use Rattle.wf_play.specs.Ticks.{port_scene, port_picture, tick_line, tick_script, entry, tick_turns, turns_of, tick_frame, frames_from}
-use Rattle.wf_turn.specs.Program.{Program, Stage, fresh, contexts, ports, ending, skipped}
-use Rattle.wf_turn.specs.Turns.{Show, Setup, turn, opening_show, setup_of, is_over}
+use Rattle.wf_turn.specs.Program.{Program, Stage, fresh, ports, ending, skipped}
+use Rattle.wf_turn.specs.Turns.{Show, Setup, turn, opening_show, setup_of}
 use Rattle.wf_turn.specs.Play.{same_turn, is_marked, replay_turn, replay_from, first_client, serial_from, serial_order, replay, IsLegal, IsComplete, film, over_after, frames_after}
 use Rattle.wf_words.specs.Keyed.{is_in}
 
@@ -122,7 +115,7 @@ stay_numbered zero place p = refl
 stay_numbered (suc n) place p = refl
 
 stay_front : (n place : ℕ) (rest : List (ℕ × Line)) → Stay rest → Stay (numbered place n ++ rest)
-stay_front zero place rest stay = stay
+stay_front zero place rest stay p = stay p
 stay_front (suc n) place rest stay p = refl
 
 below_end : (tick : ℕ) → tick < 2 ^ 20 → nat_lt tick (2 ^ 64 - 1) ≡ true

@@ -1,5 +1,5 @@
 -- What the player promises of the film that it plays.
-use Rattle.std.specs.Prelude.{◌≡◌, ℕ, ◌≤◌, List, [], length, flat_map, Result, Ok, Err}
+use Rattle.std.specs.Prelude.{◌≡◌, ℕ, ◌≤◌, List, [], Result, Ok, Err}
 use Rattle.wf_io.specs.Bytes.{Puts, PutsNothing, PutsPart}
 use Rattle.wf_io.specs.Causes.{Rose}
 use Rattle.wf_calls.specs.declared.order.Turn.{Turn}

@@ -187,13 +187,13 @@ lines_of client lines = filter (λ l. l.1.client == client) (enumerate_from 0 li
 abbrev pub program : PlainScript → ℕ → Program
 program script client =
     skipped
-      (record {
-        lines = [];
-        own = [];
-        learned = [];
-        canvas = None;
-        stage = fresh;
-        tick = 0;
-        port_count = length script.ports.modes.items;
-      })
-      (lines_of client script.lines)
+    (record {
+      lines = [];
+      own = [];
+      learned = [];
+      canvas = None;
+      stage = fresh;
+      tick = 0;
+      port_count = length script.ports.modes.items;
+    })
+    (lines_of client script.lines)

@@ -1,4 +1,4 @@
-use Rattle.std.proofs.Common.{◌≡◌, List, length, ap, sym, subst, ◌∙◌, arith}
+use Rattle.std.proofs.Common.{◌≡◌, List, length, ap, sym, subst, ◌∙◌}
 use Rattle.wf_pixel.specs.declared.Size.{Size}
 use Rattle.wf_image.specs.Bitmap.{Bitmap, drawn}
 use Rattle.wf_script.specs.declared.line.Line.{Line}

@@ -1,8 +1,5 @@
-use Rattle.std.proofs.Common.{◌+◌, List, ◌++◌, length, ap, sym, ◌∙◌, arith}
+use Rattle.std.proofs.Common.{◌+◌, length, ap, arith}
 use Rattle.std.proofs.lemmas.Result.{err_from_is_err_and}
-use Rattle.wf_calls.specs.declared.order.Turn.{Turn}
-use Rattle.wf_film.specs.Film.{frame_of, frame_bytes}
-use Rattle.wf_play.specs.Ticks.{tick_turns}
 use Rattle.wf_image.specs.Bitmap.{Bitmap, pixel_bytes, drawn}
 use Rattle.wf_play.proofs.FilmParts.{length-turns_of, length-shown, length-frames, notes_tick, puts_frame, stops_in_frame}
 use Rattle.wf_play.proofs.player.put_ticks.Goals as goal

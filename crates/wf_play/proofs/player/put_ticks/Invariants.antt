@@ -1,4 +1,4 @@
-use Rattle.std.proofs.Common.{◌≡◌, ℕ, ◌+◌, ◌*◌, ◌<◌, ◌≤◌, length, vec_capacity}
+use Rattle.std.proofs.Common.{◌≡◌, ◌+◌, ◌*◌, ◌≤◌, length, vec_capacity}
 use Rattle.std.specs.Prelude.{flat_map}
 use Rattle.wf_io.specs.Bytes.{Puts}
 use Rattle.wf_film.specs.Film.{frame_bytes}

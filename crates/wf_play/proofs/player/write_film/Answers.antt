@@ -1,9 +1,8 @@
-use Rattle.std.proofs.Common.{List, Ok, Err, length, ap, sym, ◌∙◌, refl, subst, arith}
+use Rattle.std.proofs.Common.{List, Ok, Err, length, ap, ◌∙◌, refl, subst, arith}
 use Rattle.wf_calls.specs.declared.order.Turn.{Turn}
 use Rattle.wf_film.specs.Film.{tail_bytes}
 use Rattle.wf_io.specs.Bytes.{Puts, PutsPart}
 use Rattle.wf_play.specs.declared.player.PlayStop.{PlayStop}
-use Rattle.wf_play.specs.Ticks.{turns_of}
 use Rattle.wf_play.proofs.FilmParts.{length-turns_of, puts_whole, stops_in_magic, stops_in_frames, stops_in_tail}
 use Rattle.wf_play.proofs.Plays.{plays_whole, plays_front}
 use Rattle.wf_play.proofs.player.write_film.Goals as goal

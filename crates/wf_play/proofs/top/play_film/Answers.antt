@@ -1,5 +1,3 @@
-use Rattle.wf_turn.specs.Play.{film, serial_order}
-use Rattle.std.proofs.Common.{[]}
 use Rattle.wf_play.proofs.FilmParts.{as_many}
 use Rattle.wf_play.proofs.top.play_film.Goals as goal
 
