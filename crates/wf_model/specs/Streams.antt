@@ -1,5 +1,5 @@
 -- The calls on streams.
-use Rattle.std.specs.Prelude.{ℕ, ◌+◌, ◌*◌, Bool, false, not, ◌&&◌, ◌||◌, ◌==◌, nat_lt, nat_le, ℤ, pos, List, [], ◌∷◌, ◌++◌, length, find, Option, Some, None, Result, Ok, Err, if◌then◌else◌}
+use Rattle.std.specs.Prelude.{ℕ, ◌+◌, Bool, false, not, ◌&&◌, ◌||◌, ℤ, pos, [], ◌∷◌, ◌++◌, Option, Some, None, Result, Ok, Err, if◌then◌else◌}
 use Rattle.wf_words.specs.Refusals.{◌>>=◌}
 use Rattle.wf_words.specs.Whole.{count_of}
 use Rattle.wf_pixel.specs.declared.Size.{Size}
@@ -9,8 +9,8 @@ use Rattle.wf_image.specs.declared.canvas.Canvas.{Canvas}
 use Rattle.wf_image.specs.Bitmap.{blank}
 use Rattle.wf_life.specs.Handles.{is_full}
 use Rattle.wf_stream.specs.declared.Held.{Held}
-use Rattle.wf_stream.specs.Buffers.{Buffers, fresh, acquired, is_blocked, buffer_bytes}
-use Rattle.wf_stream.specs.Streams.{KeptStream, stream_at, change_stream, held}
+use Rattle.wf_stream.specs.Buffers.{Buffers, fresh, acquired, is_blocked}
+use Rattle.wf_stream.specs.Streams.{KeptStream, stream_at, stream_of, change_stream, held, has_no_room}
 use Rattle.wf_calls.specs.declared.code.Code.TheVariants as code
 use Rattle.wf_calls.specs.declared.code.Refusal.{Refusal}
 use Rattle.wf_calls.specs.declared.call.Payload.TheVariants as payload
@@ -33,11 +33,7 @@ abbrev pub is_stream : ℤ → ℤ → ℤ → Bool
 is_stream width height buffers = is_wide_side width && is_wide_side height && is_between (pos 2) (pos 4) buffers
 
 abbrev pub live_stream : ℕ → State → Result KeptStream Refusal
-live_stream handle h = found code.BadHandle (find (λ s. (s.handle == handle) && not (handle == 0)) h.streams)
-
--- 64 streams are kept, or the bytes of all buffers would pass 134,217,728
-abbrev pub has_no_room : Buffers → List KeptStream → Bool
-has_no_room new streams = nat_le 64 (length streams) || nat_lt 134217728 ((held streams).bytes + buffer_bytes new)
+live_stream handle h = found code.BadHandle (stream_of handle h.streams)
 
 -- one more stream, whose handle is answered
 abbrev pub stream_made : Buffers → State → State × ℕ
