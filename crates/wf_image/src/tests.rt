@@ -102,6 +102,88 @@ fn a_fill_is_stored_by_the_format(rt: HostRuntime) -> Result<(), Fail> {
     Ok(())
 }
 
+/// The paints on an image of 3 by 1 each, one under the other: a fill, a rectangle over the left edge, one over the
+/// right edge, squares of 1 by 1, a ramp, and a row of one pixel.
+fn all_paints(alloc: Global, format: Format) -> Result<Vec<u8>, Fail> {
+    let size = Size { w: 3, h: 1 };
+    let mut bytes = Vec::new(alloc);
+    let fill = Paint::Fill { color: RED };
+    bytes.extend_from_slice(painted(alloc, size, format, &fill)?.bytes())?;
+    for x in [-1, 2] {
+        let area = Rect {
+            x,
+            y: -1,
+            w: 2,
+            h: 3,
+        };
+        let over = Paint::Rectangle { area, color: BLUE };
+        bytes.extend_from_slice(painted(alloc, size, format, &over)?.bytes())?;
+    }
+    let squares = Paint::Checker {
+        n: 1,
+        first: RED,
+        second: BLUE,
+    };
+    bytes.extend_from_slice(painted(alloc, size, format, &squares)?.bytes())?;
+    let ramp = Paint::Ramp {
+        first: RED,
+        second: BLUE,
+    };
+    bytes.extend_from_slice(painted(alloc, size, format, &ramp)?.bytes())?;
+    let pixels = Pixels::new(vec![in alloc; BLUE; 1]?);
+    let row = Paint::Row { y: 0, pixels };
+    bytes.extend_from_slice(painted(alloc, size, format, &row)?.bytes())?;
+    Ok(bytes)
+}
+
+#[test]
+fn every_format_takes_every_paint(rt: HostRuntime) -> Result<(), Fail> {
+    for format in [Format::Rgba8, Format::Rgba8Pre, Format::Rgbx8] {
+        let want = [
+            200, 1, 2, 9, 200, 1, 2, 9, 200, 1, 2, 9, 3, 4, 100, 7, 0, 0, 0, 0, 0, 0, 0, 0, 0, 0,
+            0, 0, 0, 0, 0, 0, 3, 4, 100, 7, 200, 1, 2, 9, 3, 4, 100, 7, 200, 1, 2, 9, 200, 1, 2, 9,
+            101, 2, 51, 8, 3, 4, 100, 7, 3, 4, 100, 7, 0, 0, 0, 0, 0, 0, 0, 0,
+        ];
+        let bytes = all_paints(rt.alloc(), format)?;
+        assert_eq!(rt; bytes.as_slice(), want.as_slice(), "{format:?}");
+    }
+    let masks = all_paints(rt.alloc(), Format::A8)?;
+    let want = [9, 9, 9, 7, 0, 0, 0, 0, 7, 9, 7, 9, 9, 8, 7, 7, 0, 0];
+    assert_eq!(rt; masks.as_slice(), want.as_slice());
+    Ok(())
+}
+
+#[test]
+fn an_image_of_one_pixel_takes_every_paint(rt: HostRuntime) -> Result<(), Fail> {
+    let alloc = rt.alloc();
+    let size = Size { w: 1, h: 1 };
+    for format in [Format::Rgba8, Format::Rgba8Pre, Format::Rgbx8] {
+        let squares = Paint::Checker {
+            n: 1024,
+            first: RED,
+            second: BLUE,
+        };
+        let image = painted(alloc, size, format, &squares)?;
+        assert_eq!(rt; image.bytes(), [200, 1, 2, 9].as_slice(), "{format:?}");
+        let ramp = Paint::Ramp {
+            first: RED,
+            second: BLUE,
+        };
+        let image = painted(alloc, size, format, &ramp)?;
+        assert_eq!(rt; image.bytes(), [200, 1, 2, 9].as_slice(), "{format:?}");
+        let area = Rect {
+            x: -1,
+            y: -1,
+            w: 3,
+            h: 3,
+        };
+        let over = Paint::Rectangle { area, color: BLUE };
+        let image = painted(alloc, size, format, &over)?;
+        assert_eq!(rt; image.bytes(), [3, 4, 100, 7].as_slice(), "{format:?}");
+    }
+    Ok(())
+}
+
 #[test]
 fn rectangles_are_clipped_at_every_edge(rt: HostRuntime) -> Result<(), Fail> {
     let alloc = rt.alloc();
