@@ -65,8 +65,8 @@ impl Handles {
         }
     }
 
-    /// Every handle was given.
-    pub fn is_full(&self) -> bool
+    /// All 4,294,967,291 handles were given.
+    pub fn full(&self) -> bool
         ensures { result ≡ is_full self.now.made }
     {
         self.made >= MOST_HANDLES
@@ -81,7 +81,7 @@ impl Handles {
         ensures fresh { IfOk result (λ handle. is_live handle self.old.live ≡ false) }
         ensures orderly { IsOrderly self.new }
     {
-        if self.made >= MOST_HANDLES {
+        if self.full() {
             return Err(MakeStop::Limit);
         }
         let handle = self.made + 1;

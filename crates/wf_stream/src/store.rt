@@ -74,7 +74,8 @@ impl Store {
         }
     }
 
-    /// A screen's stream, which has three buffers and no handle. It gives the stream's number.
+    /// A screen's stream, which has three buffers and no handle. It gives the stream's number. Fewer than four screens
+    /// were made: then at most three more streams were numbered than handles were given.
     pub fn screen(&mut self, size: Size) -> Result<u32, NoMemory>
         requires sides { IsTrue (has_sides size) }
         requires few { self.old.numbered ≤ self.old.made + 3 }
@@ -99,7 +100,7 @@ impl Store {
         ensures limit { IsErrOf result MakeStop.Limit ↔ IsTrue (has_no_room (fresh size format buffers) self.old.streams || is_full self.old.made) }
         ensures refused { OnErr result (self.new ≡ self.old) }
     {
-        if has_no_room(&self.streams, size, format, buffers) || self.handles.is_full() {
+        if has_no_room(&self.streams, size, format, buffers) || self.handles.full() {
             return Err(MakeStop::Limit);
         }
         let number = self.numbered + 1;

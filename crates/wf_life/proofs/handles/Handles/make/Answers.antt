@@ -1,4 +1,6 @@
-use Rattle.std.proofs.Common.{◌+◌, map, refl, arith}
+use Rattle.std.proofs.Common.{◌≡◌, ◌+◌, false, map, refl, sym, ap, ◌∙◌, arith}
+use Rattle.std.proofs.lemmas.Bool.Decides.{nat_tests}
+use Rattle.wf_life.specs.Handles.{Table, is_full}
 use Rattle.wf_life.specs.Inside.{live_of}
 use Rattle.wf_life.proofs.Tables.{live_made, rising_push, is_live_above, tally_more, tally_fits}
 use Rattle.wf_life.proofs.handles.Handles.make.Goals as goal
@@ -16,8 +18,9 @@ pub invariant_of-self-2 : goal.invariant_of-self-2
 invariant_of-self-2 c =
     let es = c.self.inside.live.entries in
     let live-is = live_made c.self.inside.made _ es c.insert.new.self.entries c.self.invariant.rising c.in-Ok.ensures.entries in
+    let left : is_full c.self.inside.made ≡ false = ap (λ (t : Table). is_full t.made) c.self.view_is ∙ sym c.full.ensures ∙ c.if-full.false in
     record {
-      limit = omega arith;
+      limit = grind (arith, nat_tests, left);
       rising = returns-clause-orderly c;
       tally = rw (live-is, c.place.ensures) (tally_more c.self.inside.counts (map live_of es) _ c.self.told c.self.invariant.tally);
     }

@@ -31,7 +31,7 @@ invariant_of-self-2 c =
     let last : c.hand_over.new.self ≡ streams ++ s ∷ [] =
     c.hand_over.ensures ∙ ap (hand_over n c.in-Ok-make.handle) c.in-Ok-push.ensures.pushed ∙ handed_last 0 c.self.inside.numbered c.in-Ok-make.handle streams _ sound.rising (omega arith)
     ∙ ap (λ (h : ℕ). streams ++ record s { handle = h } ∷ []) c.in-Ok-make.ensures.handle in
-    let left : is_full c.self.inside.handles.made ≡ false = sym c.is_full.ensures ∙ c.if-is_full.false in
+    let left : is_full c.self.inside.handles.made ≡ false = sym c.full.ensures ∙ c.if-full.false in
     let some : c.self.inside.handles.made < 4294967291 = grind (arith, nat_tests, left) in
     let orderly = rw c.in-Ok-make.ensures.made at c.in-Ok-make.ensures.orderly in
     rw (c.in-Ok-make.ensures.made, last) (record {
