@@ -8,7 +8,8 @@ use Rattle.std.specs.List.{list_all}
 use Rattle.wf_script.specs.declared.line.Line.{Line}
 use Rattle.wf_script.specs.declared.line.Verb.{Verb}
 use Rattle.wf_script.specs.declared.line.Verb.TheVariants as verb
-use Rattle.wf_script.specs.TickText.{event_line, is_tick, text_line}
+use Rattle.wf_script.specs.Canonical.{text_line}
+use Rattle.wf_script.specs.TickText.{event_line, is_tick}
 
 -- the one line that is a tick
 abbrev pub tick : Line

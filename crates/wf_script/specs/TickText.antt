@@ -1,7 +1,6 @@
 -- Scripts with one port of one mode that do nothing but tick: their text, and which one bytes stand for.
-use Rattle.std.specs.Prelude.{◌≡◌, ℕ, ◌+◌, ◌≤◌, ◌&&◌, ◌==◌, Bool, List, [], ◌∷◌, ◌++◌, length, map, flat_map, codes, decimal, IsTrue, true, false, is_none, Result, Ok, Err}
-use Rattle.std.specs.List.{join_by, list_all}
-use Rattle.wf_pixel.specs.declared.Size.{Size}
+use Rattle.std.specs.Prelude.{◌≡◌, ℕ, ◌+◌, ◌≤◌, ◌&&◌, ◌==◌, Bool, List, [], ◌∷◌, ◌++◌, length, flat_map, codes, decimal, IsTrue, true, false, is_none, Result, Ok, Err}
+use Rattle.std.specs.List.{list_all}
 use Rattle.wf_calls.specs.declared.ports.Modes.{Modes}
 use Rattle.wf_calls.specs.PortRules.{may_declare}
 use Rattle.wf_script.specs.declared.line.Line.{Line}
@@ -9,20 +8,9 @@ use Rattle.wf_script.specs.declared.line.Verb.{Verb}
 use Rattle.wf_script.specs.declared.line.Verb.TheVariants as verb
 use Rattle.wf_script.specs.declared.fault.ScriptFault.{ScriptFault}
 use Rattle.wf_script.specs.declared.fault.ScriptFault.TheVariants as fault
+use Rattle.wf_script.specs.Canonical.{text_line, port_text}
 use Rattle.wf_script.specs.Script.{PlainScript}
-
-abbrev pub Word : Type 0
-Word = List ℕ
-
--- words apart by one space, with a line feed behind them
-abbrev pub text_line : List Word → List ℕ
-text_line words = join_by (λ w. w) (codes " ") words ++ codes "\n"
-
-abbrev pub size_word : Size → Word
-size_word s = decimal s.w ++ codes "x" ++ decimal s.h
-
-abbrev pub port_line : Modes → List ℕ
-port_line m = text_line (codes "port" ∷ map size_word m.sizes.items)
+use Rattle.wf_script.specs.Words.{Word}
 
 -- the words of a tick
 abbrev pub words : Verb → List Word
@@ -35,7 +23,7 @@ event_line l = text_line (decimal l.client ∷ words l.verb)
 -- the header, the ports, the event lines and the end
 unfoldable pub canonical : PlainScript → List ℕ
 canonical script =
-    text_line (codes "WFS1" ∷ []) ++ flat_map port_line script.ports.modes.items ++ flat_map event_line script.lines
+    text_line (codes "WFS1" ∷ []) ++ flat_map port_text script.ports.modes.items ++ flat_map event_line script.lines
     ++ text_line (codes "end" ∷ [])
 
 -- a line of the clock
