@@ -78,8 +78,8 @@ impl Image {
     }
 }
 
-/// How many bytes a pixel takes.
-pub(crate) fn bytes_of_pixel(format: Format) -> usize
+/// How many bytes a pixel of a format takes: 1 for a mask, and 4 else.
+pub fn bytes_of_pixel(format: Format) -> usize
     ensures { result ≡ pixel_bytes format }
 {
     match format {

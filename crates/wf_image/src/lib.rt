@@ -13,5 +13,5 @@ mod tests;
 
 pub use canvas::Canvas;
 pub use contents::Contents;
-pub use image::Image;
+pub use image::{Image, bytes_of_pixel};
 pub use paint::{Paint, Pixels};

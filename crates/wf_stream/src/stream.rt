@@ -4,13 +4,13 @@ ghost use Rattle.std.specs.Prelude.{◌≡◌, ◌↔◌, ◌*◌, ◌<◌, ◌�
 ghost use Rattle.std.specs.List.{All};
 ghost use Rattle.std.specs.Vec.{vec_len, vec_capacity};
 ghost use Rattle.wf_pixel.specs.Choice.{has_sides};
-ghost use Rattle.wf_image.specs.Bitmap.{blank, pixel_bytes, image_bytes};
+ghost use Rattle.wf_image.specs.Bitmap.{blank, image_bytes};
 ghost use Rattle.wf_stream.specs.Buffers.{fresh, acquired, posted, discarded, newest, latched, latched_if, returned, is_blocked, away, HasShape, buffer_bytes};
 
 use std::alloc::Global;
 use std::marker::Model;
 use std::mem;
-use wf_image::{Canvas, Image, NoMemory};
+use wf_image::{Canvas, Image, NoMemory, bytes_of_pixel};
 use wf_pixel::{Format, Size};
 
 /// Why no write buffer was given.
@@ -248,15 +248,5 @@ pub(crate) fn bytes_of(size: Size, format: Format, buffers: u32) -> u64
     ensures bytes { result ≡ image_bytes size format * buffers }
     ensures most { result ≤ 16777216 }
 {
-    size.w as u64 * size.h as u64 * bytes_of_pixel(format) * buffers as u64
-}
-
-/// How many bytes a pixel takes.
-fn bytes_of_pixel(format: Format) -> u64
-    ensures { result ≡ pixel_bytes format }
-{
-    match format {
-        Format::A8 => 1,
-        _ => 4,
-    }
+    size.w as u64 * size.h as u64 * bytes_of_pixel(format) as u64 * buffers as u64
 }
