@@ -1,3 +1,4 @@
 pub mod Shelves
 pub mod Sizes
 pub mod Joined
+pub mod Lifetimes

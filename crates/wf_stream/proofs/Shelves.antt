@@ -67,7 +67,7 @@ change_below low high n f (s ∷ streams) rising under =
 abbrev pub AgreeBut : ℕ → Slots → Slots → Type 0
 AgreeBut key p q = (other : ℕ) → other ≢ key → kept_at other q ≡ kept_at other p
 
-pooled_same : (key : ℕ) (p q : Slots) → kept_at key q ≡ kept_at key p → pooled key q ≡ pooled key p
+pub pooled_same : (key : ℕ) (p q : Slots) → kept_at key q ≡ kept_at key p → pooled key q ≡ pooled key p
 pooled_same key p q same = cc
 
 -- streams of other keys are as they were
@@ -103,7 +103,7 @@ pub kept_push : (p : Slots) (es : Places) (e : ℕ × Place) → AreKept p es �
 kept_push p [] e kept new = (new, tt)
 kept_push p (x ∷ es) e kept new = (kept.0, kept_push p es e kept.1 new)
 
-none_push : (key : ℕ) (es : Places) (e : ℕ × Place) → HasNone key es → e.1.key ≢ key → HasNone key (es ++ e ∷ [])
+pub none_push : (key : ℕ) (es : Places) (e : ℕ × Place) → HasNone key es → e.1.key ≢ key → HasNone key (es ++ e ∷ [])
 none_push key [] e none other = (other, tt)
 none_push key (x ∷ es) e none other = (none.0, none_push key es e none.1 other)
 
@@ -216,12 +216,12 @@ handed_absent n handle (e ∷ es) found =
     grind (arith, nat_tests, later)
 
 -- what is kept under a key stands within the pool
-kept_inside : (key : ℕ) (p : Slots) → IsKept key p → key < length p
+pub kept_inside : (key : ℕ) (p : Slots) → IsKept key p → key < length p
 kept_inside key [] kept = cc
 kept_inside zero (x ∷ p) kept = omega arith
 kept_inside (suc key) (x ∷ p) kept = omega (arith, kept_inside key p kept)
 
-lent_slot : (key : ℕ) (p : Slots) (w : Buffers) → IsKept key p → kept_at key (with_value key p w) ≡ option_map (holding w) (kept_at key p)
+pub lent_slot : (key : ℕ) (p : Slots) (w : Buffers) → IsKept key p → kept_at key (with_value key p w) ≡ option_map (holding w) (kept_at key p)
 lent_slot key p w kept = get_or-set_same p key _ None (kept_inside key p kept)
 
 held_value : (w : Buffers) (slot : Option (Kept Buffers)) → IsSome slot → (fallback : Buffers) → unwrap_or (option_map (λ (kept : Kept Buffers). kept.value) (option_map (holding w) slot)) fallback ≡ w

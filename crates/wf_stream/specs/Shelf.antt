@@ -1,7 +1,7 @@
 -- How the streams are kept: a map from numbers to the places in a pool, each place with one number.
-use Rattle.std.specs.Prelude.{◌≢◌, ℕ, List, [], ◌∷◌, map, unwrap_or}
+use Rattle.std.specs.Prelude.{◌≡◌, ◌≢◌, ℕ, List, [], ◌∷◌, map, unwrap_or, None}
 use Rattle.wf_life.specs.declared.pool.Kept.{Kept}
-use Rattle.wf_life.specs.Pool.{IsKept, value_at}
+use Rattle.wf_life.specs.Pool.{IsKept, kept_at, value_at, count_at}
 use Rattle.std.specs.Prelude.{Option}
 use Rattle.wf_pixel.specs.declared.Format.TheVariants.{A8}
 use Rattle.wf_stream.specs.declared.streams.Place.{Place}
@@ -32,6 +32,15 @@ abbrev pub HasNone : ℕ → List (ℕ × Place) → Type 0
 HasNone key [] = Unit {0}
 HasNone key (e ∷ places) = (e.1.key ≢ key) × HasNone key places
 
+-- a key that no place has keeps nothing
+abbrev pub KeepsNoOther : List (Option (Kept Buffers)) → List (ℕ × Place) → Type 0
+KeepsNoOther pool places = (key : ℕ) → HasNone key places → kept_at key pool ≡ None
+
+-- the stream of each place has this one holder
+abbrev pub AreSole : List (Option (Kept Buffers)) → List (ℕ × Place) → Type 0
+AreSole pool [] = Unit {0}
+AreSole pool (e ∷ places) = (count_at e.1.key pool ≡ 1) × AreSole pool places
+
 -- no two places have one key
 abbrev pub AreApart : List (ℕ × Place) → Type 0
 AreApart [] = Unit {0}
@@ -41,3 +50,5 @@ pub record IsSound (s : Inside) : Type 0 where
   pub rising : IsNumbered 0 (streams_of s) 4294967295
   pub kept : AreKept s.pool s.places.entries
   pub apart : AreApart s.places.entries
+  pub sole : AreSole s.pool s.places.entries
+  pub no_other : KeepsNoOther s.pool s.places.entries

@@ -5,6 +5,7 @@ use Rattle.wf_life.specs.Pool.{with_value}
 use Rattle.wf_stream.specs.Buffers.{Buffers}
 use Rattle.wf_stream.specs.Shelf.{shelved, IsSound}
 use Rattle.wf_stream.proofs.Shelves.{buffers_lookup, found_kept, value_pooled, lent_view, lent_kept, numbered_changed}
+use Rattle.wf_stream.proofs.Lifetimes.{lent_sole, other_lent}
 use Rattle.wf_stream.proofs.streams.Streams.get_mut.Goals as goal
 
 pub returns-in-None : goal.returns-in-None
@@ -26,6 +27,8 @@ invariant_of-self-lent c _ =
       rising = rw view (numbered_changed 0 4294967295 c.args.number w _ sound.rising);
       kept = lent_kept c.in-Some.place.now p es w kept sound.kept;
       apart = sound.apart;
+      sole = lent_sole c.in-Some.place.now.key p es w kept sound.sole;
+      no_other = other_lent c.in-Some.place.now.key p es w kept sound.no_other;
     } in
     lent) in
     (after, sound)

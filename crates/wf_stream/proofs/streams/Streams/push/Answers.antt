@@ -1,6 +1,8 @@
-use Rattle.std.proofs.Common.{◌≤◌, refl, arith}
-use Rattle.wf_life.specs.Pool.{IsKept}
-use Rattle.wf_stream.proofs.Shelves.{shelf_push, shelf_same, agree_twice}
+use Rattle.std.proofs.Common.{◌≡◌, ℕ, ◌-◌, ◌≤◌, [], ◌∷◌, ◌++◌, None, refl, ap, ◌∙◌, arith}
+use Rattle.wf_life.specs.Pool.{IsKept, kept_at, count_at, count_of}
+use Rattle.wf_stream.specs.declared.streams.Place.{Place}
+use Rattle.wf_stream.proofs.Shelves.{shelf_push, shelf_same, agree_twice, insert_last, none_free}
+use Rattle.wf_stream.proofs.Lifetimes.{sole_same, sole_push, other_push, other_same, let_go}
 use Rattle.wf_stream.proofs.streams.Streams.push.Goals as goal
 
 pub invariant_of-self-in-Ok-insert : goal.invariant_of-self-in-Ok-insert
@@ -9,7 +11,20 @@ invariant_of-self-in-Ok-insert c =
     let fits : c.args.number ≤ 4294967295 = omega (arith, c.ranges.number.fits) in
     let new : IsKept c.in-Ok.key c.put.new.self = rw c.in-Ok.ensures.kept.changed refl in
     let all = shelf_push c.args.number _ c.self.inside.pool c.put.new.self c.self.inside.places.entries c.insert.new.self.entries c.requires.counted above fits c.self.invariant.kept c.self.invariant.apart c.in-Ok.ensures.free c.in-Ok.ensures.kept.others new c.in-Ok-insert.ensures.entries in
-    record { rising = all.1; kept = all.2; apart = all.3 }
+    let p = c.self.inside.pool in
+    let es = c.self.inside.places.entries in
+    let e : ℕ × Place = (c.args.number, record { key = c.in-Ok.key; handle = c.args.handle }) in
+    let last : c.insert.new.self.entries ≡ es ++ e ∷ [] = c.in-Ok-insert.ensures.entries ∙ insert_last 0 (c.args.number - 1) c.args.number e.1 p es above (omega (arith, c.requires.counted)) in
+    let agree = c.in-Ok.ensures.kept.others in
+    let none = none_free c.in-Ok.key p es c.in-Ok.ensures.free c.self.invariant.kept in
+    let one : count_at c.in-Ok.key c.put.new.self ≡ 1 = ap count_of c.in-Ok.ensures.kept.changed in
+    record {
+      rising = all.1;
+      kept = all.2;
+      apart = all.3;
+      sole = rw last (sole_push c.put.new.self es e (sole_same c.in-Ok.key p c.put.new.self es agree none c.self.invariant.sole) one);
+      no_other = rw last (other_push p c.put.new.self es e agree c.self.invariant.no_other);
+    }
 
 pub returns-clause-pushed : goal.returns-clause-pushed
 returns-clause-pushed c =
@@ -23,7 +38,18 @@ pub invariant_of-self-in_default-insert : goal.invariant_of-self-in_default-inse
 invariant_of-self-in_default-insert c =
     let agree = agree_twice c.in-Ok.key c.self.inside.pool c.put.new.self c.release.new.self _ c.in-Ok.ensures.kept.others c.release.ensures.left in
     let all = shelf_same c.in-Ok.key c.self.inside.pool c.release.new.self c.self.inside.places.entries c.in-Ok.ensures.free c.self.invariant.kept agree in
-    rw c.in_default-insert.ensures.err (record { rising = rw all.0 c.self.invariant.rising; kept = all.1; apart = c.self.invariant.apart })
+    let p = c.self.inside.pool in
+    let es = c.self.inside.places.entries in
+    let none = none_free c.in-Ok.key p es c.in-Ok.ensures.free c.self.invariant.kept in
+    let kept : IsKept c.in-Ok.key c.put.new.self = rw c.in-Ok.ensures.kept.changed refl in
+    let gone : kept_at c.in-Ok.key c.release.new.self ≡ None = ap (kept_at c.in-Ok.key) c.release.ensures.left ∙ let_go c.in-Ok.key c.put.new.self kept (ap count_of c.in-Ok.ensures.kept.changed) in
+    rw c.in_default-insert.ensures.err (record {
+      rising = rw all.0 c.self.invariant.rising;
+      kept = all.1;
+      apart = c.self.invariant.apart;
+      sole = sole_same c.in-Ok.key p c.release.new.self es agree none c.self.invariant.sole;
+      no_other = other_same c.in-Ok.key p c.release.new.self es gone agree c.self.invariant.no_other;
+    })
 
 pub returns-in_default-insert-clause-refused : goal.returns-in_default-insert-clause-refused
 returns-in_default-insert-clause-refused c =

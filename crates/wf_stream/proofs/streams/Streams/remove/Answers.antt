@@ -1,5 +1,7 @@
-use Rattle.std.proofs.Common.{sym}
-use Rattle.wf_stream.proofs.Shelves.{shelf_remove, agree_once, found_kept, remove_without}
+use Rattle.std.proofs.Common.{◌≡◌, None, sym, ap, ◌∙◌}
+use Rattle.wf_life.specs.Pool.{kept_at}
+use Rattle.wf_stream.proofs.Shelves.{shelf_remove, agree_once, found_kept, found_none, remove_without}
+use Rattle.wf_stream.proofs.Lifetimes.{let_go, found_sole, removed_sole, sole_same, other_removed}
 use Rattle.wf_stream.proofs.streams.Streams.remove.Goals as goal
 
 pub release-requires : goal.release-requires
@@ -11,7 +13,20 @@ invariant_of-self c =
     let found = sym c.in-Some.ensures.value in
     let agree = agree_once c.in-Some.place.key c.self.inside.pool c.release.new.self _ c.release.ensures.left in
     let all = shelf_remove c.args.number c.in-Some.place c.self.inside.pool c.release.new.self c.self.inside.places.entries c.remove.new.self.entries c.self.invariant.rising c.self.invariant.kept c.self.invariant.apart found agree c.remove.ensures.entries in
-    record { rising = all.1; kept = all.2; apart = all.3 }
+    let o = c.in-Some.place in
+    let p = c.self.inside.pool in
+    let es = c.self.inside.places.entries in
+    let sound = c.self.invariant in
+    let kept = found_kept c.args.number o p es found sound.kept in
+    let gone : kept_at o.key c.release.new.self ≡ None = ap (kept_at o.key) c.release.ensures.left ∙ let_go o.key p kept (found_sole c.args.number o p es found sound.sole) in
+    let none = found_none c.args.number o es found sound.apart in
+    record {
+      rising = all.1;
+      kept = all.2;
+      apart = all.3;
+      sole = rw c.remove.ensures.entries (sole_same o.key p c.release.new.self _ agree none (removed_sole c.args.number p es sound.sole));
+      no_other = rw c.remove.ensures.entries (other_removed c.args.number o p c.release.new.self es found gone agree sound.no_other);
+    }
 
 pub returns-in-Some : goal.returns-in-Some
 returns-in-Some c =
