@@ -17,7 +17,8 @@ use Rattle.wf_calls.specs.declared.call.JobKind.{JobKind}
 use Rattle.wf_calls.specs.declared.call.JobKind.TheVariants as kind
 use Rattle.wf_calls.specs.declared.call.Payload.TheVariants as payload
 use Rattle.wf_calls.specs.declared.call.Reply.{Reply}
-use Rattle.wf_model.specs.State.{Content, Running, State}
+use Rattle.wf_model.specs.declared.Content.{Content}
+use Rattle.wf_model.specs.State.{Running, State}
 use Rattle.wf_model.specs.Names.{layer_names, settle}
 use Rattle.wf_model.specs.Outcome.{answer}
 use Rattle.wf_model.specs.Picture.{Images}

@@ -1,4 +1,5 @@
--- The machine in plain lists and numbers: its state, the picture of a scene, and the step of each call.
+-- The machine in plain lists and numbers: its state, the picture of a scene, the step of each call, and the objects and
+-- the calls of composition, which the step does not have yet.
 pub mod State
 pub mod Names
 pub mod Outcome
@@ -7,3 +8,5 @@ pub mod Display
 pub mod Frames
 pub mod Streams
 pub mod Step
+pub mod Composition
+pub mod Core

@@ -10,6 +10,7 @@ use Rattle.wf_stream.specs.Streams.{KeptStream}
 use Rattle.wf_calls.specs.declared.call.JobKind.{JobKind}
 use Rattle.wf_calls.specs.declared.ports.Modes.{Modes}
 use Rattle.wf_calls.specs.declared.ports.Ports.{Ports}
+use Rattle.wf_model.specs.declared.Content.{Content}
 
 -- a port, which shows the screen that is the stream of its own number: the sizes of its modes, of which it shows
 -- the first
@@ -19,12 +20,6 @@ pub record Port : Type 0 where
 -- the objects of the display
 pub record DisplayState : Type 0 where
   pub ports : List Port
-
--- what a running frame holds of a stream
-pub record Content : Type 0 where
-  pub stream : ℕ
-  pub size : Size
-  pub format : Format
 
 -- the running frame: its number and kind, and the shapes of its image and of its contents
 pub record Running : Type 0 where

@@ -41,9 +41,13 @@ stream_made new h =
     let made : KeptStream = record { number = h.numbered + 1; handle = h.made + 1; buffers = new } in
     (record h { made = h.made + 1; numbered = h.numbered + 1; streams = h.streams ++ made ∷ [] }, h.made + 1)
 
+-- the buffers of a new stream
+abbrev pub new_buffers : ℤ → ℤ → Format → ℤ → Buffers
+new_buffers width height format buffers = fresh (size_of width height) format (count_of buffers)
+
 abbrev pub stream_new : ℤ → ℤ → Format → ℤ → Bool → State → Outcome State
 stream_new width height format buffers memory_refused h =
-    let new : Buffers = fresh (size_of width height) format (count_of buffers) in
+    let new : Buffers = new_buffers width height format buffers in
     do
       _ ← refuse code.IllegalArgument (not (is_stream width height buffers))
       _ ← refuse code.Limit (has_no_room new h.streams || is_full h.made)

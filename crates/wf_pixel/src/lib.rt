@@ -1,5 +1,14 @@
-//! What a pixel is: colours, formats, sizes, rectangles and turns.
+//! What a pixel is: colours, formats, sizes, rectangles and turns; the arithmetic of colours, and which pixel of a
+//! source shows at a point.
 #![tactic(auto)]
+
+mod arithmetic;
+mod place;
+#[cfg(test)]
+mod tests;
+
+pub use arithmetic::{lift, mul, over, samp};
+pub use place::{along, source_place, turned, turned_back};
 
 /// A colour: red, green, blue and alpha, each from 0 to 255.
 #[derive(Clone, Copy, Debug, Default, PartialEq, Eq)]

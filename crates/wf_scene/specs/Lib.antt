@@ -1,2 +1,10 @@
--- Layers, and which rectangles lie inside a source.
 pub mod Layers
+pub mod Values
+pub mod Elements
+pub mod Order
+pub mod Cached
+pub mod Inside
+pub mod Sight
+pub mod Consistent
+pub mod Moves
+pub mod Told

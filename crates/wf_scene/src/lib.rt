@@ -1,11 +1,30 @@
-//! Scenes: what a frame shows.
+//! Scenes: what a frame shows, and the cached scene of a context, from which a commit takes one.
 #![tactic(auto)]
+
+mod attributes;
+mod cached;
+mod consistency;
+mod element;
+mod laws;
+mod look;
+mod order;
+mod style;
+#[cfg(test)]
+mod tests;
+pub mod values;
 
 ghost use Rattle.std.specs.Prelude.{◌≡◌};
 ghost use Rattle.wf_scene.specs.Layers.{no_layer};
 
 use arrayvec::ArrayVec;
+pub use attributes::{ContextAttr, ElementAttr, Refused};
+pub use cached::Cached;
+pub use element::Element;
+pub use laws::{consistent_by_rules, each_stands_once, inserted_above, set_is_told};
+pub use look::{Fault, Look, Seen};
+pub use style::{Filter, Style};
 use wf_pixel::{Rect, Rgba, Rotation, Size, Transparency};
+pub use wf_words::NoMemory;
 
 /// One layer of a scene: which stream it shows and through which mask, by their numbers (0 is no mask); which part of
 /// the stream's image, and where; flipped from top to bottom, and then turned; and how transparent.
@@ -25,26 +44,7 @@ impl Default for Layer {
     ghost is_default = { λ layer. layer ≡ no_layer };
 
     fn default() -> Layer {
-        let nowhere = Rect {
-            x: 0,
-            y: 0,
-            w: 0,
-            h: 0,
-        };
-        Layer {
-            stream: 0,
-            mask: 0,
-            src: nowhere,
-            dest: nowhere,
-            flip: false,
-            turn: Rotation::R0,
-            transparency: Transparency {
-                alpha: false,
-                source: false,
-                mask: false,
-            },
-            alpha: 255,
-        }
+        Style::default().layer(0, 0)
     }
 }
 
@@ -56,4 +56,22 @@ pub struct Scene {
     pub turn: Rotation,
     pub background: Rgba,
     pub layers: ArrayVec<Layer, 32>,
+}
+
+impl Scene {
+    /// The same scene once more. It takes no memory.
+    pub fn copy(&self) -> Scene
+        ensures { result ≡ self.now }
+    {
+        let mut layers = ArrayVec::new();
+        for layer in self.layers.as_slice() {
+            layers.push(*layer);
+        }
+        Scene {
+            size: self.size,
+            turn: self.turn,
+            background: self.background,
+            layers,
+        }
+    }
 }

@@ -3,9 +3,7 @@ pub mod Cuts
 pub mod NameText
 pub mod HexRow
 pub mod LineRow
+pub mod Sound
 mod Rows
 pub mod Sight
 pub mod SizeRow
-pub mod Decimals
-pub mod TickRows
-pub mod TickScripts

@@ -7,8 +7,7 @@ ghost use Rattle.std.specs.Prelude.{◌≡◌};
 pub enum ScriptFault {
     /// Line 1 is not the header.
     Header,
-    /// A line breaks a rule: 1 byte, 2 client, 3 verb, 4 place, 5 count, 6 word, 7 name. At `parse_ticks` line 0 with
-    /// rule 0 stands for any fault.
+    /// A line breaks a rule: 1 byte, 2 client, 3 verb, 4 place, 5 count, 6 word, 7 name.
     Line { line: u32, rule: u32 },
     /// There are more than 16,384 lines.
     TooManyLines,

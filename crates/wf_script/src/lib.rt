@@ -13,13 +13,11 @@ mod paint_form;
 mod paints;
 mod parts;
 mod pick;
-mod pieces;
 mod reader;
 mod reading;
 mod rule;
 mod script;
 mod seen;
-mod ticks;
 mod words;
 
 pub use fault::ScriptFault;
@@ -27,7 +25,6 @@ pub use line::{Line, Verb};
 pub use name::Name;
 pub use reading::{one_script, parse};
 pub use script::Script;
-pub use ticks::{one_tick_script, parse_ticks};
 
 #[cfg(test)]
 mod tests;

@@ -5,6 +5,7 @@ ghost use Rattle.wf_words.specs.Refusals.{left_by};
 ghost use Rattle.wf_script.specs.Grammar.{end_line, event_line, line_of, no_event_here, no_pipes_here, no_port_here, nothing_read, pipes_line, port_line, read_line, script_of, sizes};
 ghost use Rattle.wf_script.specs.Reader.{SizesAre, alone_is, reading};
 ghost use Rattle.wf_script.specs.Rules.{Gives};
+ghost use Rattle.wf_script.specs.Script.{IsScript};
 ghost use Rattle.wf_script.specs.Seen.{SeesAll};
 ghost use Rattle.wf_script.specs.Words.{words_in};
 
@@ -234,6 +235,7 @@ impl<'a> Reader<'a> {
 
     /// The script that was read.
     pub(crate) fn script(self) -> Script
+        requires { IsScript (script_of (reading self)) }
         ensures { result ≡ script_of (reading self.entry) }
     {
         let ports = Ports {

@@ -7,7 +7,6 @@ use wf_calls::StatWord;
 use wf_image::Paint;
 use wf_pixel::{Format, Rgba, Size};
 
-mod ticks;
 
 const SMALL: &[u8] = b"WFS1\nport 4x2\n0 tick\nend\n";
 

@@ -4,7 +4,12 @@ ghost use Rattle.std.specs.Prelude.{◌≡◌, ◌<◌, ◌≤◌, ◌==◌, ◌
 ghost use Rattle.std.specs.List.{list_all, before_first, after_first};
 ghost use Rattle.wf_script.specs.Words.{is_allowed, is_blank, lines_of, without_comment, without_return, words_in};
 
-use crate::pieces::place_of;
+/// Where the mark stands first.
+fn place_of(text: &[u8], mark: u8) -> Option<usize>
+    ensures { result ≡ position (λ b. b == mark) text.now }
+{
+    text.iter().position(|byte| *byte == mark)
+}
 
 /// What stands before a place and behind it. What is at the place is dropped.
 fn cut_out(text: &[u8], place: usize) -> (&[u8], &[u8])

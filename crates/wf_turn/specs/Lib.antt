@@ -1,4 +1,11 @@
 -- The clients of a script: their programs, their turns, and the film of an order of turns.
+pub mod Index
+pub mod Names
+pub mod Tables
 pub mod Program
+pub mod Ready
+pub mod Quota
+pub mod Passing
+pub mod Inside
 pub mod Turns
 pub mod Play

@@ -5,8 +5,8 @@ use Rattle.wf_words.specs.Keyed.{is_in}
 use Rattle.wf_calls.specs.declared.order.Turn.{Turn}
 use Rattle.wf_film.specs.Film.{Frame, film_bytes, head_bytes}
 use Rattle.wf_script.specs.Script.{PlainScript}
-use Rattle.wf_turn.specs.Program.{Program}
-use Rattle.wf_turn.specs.Turns.{Show, opening_show, turn, place_of, is_over}
+use Rattle.wf_turn.specs.Program.{place_of}
+use Rattle.wf_turn.specs.Turns.{Show, is_over, opening_show, turn}
 
 abbrev pub same_turn : Turn → Turn → Bool
 same_turn s t = (s.client == t.client) && (s.code == t.code) && (s.value == t.value)
@@ -56,23 +56,24 @@ film script order = film_bytes (record { frames = frames_after (replay script or
 abbrev pub marks : List Turn → List ℕ
 marks order = map (λ row. row.0) (filter (λ row. is_marked row.1) (enumerate_from 0 order))
 
--- the client of the first line in the file that is not through
-abbrev pub earlier : Option (ℕ × ℕ) → ℕ × Program → Option (ℕ × ℕ)
-earlier best row = of_place best (place_of row.1)
+-- of the clients whose place in the file is told, with that place, the one that comes first
+abbrev pub earlier : Option (ℕ × ℕ) → ℕ × Option ℕ → Option (ℕ × ℕ)
+earlier best row = of_place best row.1
   where
     of_place : Option (ℕ × ℕ) → Option ℕ → Option (ℕ × ℕ)
     of_place best None = best
     of_place None (Some place) = Some (row.0, place)
     of_place (Some b) (Some place) = if nat_lt place b.1 then Some (row.0, place) else Some b
 
-abbrev pub first_client : List Program → Option (ℕ × ℕ)
-first_client programs = fold earlier None (enumerate_from 0 programs)
+-- the client of the first line in the file that is not through, by the places of the clients
+abbrev pub first_client : List (Option ℕ) → Option (ℕ × ℕ)
+first_client places = fold earlier None (enumerate_from 0 places)
 
 -- the turns of serial play from a place of the order on, at most so many
 unfoldable pub serial_from : ℕ → ℕ → List ℕ → Show → List Turn
 serial_from zero place marks show = []
 serial_from (suc most) place marks show =
-    elim (first_client show.programs) [
+    elim (first_client (map place_of show.programs)) [
       | None ↦ []
       | Some c ↦ elim (turn show c.0 (is_in place marks)) [
         | None ↦ []

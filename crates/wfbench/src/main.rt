@@ -1,6 +1,9 @@
 //! The program `wfbench`: with the word `paint` it prints how long filling a canvas of 1024 by 1024 pixels takes,
-//! beside std's fill of as many bytes. With any other words it prints nothing.
+//! beside std's fill of as many bytes; with the word `picture`, what a pixel of a picture takes. With any other words
+//! it prints nothing.
 #![tactic(auto)]
+
+mod pictures;
 
 use std::alloc::Global;
 use std::process::ExitCode;
@@ -57,16 +60,27 @@ fn print_times(rt: &(impl Print + Clock + AllocGlobal)) -> io::Result<()> {
     println!(rt; "std's fill of as many bytes: {} us", fill.as_micros())
 }
 
-/// The first word of the command line is `paint`.
-fn is_asked(rt: &(impl Env + AllocGlobal)) -> io::Result<bool> {
+/// What the first word of the command line asks for.
+enum Asked {
+    Paints,
+    Pictures,
+    Nothing,
+}
+
+fn read_words(rt: &(impl Env + AllocGlobal)) -> io::Result<Asked> {
     let words: Vec<String> = env::args(rt)?.skip(1).collect(rt.alloc())?;
-    Ok(words.first().is_some_and(|word| word.as_str() == "paint"))
+    Ok(match words.first() {
+        Some(word) if word.as_str() == "paint" => Asked::Paints,
+        Some(word) if word.as_str() == "picture" => Asked::Pictures,
+        _ => Asked::Nothing,
+    })
 }
 
 fn main(rt: HostRuntime) -> ExitCode {
-    let printed = match is_asked(&rt) {
-        Ok(true) => print_times(&rt),
-        Ok(false) => Ok(()),
+    let printed = match read_words(&rt) {
+        Ok(Asked::Paints) => print_times(&rt),
+        Ok(Asked::Pictures) => pictures::print_times(&rt),
+        Ok(Asked::Nothing) => Ok(()),
         Err(error) => Err(error),
     };
     match printed {

@@ -1,0 +1,4 @@
+mod Pieces
+mod Bindings
+mod Pictures
+mod Rows

@@ -1,0 +1,2 @@
+-- Layers with their images at hand.
+pub mod Bound

@@ -1,0 +1,218 @@
+-- What holds of the streams once a frame has taken their images.
+use Rattle.std.proofs.Common.{◌≡◌, ◌≢◌, ℕ, ◌+◌, ◌<◌, ◌≤◌, Bool, true, false, not, cond, ◌==◌, ◌||◌, List, [], ◌∷◌, map, Option, Some, None, refl, sym, ap, subst, ◌∙◌, arith}
+use Rattle.std.specs.Prelude.{filter, find, sum_by}
+use Rattle.std.specs.Option.{option_map, IfSome, IsSomeAnd}
+use Rattle.std.proofs.lemmas.Bool.{eq-eqb, eqb-true}
+use Rattle.std.proofs.lemmas.Bool.Decides.{nat_tests}
+use Rattle.std.proofs.lemmas.List.Sums.{sum_by-cons}
+use Rattle.wf_words.specs.Keyed.{is_in, nth, once}
+use Rattle.wf_image.specs.Bitmap.{Bitmap}
+use Rattle.wf_image.specs.Contents.{image_of}
+use Rattle.wf_stream.specs.Buffers.{Buffers, HasShape, away, away_if, buffer_bytes, latched, newest}
+use Rattle.wf_stream.specs.Streams.{KeptStream, IsNumbered, buffers_at, held, stream_at}
+use Rattle.wf_model.specs.declared.Content.{Content}
+use Rattle.wf_model.specs.Frames.{content_shape, latch, latched_among, newest_images, newest_of}
+use Rattle.wf_model.specs.Picture.{Images}
+use Rattle.wf_model.specs.State.{Port}
+use Rattle.wf_machine.specs.Latching.{AreAtHome, AreShapedAs, IsShapedAs}
+use Rattle.wf_machine.specs.declared.frame.Frame.{Frame}
+use Rattle.wf_machine.specs.declared.machine.Machine.TheInside.{Inside}
+use Rattle.wf_machine.specs.Fitting.{AllFit, AreNumbered, AreOnce, IsRead, IsScreen, StreamFits, content_at, contents_of, is_named}
+use Rattle.wf_machine.specs.Inside.{IsSound}
+use Rattle.wf_machine.specs.Ports.{port_of, running_of}
+use Rattle.wf_machine.proofs.Latches.{by_number, image_newest, is_in-without, number_latched}
+
+-- the shape of a stream's image among the contents
+pub content_of_image : (n : ℕ) (contents : Images) → content_at n (map content_shape contents) ≡ option_map (λ (image : Bitmap). content_shape (n, image)) (image_of n contents)
+content_of_image n [] = refl
+content_of_image n (pair ∷ contents) =
+    let shape : Bitmap → Content = λ image. content_shape (n, image) in
+    by_number (cond (pair.0 == n) (Some (content_shape pair)) (content_at n (map content_shape contents)) ≡ option_map shape (option_map (λ (p : ℕ × Bitmap). p.1) (cond (pair.0 == n) (Some pair) (find (λ (p : ℕ × Bitmap). p.0 == n) contents)))) pair.0 n
+    (λ here same. rw here (ap (λ (k : ℕ). Some (content_shape (k, pair.1))) same))
+    (λ apart. rw apart (content_of_image n contents))
+
+pub shaped_at : (n : ℕ) (image : Bitmap) (streams : List KeptStream) (contents : Images) → AreShapedAs streams contents → image_of n contents ≡ Some image → IsShapedAs n streams image
+shaped_at n image streams [] shaped found = absurd cc
+shaped_at n image streams (pair ∷ contents) shaped found =
+    by_number (IsShapedAs n streams image) pair.0 n
+    (λ here same. (
+    let is : Some pair.1 ≡ Some image = rw here at found in
+    let this : pair.1 ≡ image = cc in
+    subst (λ (k : ℕ). IsShapedAs k streams image) same (subst (λ (i : Bitmap). IsShapedAs pair.0 streams i) this shaped.0)))
+    (λ apart. shaped_at n image streams contents shaped.1 (rw apart at found))
+
+stream_latched : (ns : List ℕ) (n : ℕ) (streams : List KeptStream) → stream_at n (latch ns streams) ≡ option_map (latched_among ns) (stream_at n streams)
+stream_latched ns n [] = refl
+stream_latched ns n (s ∷ streams) =
+    rw (number_latched ns s)
+    (elim (s.number == n) as (λ b. cond b (Some (latched_among ns s)) (stream_at n (latch ns streams)) ≡ option_map (latched_among ns) (cond b (Some s) (stream_at n streams))) [ true ↦ refl | false ↦ stream_latched ns n streams ])
+
+latched_size : (b : Buffers) → (latched b).size ≡ b.size
+latched_size b = of_newest (newest b)
+  where
+    of_newest : (o : Option Bitmap) → (away_if o b).size ≡ b.size
+    of_newest None = refl
+    of_newest (Some image) = refl
+
+latched_format : (b : Buffers) → (latched b).format ≡ b.format
+latched_format b = of_newest (newest b)
+  where
+    of_newest : (o : Option Bitmap) → (away_if o b).format ≡ b.format
+    of_newest None = refl
+    of_newest (Some image) = refl
+
+latched_buffers : (b : Buffers) → (latched b).buffers ≡ b.buffers
+latched_buffers b = of_newest (newest b)
+  where
+    of_newest : (o : Option Bitmap) → (away_if o b).buffers ≡ b.buffers
+    of_newest None = refl
+    of_newest (Some image) = refl
+
+-- a screen that is latched is a screen
+screen_latched : (b : Buffers) (o : Option Port) → IfSome o (IsScreen b) → IfSome o (IsScreen (latched b))
+screen_latched b None is = tt
+screen_latched b (Some p) is = (latched_size b ∙ is.0, latched_format b ∙ is.1)
+
+-- the read image of a stream that is latched
+read_latched : (b : Buffers) (n : ℕ) (o : Option Bitmap) → newest b ≡ o → IsRead b None → ((image : Bitmap) → o ≡ Some image → HasShape (latched b).size (latched b).format image) → IsRead (latched b) (option_map (λ (image : Bitmap). content_shape (n, image)) o)
+read_latched b n None is home shape = rw is home
+read_latched b n (Some image) is home shape =
+    let has = shape image refl in
+    (rw is refl, sym has.size_is, sym has.format_is)
+
+module _ (ns : List ℕ) (ports : List Port) (whole : List KeptStream) (shaped : AreShapedAs (latch ns whole) (newest_images ns whole)) where
+  abbrev taken : List Content
+  taken = map content_shape (newest_images ns whole)
+
+  one_fits : (s : KeptStream) → stream_at s.number whole ≡ Some s → StreamFits ports [] s → StreamFits ports taken (latched_among ns s)
+  one_fits s found fits = by_member (is_in s.number ns) refl
+    where
+      Fits : Bool → Type 0
+      Fits b = StreamFits ports taken (cond b (record s { buffers = latched s.buffers }) s)
+
+      image_is : (b : Bool) → is_in s.number ns ≡ b → image_of s.number (newest_images ns whole) ≡ cond b (newest s.buffers) None
+      image_is b is = image_newest ns s.number whole ∙ ap (λ (c : Bool). cond c (newest_of (stream_at s.number whole)) None) is ∙ ap (λ (o : Option KeptStream). cond b (newest_of o) None) found
+
+      content_is : (b : Bool) → is_in s.number ns ≡ b → content_at s.number taken ≡ option_map (λ (image : Bitmap). content_shape (s.number, image)) (cond b (newest s.buffers) None)
+      content_is b is = content_of_image s.number (newest_images ns whole) ∙ ap (λ (o : Option Bitmap). option_map (λ (image : Bitmap). content_shape (s.number, image)) o) (image_is b is)
+
+      shape : is_in s.number ns ≡ true → (image : Bitmap) → newest s.buffers ≡ Some image → HasShape (latched s.buffers).size (latched s.buffers).format image
+      shape within image is =
+          let has = shaped_at s.number image (latch ns whole) (newest_images ns whole) shaped (image_is true within ∙ is) in
+          let here : stream_at s.number (latch ns whole) ≡ Some (record s { buffers = latched s.buffers }) = stream_latched ns s.number whole ∙ ap (λ (o : Option KeptStream). option_map (latched_among ns) o) found ∙ ap (λ (b : Bool). Some (cond b (record s { buffers = latched s.buffers }) s)) within in
+          rw here at has
+
+      by_member : (b : Bool) → is_in s.number ns ≡ b → Fits b
+      by_member false is = record { named = fits.named; screen = fits.screen; read = rw (content_is false is) fits.read }
+      by_member true is =
+          record {
+            named = fits.named;
+            screen = screen_latched s.buffers (nth s.number ports) fits.screen;
+            read = rw (content_is true is) (read_latched s.buffers s.number (newest s.buffers) refl fits.read (shape is));
+          }
+
+-- each stream is found by its number
+abbrev AllFound : List KeptStream → List KeptStream → Type 0
+AllFound whole [] = Unit {0}
+AllFound whole (s ∷ streams) = (stream_at s.number whole ≡ Some s) × AllFound whole streams
+
+found_behind : (s : KeptStream) (low high : ℕ) (whole streams : List KeptStream) → s.number < low + 1 → IsNumbered low streams high → AllFound whole streams → AllFound (s ∷ whole) streams
+found_behind s low high whole [] under rising found = tt
+found_behind s low high whole (t ∷ streams) under rising found =
+    let apart : (s.number == t.number) ≡ false = grind (arith, nat_tests, rising.0) in
+    (rw apart found.0, found_behind s t.number high whole streams (omega (arith, rising.0)) rising.1 found.1)
+
+all_found : (low high : ℕ) (streams : List KeptStream) → IsNumbered low streams high → AllFound streams streams
+all_found low high [] rising = tt
+all_found low high (s ∷ streams) rising =
+    let here : (s.number == s.number) ≡ true = eq-eqb s.number s.number refl in
+    (rw here refl, found_behind s s.number high streams streams (omega arith) rising.1 (all_found s.number high streams rising.1))
+
+-- all streams fit beside the frame that took their images
+pub all_latched : (ns : List ℕ) (ports : List Port) (high : ℕ) (streams : List KeptStream) → IsNumbered 0 streams high → AreShapedAs (latch ns streams) (newest_images ns streams) → AllFit ports [] streams
+    → AllFit ports (map content_shape (newest_images ns streams)) (latch ns streams)
+all_latched ns ports high streams rising shaped fit = each streams (all_found 0 high streams rising) fit
+  where
+    each : (ss : List KeptStream) → AllFound streams ss → AllFit ports [] ss → AllFit ports (map content_shape (newest_images ns streams)) (latch ns ss)
+    each [] found fits = tt
+    each (s ∷ ss) found fits = (one_fits ns ports streams shaped s found.0 fits.0, each ss found.1 fits.1)
+
+pub bytes_latched : (ns : List ℕ) (streams : List KeptStream) → (held (latch ns streams)).bytes ≡ (held streams).bytes
+bytes_latched ns [] = refl
+bytes_latched ns (s ∷ streams) =
+    let each : KeptStream → ℕ = λ t. buffer_bytes t.buffers in
+    let late : KeptStream = record s { buffers = latched s.buffers } in
+    let same : each late ≡ each s = rw (latched_size s.buffers, latched_format s.buffers, latched_buffers s.buffers) refl in
+    let here : each (latched_among ns s) ≡ each s = elim (is_in s.number ns) as (λ b. each (cond b late s) ≡ each s) [ true ↦ same | false ↦ refl ] in
+    sum_by-cons each (latched_among ns s) (latch ns streams) ∙ ap (λ (k : ℕ). k + sum_by each (latch ns streams)) here ∙ ap (λ (k : ℕ). each s + k) (bytes_latched ns streams) ∙ sym (sum_by-cons each s streams)
+
+-- each number stands once
+abbrev NoneTwice : List ℕ → Type 0
+NoneTwice [] = Unit {0}
+NoneTwice (n ∷ ns) = (is_in n ns ≡ false) × NoneTwice ns
+
+without_itself : (x : ℕ) (ns : List ℕ) → is_in x (filter (λ y. not (y == x)) ns) ≡ false
+without_itself x [] = refl
+without_itself x (y ∷ ns) =
+    elim (y == x) as (λ b. (y == x) ≡ b → is_in x (cond (not b) (y ∷ filter (λ z. not (z == x)) ns) (filter (λ z. not (z == x)) ns)) ≡ false) [
+      | true ↦ λ here. without_itself x ns
+      | false ↦ λ apart. rw apart (without_itself x ns)
+    ] refl
+
+none_without : (x : ℕ) (ns : List ℕ) → NoneTwice ns → NoneTwice (filter (λ y. not (y == x)) ns)
+none_without x [] none = tt
+none_without x (y ∷ ns) none =
+    elim (y == x) as (λ b. (y == x) ≡ b → NoneTwice (cond (not b) (y ∷ filter (λ z. not (z == x)) ns) (filter (λ z. not (z == x)) ns))) [
+      | true ↦ λ here. none_without x ns none.1
+      | false ↦ λ apart. (let other : (x == y) ≡ false = grind (arith, nat_tests, apart) in (is_in-without y x ns other ∙ none.0, none_without x ns none.1))
+    ] refl
+
+once_none_twice : (ns : List ℕ) → NoneTwice (once ns)
+once_none_twice [] = tt
+once_none_twice (x ∷ ns) = (without_itself x (once ns), none_without x (once ns) (once_none_twice ns))
+
+contents_once : (ns : List ℕ) (streams : List KeptStream) → NoneTwice ns → AreOnce (map content_shape (newest_images ns streams))
+contents_once [] streams none = tt
+contents_once (n ∷ ns) streams none = of_newest (contents_once ns streams none.1) (newest_of (stream_at n streams)) refl
+  where
+    of_newest : AreOnce (map content_shape (newest_images ns streams)) → (o : Option Bitmap) → newest_of (stream_at n streams) ≡ o → AreOnce (map content_shape (newest_images (n ∷ ns) streams))
+    of_newest later None is = rw is later
+    of_newest later (Some image) is =
+        let absent : content_at n (map content_shape (newest_images ns streams)) ≡ None = content_of_image n (newest_images ns streams)
+        ∙ ap (λ (o : Option Bitmap). option_map (λ (i : Bitmap). content_shape (n, i)) o) (image_newest ns n streams ∙ ap (λ (b : Bool). cond b (newest_of (stream_at n streams)) None) none.0) in
+        rw is (absent, later)
+
+pub taken_once : (ns : List ℕ) (streams : List KeptStream) → AreOnce (map content_shape (newest_images (once ns) streams))
+taken_once ns streams = contents_once (once ns) streams (once_none_twice ns)
+
+-- a stream that is kept was numbered
+within_high : (n low high : ℕ) (streams : List KeptStream) (b : Buffers) → IsNumbered low streams high → buffers_at n streams ≡ Some b → n ≤ high
+within_high n low high [] b rising found = absurd cc
+within_high n low high (s ∷ streams) b rising found =
+    by_number (n ≤ high) s.number n
+    (λ here same. omega (arith, same, under s.number high streams rising.1))
+    (λ apart. within_high n s.number high streams b rising.1 (rw apart at found))
+  where
+    under : (low high : ℕ) (streams : List KeptStream) → IsNumbered low streams high → low ≤ high
+    under low high [] rising = rising
+    under low high (s ∷ streams) rising = omega (arith, rising.0, under s.number high streams rising.1)
+
+shaped_numbered : (n high : ℕ) (image : Bitmap) (streams : List KeptStream) → IsNumbered 0 streams high → IsShapedAs n streams image → n ≤ high
+shaped_numbered n high image streams rising shaped = of_buffers (buffers_at n streams) refl shaped
+  where
+    of_buffers : (o : Option Buffers) → buffers_at n streams ≡ o → IsSomeAnd o (λ b. HasShape b.size b.format image) → n ≤ high
+    of_buffers None is shape = absurd shape
+    of_buffers (Some b) is shape = within_high n 0 high streams b rising is
+
+pub all_numbered : (high : ℕ) (streams : List KeptStream) (contents : Images) → IsNumbered 0 streams high → AreShapedAs streams contents → AreNumbered high (map content_shape contents)
+all_numbered high streams [] rising shaped = tt
+all_numbered high streams (pair ∷ contents) rising shaped = (shaped_numbered pair.0 high pair.1 streams rising shaped.0, all_numbered high streams contents rising shaped.1)
+
+-- while no frame runs all streams are at home
+pub all_home : (ports : List Port) (streams : List KeptStream) → AllFit ports [] streams → AreAtHome streams
+all_home ports [] fit = tt
+all_home ports (s ∷ streams) fit = (fit.0.read, all_home ports streams fit.1)
+
+pub home_without : (m : Inside) → m.frame ≡ None → IsSound m → AreAtHome m.store.streams
+home_without m free sound =
+    all_home (map port_of m.ports.items) m.store.streams (subst (λ (f : Option Frame). AllFit (map port_of m.ports.items) (contents_of (option_map running_of f)) m.store.streams) free sound.streams)

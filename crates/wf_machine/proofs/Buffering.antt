@@ -1,0 +1,89 @@
+-- Calls on the buffers of streams, as the plain machine answers them.
+use Rattle.std.proofs.Common.{◌≡◌, ℕ, Bool, true, false, ◌&&◌, List, Option, Some, None, IsTrue, refl, sym, ap, ◌∙◌}
+use Rattle.std.specs.Option.{option_map, IfSome, IsSome}
+use Rattle.std.proofs.lemmas.Bool.{and_parts, eqb-true}
+use Rattle.wf_pixel.specs.declared.Size.{Size}
+use Rattle.wf_pixel.specs.declared.Format.{Format}
+use Rattle.wf_pixel.specs.declared.Format.TheVariants.{Rgba8, Rgba8Pre, Rgbx8, A8}
+use Rattle.wf_pixel.specs.Choice.{same_format, same_size}
+use Rattle.wf_image.specs.declared.canvas.Canvas.{Canvas}
+use Rattle.wf_stream.specs.Buffers.{Buffers, HasShape, acquired, is_blocked}
+use Rattle.wf_stream.specs.Streams.{KeptStream, IsNumbered, number_of, stream_at, stream_of}
+use Rattle.wf_calls.specs.declared.code.Code.TheVariants as code
+use Rattle.wf_calls.specs.declared.call.Payload.TheVariants as payload
+use Rattle.wf_calls.specs.declared.call.Reply.{Reply}
+use Rattle.wf_model.specs.State.{State}
+use Rattle.wf_model.specs.Names.{settle}
+use Rattle.wf_model.specs.Outcome.{answer}
+use Rattle.wf_model.specs.Streams.{acquirable, acquire_step, canvas_back, canvas_of, is_out_at_client, with_stream}
+use Rattle.wf_machine.specs.Latching.{IsOutFrom}
+use Rattle.wf_machine.proofs.Changes.{of_handle}
+
+-- the stream of a live handle, by its number too
+pub found : (handle number high : ℕ) (streams : List KeptStream) → IsNumbered 0 streams high → Some number ≡ number_of handle streams → (s : KeptStream) × (stream_of handle streams ≡ Some s) × (stream_at number streams ≡ Some s)
+found handle number high streams rising is = of_stream (stream_of handle streams) refl is
+  where
+    of_stream : (o : Option KeptStream) → stream_of handle streams ≡ o → Some number ≡ option_map (λ (s : KeptStream). s.number) o → (s : KeptStream) × (stream_of handle streams ≡ Some s) × (stream_at number streams ≡ Some s)
+    of_stream None at same = absurd cc
+    of_stream (Some s) at same = (let here : s.number ≡ number = cc in (s, at, ap (λ (n : ℕ). stream_at n streams) (sym here) ∙ of_handle 0 high handle streams s rising at))
+
+module _ (handle : ℕ) (h : State) where
+  -- no stream lives under the handle
+  pub no_stream : number_of handle h.streams ≡ None → acquire_step h (acquirable handle h) ≡ (h, answer code.BadHandle 0)
+  no_stream none = of_stream (stream_of handle h.streams) refl none
+    where
+      of_stream : (o : Option KeptStream) → stream_of handle h.streams ≡ o → option_map (λ (s : KeptStream). s.number) o ≡ None → acquire_step h (acquirable handle h) ≡ (h, answer code.BadHandle 0)
+      of_stream None at same = rw at refl
+      of_stream (Some s) at same = absurd cc
+
+  module _ (s : KeptStream) (at : stream_of handle h.streams ≡ Some s) where
+    pub busy : s.buffers.out ≡ true → acquire_step h (acquirable handle h) ≡ (h, answer code.Busy 0)
+    busy out = rw (at, out) refl
+
+    pub no_buffer : s.buffers.out ≡ false → is_blocked s.buffers ≡ true → acquire_step h (acquirable handle h) ≡ (h, answer code.NoBuffer 0)
+    no_buffer home blocked = rw (at, blocked, home) refl
+
+    pub given : s.buffers.out ≡ false → is_blocked s.buffers ≡ false → acquire_step h (acquirable handle h) ≡ (settle (with_stream s.number acquired h), record { code = code.Ok; value = 0; payload = payload.Canvas (canvas_of s) })
+    given home free = rw (at, free, home) refl
+
+-- a canvas that is out at a client comes back to its stream
+pub comes_back : (canvas : Canvas) (f : Buffers → Buffers) (h : State) → is_out_at_client canvas h ≡ true → canvas_back canvas f h ≡ (settle (with_stream canvas.stream f h), answer code.Ok 0)
+comes_back canvas f h out = rw out refl
+
+pub stays_out : (canvas : Canvas) (f : Buffers → Buffers) (h : State) → is_out_at_client canvas h ≡ false → canvas_back canvas f h ≡ (h, record { code = code.BadHandle; value = 0; payload = payload.Canvas canvas })
+stays_out canvas f h home = rw home refl
+
+pub size_is : (s t : Size) → same_size s t ≡ true → s ≡ t
+size_is s t same =
+    let parts = and_parts _ _ same in
+    ap (λ (w : ℕ). record { w = w; h = s.h }) (eqb-true s.w t.w parts.0) ∙ ap (λ (h : ℕ). record { w = t.w; h = h }) (eqb-true s.h t.h parts.1)
+
+pub format_is : (f g : Format) → same_format f g ≡ true → f ≡ g
+format_is Rgba8 Rgba8 same = refl
+format_is Rgba8Pre Rgba8Pre same = refl
+format_is Rgbx8 Rgbx8 same = refl
+format_is A8 A8 same = refl
+format_is Rgba8 Rgba8Pre same = absurd cc
+format_is Rgba8 Rgbx8 same = absurd cc
+format_is Rgba8 A8 same = absurd cc
+format_is Rgba8Pre Rgba8 same = absurd cc
+format_is Rgba8Pre Rgbx8 same = absurd cc
+format_is Rgba8Pre A8 same = absurd cc
+format_is Rgbx8 Rgba8 same = absurd cc
+format_is Rgbx8 Rgba8Pre same = absurd cc
+format_is Rgbx8 A8 same = absurd cc
+format_is A8 Rgba8 same = absurd cc
+format_is A8 Rgba8Pre same = absurd cc
+format_is A8 Rgbx8 same = absurd cc
+
+-- the stream of a canvas that is out at a client has it out
+pub out_from : (canvas : Canvas) (h : State) → is_out_at_client canvas h ≡ true → IsOutFrom h.streams canvas
+out_from canvas h out = of_stream (stream_at canvas.stream h.streams) refl
+  where
+    of_stream : (o : Option KeptStream) → stream_at canvas.stream h.streams ≡ o → IsOutFrom h.streams canvas
+    of_stream None at = rw at tt
+    of_stream (Some s) at =
+        let is : (s.buffers.out && same_size canvas.image.size s.buffers.size && same_format canvas.image.format s.buffers.format) ≡ true = rw at at out in
+        let outer = and_parts (s.buffers.out && same_size canvas.image.size s.buffers.size) (same_format canvas.image.format s.buffers.format) is in
+        let inner = and_parts s.buffers.out (same_size canvas.image.size s.buffers.size) outer.0 in
+        rw at (inner.0, record { size_is = size_is canvas.image.size s.buffers.size inner.1; format_is = format_is canvas.image.format s.buffers.format outer.1 })

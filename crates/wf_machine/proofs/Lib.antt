@@ -1,0 +1,15 @@
+pub mod Changes
+pub mod Latches
+pub mod Homes
+pub mod Shapes
+pub mod Images
+pub mod Opening
+pub mod Settling
+pub mod StillFitting
+pub mod Sounds
+pub mod Buffering
+pub mod Places
+pub mod Begun
+pub mod Beginning
+pub mod Ending
+pub mod Steps

@@ -1,0 +1,99 @@
+-- Streams fit still when one is added or its buffers change.
+use Rattle.std.proofs.Common.{◌≡◌, ◌≢◌, ℕ, zero, suc, ◌+◌, ◌*◌, ◌<◌, ◌≤◌, Bool, true, false, not, cond, ◌==◌, ◌||◌, List, [], ◌∷◌, ◌++◌, length, Option, Some, None, refl, sym, ap, subst, ◌∙◌, arith}
+use Rattle.std.specs.Prelude.{slice_get, find, nat_le, IfSome, sum_by}
+use Rattle.std.proofs.lemmas.Bool.Decides.{nat_tests}
+use Rattle.std.proofs.lemmas.List.Sums.{sum_by-cons, sum_by_push}
+use Rattle.std.proofs.lemmas.Option.{slice_get_past}
+use Rattle.wf_words.specs.Keyed.{nth}
+use Rattle.wf_stream.specs.Buffers.{Buffers, acquired, away, buffer_bytes, discarded, never, posted}
+use Rattle.wf_stream.specs.Streams.{KeptStream, IsNumbered, change_stream, held}
+use Rattle.wf_image.specs.Bitmap.{Bitmap}
+use Rattle.wf_model.specs.declared.Content.{Content}
+use Rattle.wf_model.specs.State.{Port}
+use Rattle.wf_machine.specs.Fitting.{AllFit, AreNumbered, IsRead, IsScreen, StreamFits, content_at, is_named}
+
+-- a change of buffers that keeps the size, the format, the number of buffers and what is read
+pub record KeepsRead (f : Buffers → Buffers) : Type 0 where
+  pub size : (b : Buffers) → (f b).size ≡ b.size
+  pub format : (b : Buffers) → (f b).format ≡ b.format
+  pub buffers : (b : Buffers) → (f b).buffers ≡ b.buffers
+  pub read : (b : Buffers) → (f b).read ≡ b.read
+
+pub acquired_keeps : KeepsRead acquired
+acquired_keeps = record { size = λ b. refl; format = λ b. refl; buffers = λ b. refl; read = λ b. refl }
+
+pub discarded_keeps : KeepsRead discarded
+discarded_keeps = record { size = λ b. refl; format = λ b. refl; buffers = λ b. refl; read = λ b. refl }
+
+pub posted_keeps : (image : Bitmap) → KeepsRead (posted image)
+posted_keeps image = record { size = λ b. refl; format = λ b. refl; buffers = λ b. refl; read = λ b. refl }
+
+-- what is said of the sizes, the formats and the read images of buffers holds of changed ones
+read_kept : (f : Buffers → Buffers) (b : Buffers) (o : Option Content) → KeepsRead f → IsRead b o → IsRead (f b) o
+read_kept f b None keeps read = λ h. read (sym (keeps.read b) ∙ h)
+read_kept f b (Some c) keeps read = (keeps.read b ∙ read.0, keeps.size b ∙ read.1, keeps.format b ∙ read.2)
+
+screen_kept : (f : Buffers → Buffers) (b : Buffers) (o : Option Port) → KeepsRead f → IfSome o (IsScreen b) → IfSome o (IsScreen (f b))
+screen_kept f b None keeps is = tt
+screen_kept f b (Some p) keeps is = (keeps.size b ∙ is.0, keeps.format b ∙ is.1)
+
+fits_kept : (f : Buffers → Buffers) (ports : List Port) (contents : List Content) (s : KeptStream) → KeepsRead f → StreamFits ports contents s → StreamFits ports contents (record s { buffers = f s.buffers })
+fits_kept f ports contents s keeps fits =
+    record {
+      named = fits.named;
+      screen = screen_kept f s.buffers (nth s.number ports) keeps fits.screen;
+      read = read_kept f s.buffers (content_at s.number contents) keeps fits.read;
+    }
+
+pub all_kept : (f : Buffers → Buffers) (n : ℕ) (ports : List Port) (contents : List Content) (streams : List KeptStream) → KeepsRead f → AllFit ports contents streams → AllFit ports contents (change_stream n f streams)
+all_kept f n ports contents [] keeps fit = tt
+all_kept f n ports contents (s ∷ streams) keeps fit =
+    (elim (s.number == n) as (λ b. StreamFits ports contents (cond b (record s { buffers = f s.buffers }) s)) [ true ↦ fits_kept f ports contents s keeps fit.0 | false ↦ fit.0 ], all_kept f n ports contents streams keeps fit.1)
+
+pub numbered_kept : (f : Buffers → Buffers) (n low high : ℕ) (streams : List KeptStream) → IsNumbered low streams high → IsNumbered low (change_stream n f streams) high
+numbered_kept f n low high [] rising = rising
+numbered_kept f n low high (s ∷ streams) rising =
+    let later = numbered_kept f n s.number high streams rising.1 in
+    elim (s.number == n) as (λ b. (low < (cond b (record s { buffers = f s.buffers }) s).number) × IsNumbered (cond b (record s { buffers = f s.buffers }) s).number (change_stream n f streams) high) [ true ↦ (rising.0, later) | false ↦ (rising.0, later) ]
+
+pub bytes_kept : (f : Buffers → Buffers) (n : ℕ) (streams : List KeptStream) → KeepsRead f → (held (change_stream n f streams)).bytes ≡ (held streams).bytes
+bytes_kept f n [] keeps = refl
+bytes_kept f n (s ∷ streams) keeps =
+    let each : KeptStream → ℕ = λ t. buffer_bytes t.buffers in
+    let changed : KeptStream = record s { buffers = f s.buffers } in
+    let same : each changed ≡ each s = rw (keeps.size s.buffers, keeps.format s.buffers, keeps.buffers s.buffers) refl in
+    let here : each (cond (s.number == n) changed s) ≡ each s = elim (s.number == n) as (λ b. each (cond b changed s) ≡ each s) [ true ↦ same | false ↦ refl ] in
+    sum_by-cons each (cond (s.number == n) changed s) (change_stream n f streams) ∙ ap (λ (k : ℕ). k + sum_by each (change_stream n f streams)) here ∙ ap (λ (k : ℕ). each s + k) (bytes_kept f n streams keeps) ∙ sym (sum_by-cons each s streams)
+
+-- no content is of a number above all
+pub content_above : (n numbered : ℕ) (contents : List Content) → AreNumbered numbered contents → numbered < n → content_at n contents ≡ None
+content_above n numbered [] known above = refl
+content_above n numbered (c ∷ contents) known above =
+    let apart : (c.stream == n) ≡ false = grind (arith, nat_tests, known.0) in
+    rw apart (content_above n numbered contents known.1 above)
+
+pub known_more : (numbered : ℕ) (contents : List Content) → AreNumbered numbered contents → AreNumbered (numbered + 1) contents
+known_more numbered [] known = tt
+known_more numbered (c ∷ contents) known = (omega (arith, known.0), known_more numbered contents known.1)
+
+-- no port has a number above their count
+nth_above : (n : ℕ) (ports : List Port) → length ports < n → nth n ports ≡ None
+nth_above zero ports above = refl
+nth_above (suc n) ports above = slice_get_past ports n (omega (arith, above))
+
+pub all_push : (ports : List Port) (contents : List Content) (streams : List KeptStream) (s : KeptStream) → AllFit ports contents streams → StreamFits ports contents s → AllFit ports contents (streams ++ s ∷ [])
+all_push ports contents [] s fit new = (new, tt)
+all_push ports contents (t ∷ streams) s fit new = (fit.0, all_push ports contents streams s fit.1 new)
+
+-- a new stream under a handle
+pub new_fits : (ports : List Port) (contents : List Content) (numbered : ℕ) (s : KeptStream) → length ports ≤ numbered → AreNumbered numbered contents → s.number ≡ numbered + 1 → (s.handle == 0) ≡ false → s.buffers.read ≡ never → StreamFits ports contents s
+new_fits ports contents numbered s many known number live never-is =
+    record {
+      named = rw live refl;
+      screen = rw (nth_above s.number ports (omega (arith, number))) tt;
+      read = rw (content_above s.number numbered contents known (omega (arith, number))) (λ h. (let no = sym never-is ∙ h in cc));
+    }
+
+pub numbered_push : (low high : ℕ) (streams : List KeptStream) (s : KeptStream) → IsNumbered low streams high → s.number ≡ high + 1 → IsNumbered low (streams ++ s ∷ []) (high + 1)
+numbered_push low high [] s rising is = (omega (arith, is, rising), omega (arith, is))
+numbered_push low high (t ∷ streams) s rising is = (rising.0, numbered_push t.number high streams s rising.1 is)

@@ -1,0 +1,13 @@
+use Rattle.std.proofs.Common.{◌≡◌, ◌++◌, length}
+use Rattle.wf_model.specs.Frames.{brought_home}
+use Rattle.wf_model.specs.Picture.{Images}
+use Rattle.wf_machine.proofs.latching.bring_home.Given as goal
+
+-- the images behind those that are left came home
+abbrev pub invariant-loop-number : goal.invariant-loop-number
+invariant-loop-number l =
+    (home : Images) × (l.fn.contents ≡ l.contents ++ home)
+    × (l.store ≡ record l.initial.store { streams = brought_home home l.initial.store.streams })
+
+abbrev pub decreases-loop-number : goal.decreases-loop-number
+decreases-loop-number l = length l.contents

@@ -1,0 +1,9 @@
+use Rattle.std.proofs.Common.{◌≡◌, arith}
+use Rattle.wf_machine.proofs.Images.{as_many, first_put}
+use Rattle.wf_machine.proofs.port.Port.put_image.Goals as goal
+
+pub index_mut-requires : goal.index_mut-requires
+index_mut-requires c = omega (arith, as_many 1 c.args.self.now.modes.items c.args.self.now.images.items c.requires.away)
+
+pub returns-clause-there : goal.returns-clause-there
+returns-clause-there c = first_put c.args.self.now.modes.items c.args.self.now.images.items c.args.image c.requires.away c.requires.some c.requires.shape

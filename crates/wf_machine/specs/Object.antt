@@ -1,0 +1,79 @@
+-- The machine as an object with a history: what a call may answer, and what it leaves.
+use Rattle.std.specs.Prelude.{◌≡◌, ℕ, ◌≤◌, Bool, true, false, not, ◌&&◌}
+use Rattle.wf_pixel.specs.Choice.{is_a8}
+use Rattle.wf_image.specs.Bitmap.{Bitmap}
+use Rattle.wf_calls.specs.declared.call.Call.{Call}
+use Rattle.wf_calls.specs.declared.call.Call.TheVariants as call
+use Rattle.wf_calls.specs.declared.call.Job.{Job}
+use Rattle.wf_calls.specs.declared.call.JobKind.{JobKind}
+use Rattle.wf_calls.specs.declared.call.JobKind.TheVariants as kind
+use Rattle.wf_calls.specs.declared.call.Payload.{Payload}
+use Rattle.wf_calls.specs.declared.call.Payload.TheVariants as payload
+use Rattle.wf_calls.specs.declared.call.Reply.{Reply}
+use Rattle.wf_calls.specs.Codes.{is_out_of_memory, is_ok_code}
+use Rattle.wf_model.specs.State.{State}
+use Rattle.wf_model.specs.Picture.{Fits}
+use Rattle.wf_model.specs.Frames.{is_running}
+use Rattle.wf_model.specs.Step.{step}
+
+-- a call that begins a frame
+abbrev pub is_begin : Call → Bool
+is_begin (call.BeginNext after) = true
+is_begin (call.BeginPort port) = true
+is_begin _ = false
+
+-- a call can be answered now: no call that begins a frame waits for the running one
+abbrev pub is_ready : State → Call → Bool
+is_ready h c = not (is_begin c && is_running h)
+
+-- the step that an answer tells of: one that says so had no memory
+abbrev pub answered_step : State → ℕ → Call → Reply → State × Reply
+answered_step h client c reply = step h client c (is_out_of_memory reply.code)
+
+-- the state after an answer
+abbrev pub after : State → ℕ → Call → Reply → State
+after h client c reply = (answered_step h client c reply).0
+
+-- the image of a Job: that of a port's new Job may hold anything until it is painted
+abbrev pub SameImage : Bool → JobKind → Bitmap → Bitmap → Type 0
+SameImage true (kind.Port port) wanted image = (image.size ≡ wanted.size) × (image.format ≡ wanted.format)
+SameImage _ _ wanted image = image ≡ wanted
+
+-- a Job as wanted: a new one, or one that comes back from a refused End
+pub record SameJob (is_new : Bool) (wanted job : Job) : Type 0 where
+  pub number : job.number ≡ wanted.number
+  pub kind : job.kind ≡ wanted.kind
+  pub scene : job.scene ≡ wanted.scene
+  pub contents : job.contents ≡ wanted.contents
+  pub image : SameImage is_new wanted.kind wanted.image job.image
+
+-- a frame is of one of the four ports that there are at most
+abbrev pub IsOfSomePort : JobKind → Type 0
+IsOfSomePort (kind.Port port) = (1 ≤ port) × (port ≤ 4)
+
+-- a Job that can be painted and shown: scene and contents fit, the image has the scene's size, with 4 bytes for each
+-- pixel, and its port is one of those that there may be
+pub record IsPaintable (job : Job) : Type 0 where
+  pub port : IsOfSomePort job.kind
+  pub fits : Fits job.scene job.contents
+  pub size : job.image.size ≡ job.scene.size
+  pub four : is_a8 job.image.format ≡ false
+
+abbrev pub SamePayload : Bool → Payload → Payload → Type 0
+SamePayload is_new (payload.Job wanted) (payload.Job job) = SameJob is_new wanted job
+SamePayload is_new wanted given = given ≡ wanted
+
+abbrev pub CarriesPaintable : Bool → Payload → Type 0
+CarriesPaintable true (payload.Job job) = IsPaintable job
+CarriesPaintable _ _ = Unit {0}
+
+-- an answer as wanted: its code, its value and its payload; a Job that is answered with Ok can be painted
+pub record IsAnswer (wanted reply : Reply) : Type 0 where
+  pub code : reply.code ≡ wanted.code
+  pub value : reply.value ≡ wanted.value
+  pub payload : SamePayload (is_ok_code reply.code) wanted.payload reply.payload
+  pub paintable : CarriesPaintable (is_ok_code reply.code) reply.payload
+
+-- what a call may answer: what the step answers
+abbrev pub MayAnswer : State → ℕ → Call → Reply → Type 0
+MayAnswer h client c reply = IsAnswer (answered_step h client c reply).1 reply

@@ -1,0 +1,68 @@
+//! The running frame.
+
+ghost use Rattle.std.specs.Prelude.{◌≡◌};
+ghost use Rattle.std.specs.List.{list_all};
+ghost use Rattle.wf_model.specs.Frames.{has_shape, is_of_frame, same_kind};
+ghost use Rattle.wf_image.specs.Contents.{image_of};
+ghost use Rattle.wf_machine.specs.Ports.{running_of};
+
+use arrayvec::ArrayVec;
+use wf_calls::{Job, JobKind};
+use wf_image::Contents;
+use wf_model::Content;
+use wf_pixel::{Format, Size};
+
+/// The running frame: its number and kind, the size and format of its image, and what it holds of each stream.
+#[derive(Drop)]
+pub(crate) struct Frame {
+    pub number: u64,
+    pub kind: JobKind,
+    pub size: Size,
+    pub format: Format,
+    pub contents: ArrayVec<Content, 64>,
+}
+
+impl Frame {
+    /// Whether a Job has the number and the shape of this frame.
+    pub(crate) fn is_of(&self, job: &Job) -> bool
+        ensures { result ≡ is_of_frame job.now (running_of self.now) }
+    {
+        job.number == self.number
+            && is_same_kind(job.kind, self.kind)
+            && job.image.size() == self.size
+            && job.image.format() == self.format
+            && job.contents.len() == self.contents.len()
+            && has_all(&job.contents, self.contents.as_slice())
+    }
+}
+
+/// Whether two frames are of one port.
+fn is_same_kind(first: JobKind, second: JobKind) -> bool
+    ensures { result ≡ same_kind first second }
+{
+    let JobKind::Port { port: first } = first;
+    let JobKind::Port { port: second } = second;
+    first == second
+}
+
+/// Whether there is an image of each of these sizes and formats.
+fn has_all(contents: &Contents, shapes: &[Content]) -> bool
+    ensures { result ≡ list_all (λ c. has_shape (image_of c.stream contents.now) c) shapes.now }
+{
+    for shape in shapes {
+        if !has(contents, *shape) {
+            return false;
+        }
+    }
+    true
+}
+
+/// Whether the image of a stream has this size and format.
+fn has(contents: &Contents, shape: Content) -> bool
+    ensures { result ≡ has_shape (image_of shape.stream contents.now) shape }
+{
+    match contents.find(shape.stream) {
+        Some(image) => image.size() == shape.size && image.format() == shape.format,
+        None => false,
+    }
+}

@@ -1,0 +1,134 @@
+//! The images that a frame takes from the streams of its scene, and their way home.
+
+ghost use Rattle.std.specs.Prelude.{◌≡◌, ◌<◌, ◌≤◌, ◌+◌, ◌++◌, ◌∷◌, [], length, map, None, IfSome};
+ghost use Rattle.wf_image.specs.Contents.{image_of};
+ghost use Rattle.wf_stream.specs.Buffers.{latched, returned};
+ghost use Rattle.wf_stream.specs.Streams.{change_stream, stream_at, IsNumbered};
+ghost use Rattle.wf_model.specs.Frames.{brought_home, content_shape, latch, newest_images, newest_of, scene_streams};
+ghost use Rattle.wf_machine.specs.Latching.{AreAtHome, AreAwaited, AreShapedAs, Awaits, IsAtHome, IsShapedAs, with_newest, without_newest};
+
+use arrayvec::ArrayVec;
+use std::marker::Model;
+use wf_image::{Contents, Image};
+use wf_model::Content;
+use wf_scene::Scene;
+use wf_stream::Store;
+
+/// The images that a frame took so far, and the size and format of each, in the same order.
+#[derive(Drop)]
+pub(crate) struct Latched {
+    contents: Contents,
+    shapes: ArrayVec<Content, 64>,
+}
+
+impl Model for Latched {
+    ghost use Rattle.std.specs.Prelude.{◌≡◌, map};
+    ghost use Rattle.wf_model.specs.Picture.{Images};
+    ghost use Rattle.wf_model.specs.Frames.{content_shape};
+
+    ghost Value = { Images };
+
+    ghost view = { λ l. l.contents };
+
+    ghost invariant = { λ l. l.shapes.items ≡ map content_shape l.contents };
+}
+
+impl Latched {
+    /// Nothing was taken.
+    fn new() -> Latched
+        ensures { result ≡ [] }
+    {
+        Latched {
+            contents: Contents::new(),
+            shapes: ArrayVec::new(),
+        }
+    }
+
+    /// Puts the image of a stream, which has none here yet.
+    fn put(&mut self, stream: u32, image: Image)
+        requires room { length self.old < 64 }
+        requires apart { image_of stream self.old ≡ None }
+        ensures { self.new ≡ self.old ++ (stream, image) ∷ [] }
+    {
+        self.shapes.push(Content {
+            stream,
+            size: image.size(),
+            format: image.format(),
+        });
+        self.contents.put(stream, image);
+    }
+
+    /// Takes the newest image of a stream, unless it is there already or the stream has none.
+    fn take(&mut self, store: &mut Store, number: u32)
+        requires home { image_of number self.old ≡ None → IsAtHome number store.old.streams }
+        requires room { length self.old < 64 }
+        ensures contents { self.new ≡ with_newest number store.old.streams self.old }
+        ensures store { store.new ≡ record store.old { streams = without_newest number self.old store.old.streams } }
+        ensures shaped { AreShapedAs store.old.streams self.old → AreShapedAs store.new.streams self.new }
+    {
+        if self.contents.find(number).is_none() {
+            if let Some(image) = newest_taken(store, number) {
+                self.put(number, image);
+            }
+        }
+    }
+
+    /// The images, and their shapes.
+    pub(crate) fn into_parts(self) -> (Contents, ArrayVec<Content, 64>)
+        ensures contents { result.0 ≡ self }
+        ensures shapes { result.1.items ≡ map content_shape self }
+    {
+        (self.contents, self.shapes)
+    }
+}
+
+/// The newest image of a stream that is kept. It is away until the frame ends.
+fn newest_taken(store: &mut Store, number: u32) -> Option<Image>
+    requires { IsAtHome number store.old.streams }
+    ensures image { result ≡ newest_of (stream_at number store.old.streams) }
+    ensures shape { IfSome result (IsShapedAs number store.old.streams) }
+    ensures store { store.new ≡ record store.old { streams = change_stream number latched store.old.streams } }
+{
+    match store.get_mut(number) {
+        Some(stream) => stream.latch(),
+        None => None,
+    }
+}
+
+/// Takes the newest images of the streams that a scene names: of each layer, from the bottom up, its stream and then
+/// its mask.
+pub(crate) fn latch_scene(store: &mut Store, scene: &Scene) -> Latched
+    requires numbered { IsNumbered 0 store.old.streams store.old.numbered }
+    requires home { AreAtHome store.old.streams }
+    ensures contents { result ≡ newest_images (scene_streams scene.now) store.old.streams }
+    ensures store { store.new ≡ record store.old { streams = latch (scene_streams scene.now) store.old.streams } }
+    ensures shaped { AreShapedAs store.new.streams result }
+{
+    let mut images = Latched::new();
+    for layer in scene.layers.as_slice() {
+        images.take(store, layer.stream);
+        images.take(store, layer.mask);
+    }
+    images
+}
+
+/// Brings the images of a frame home to their streams.
+pub(crate) fn bring_home(store: &mut Store, mut contents: Contents)
+    requires numbered { IsNumbered 0 store.old.streams store.old.numbered }
+    requires awaited { AreAwaited store.old.streams contents }
+    ensures { store.new ≡ record store.old { streams = brought_home contents store.old.streams } }
+{
+    while let Some((number, image)) = contents.pop() {
+        bring_image_home(store, number, image);
+    }
+}
+
+/// Brings an image home to its stream, if that is kept.
+fn bring_image_home(store: &mut Store, number: u32, image: Image)
+    requires { Awaits store.old.streams (number, image) }
+    ensures { store.new ≡ record store.old { streams = change_stream number (returned image) store.old.streams } }
+{
+    if let Some(stream) = store.get_mut(number) {
+        stream.give_back(image);
+    }
+}

@@ -1,0 +1,17 @@
+//! The machine: it answers every call in one place, one after another.
+#![tactic(auto)]
+
+mod calls;
+mod frame;
+mod frames;
+mod latching;
+mod machine;
+mod port;
+mod replies;
+mod scenes;
+mod streams;
+#[cfg(test)]
+mod tests;
+
+pub use machine::Machine;
+pub use wf_words::NoMemory;

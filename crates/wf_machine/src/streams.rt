@@ -1,0 +1,202 @@
+//! The calls on streams.
+
+ghost use Rattle.std.specs.Prelude.{◌≡◌, IfOk, IsErrOf, OnErr, OnOk, IsSome, IsTrue, pos, ◌+◌, ◌||◌, false, true, Some};
+ghost use Rattle.wf_words.specs.Whole.{count_of};
+ghost use Rattle.wf_pixel.specs.Choice.{is_between};
+ghost use Rattle.wf_life.specs.Handles.{is_full};
+ghost use Rattle.wf_calls.specs.Codes.{is_out_of_memory};
+ghost use Rattle.wf_stream.specs.Buffers.{acquired, discarded, is_blocked, posted};
+ghost use Rattle.wf_stream.specs.Streams.{KeptStream, change_stream, has_no_room, held, stream_at, with_live_stream};
+ghost use Rattle.wf_model.specs.Streams.{acquirable, acquire_step, canvas_back, canvas_of, is_out_at_client, is_stream, new_buffers, stat, stream_new, stream_step};
+ghost use Rattle.wf_model.specs.Outcome.{answer};
+ghost use Rattle.wf_machine.specs.Latching.{IsOutFrom};
+
+use crate::machine::Machine;
+use crate::replies::{done, refused};
+use wf_calls::{Code, Payload, Reply, StatWord};
+use wf_image::Canvas;
+use wf_life::MakeStop;
+use wf_pixel::{Format, Size};
+use wf_stream::{Refused, Store};
+
+/// A number between two bounds, both included.
+fn is_between(low: i64, high: i64, number: i64) -> bool
+    ensures { result ≡ is_between low high number }
+{
+    low <= number && number <= high
+}
+
+/// The sides of a stream are from 1 to 1024, and it has 2 to 4 buffers.
+fn is_stream(width: i64, height: i64, buffers: i64) -> bool
+    ensures { result ≡ is_stream width height buffers }
+{
+    is_between(1, 1024, width) && is_between(1, 1024, height) && is_between(2, 4, buffers)
+}
+
+/// A number of a call that is a count of at most 1024.
+fn count(number: i64) -> u32
+    requires { IsTrue (is_between (pos 1) (pos 1024) number) }
+    ensures { result ≡ count_of number }
+{
+    number as u32
+}
+
+/// Makes a stream whose numbers are in their ranges.
+fn make(
+    store: &mut Store,
+    width: i64,
+    height: i64,
+    format: Format,
+    buffers: i64,
+) -> Result<u32, MakeStop>
+    requires { IsTrue (is_stream width height buffers) }
+    ensures handle { IfOk result (λ handle. handle ≡ store.old.made + 1) }
+    ensures made { OnOk result (store.new ≡ with_live_stream (new_buffers width height format buffers) store.old) }
+    ensures room { OnOk result (has_no_room (new_buffers width height format buffers) store.old.streams ≡ false) }
+    ensures free { OnOk result (is_full store.old.made ≡ false) }
+    ensures limit { IsErrOf result MakeStop.Limit → IsTrue (has_no_room (new_buffers width height format buffers) store.old.streams || is_full store.old.made) }
+    ensures memory { IsErrOf result MakeStop.NoMemory → (has_no_room (new_buffers width height format buffers) store.old.streams || is_full store.old.made) ≡ false }
+    ensures refused { OnErr result (store.new ≡ store.old) }
+{
+    let size = Size {
+        w: count(width),
+        h: count(height),
+    };
+    store.make(size, format, count(buffers))
+}
+
+/// Takes the write buffer of a stream that is kept.
+fn acquire_from(store: &mut Store, number: u32) -> Result<Canvas, Refused>
+    requires { IsSome (stream_at number store.old.streams) }
+    ensures canvas { IfOk result (λ canvas. (s : KeptStream) → stream_at number store.old.streams ≡ Some s → canvas ≡ canvas_of s) }
+    ensures free { OnOk result ((s : KeptStream) → stream_at number store.old.streams ≡ Some s → (s.buffers.out ≡ false) × (is_blocked s.buffers ≡ false)) }
+    ensures acquired { OnOk result (store.new ≡ record store.old { streams = change_stream number acquired store.old.streams }) }
+    ensures busy { IsErrOf result Refused.Busy → (s : KeptStream) → stream_at number store.old.streams ≡ Some s → s.buffers.out ≡ true }
+    ensures no_buffer { IsErrOf result Refused.NoBuffer → (s : KeptStream) → stream_at number store.old.streams ≡ Some s → (s.buffers.out ≡ false) × (is_blocked s.buffers ≡ true) }
+    ensures refused { OnErr result (store.new ≡ store.old) }
+{
+    match store.get_mut(number) {
+        Some(stream) => stream.acquire(number),
+        None => unreachable!(),
+    }
+}
+
+/// Makes a write buffer the newest image of its stream.
+fn post_to(store: &mut Store, canvas: Canvas)
+    requires { IsOutFrom store.old.streams canvas }
+    ensures { store.new ≡ record store.old { streams = change_stream canvas.stream (posted canvas.image) store.old.streams } }
+{
+    if let Some(stream) = store.get_mut(canvas.stream) {
+        stream.post(canvas);
+    }
+}
+
+/// Gives a write buffer back to its stream unseen.
+fn discard_to(store: &mut Store, canvas: Canvas)
+    requires { IsOutFrom store.old.streams canvas }
+    ensures { store.new ≡ record store.old { streams = change_stream canvas.stream discarded store.old.streams } }
+{
+    if let Some(stream) = store.get_mut(canvas.stream) {
+        stream.discard(canvas);
+    }
+}
+
+/// A canvas that comes back to its client.
+fn handed_back(canvas: Canvas) -> Reply
+    ensures { result ≡ record { code = Code.BadHandle; value = 0; payload = Payload.Canvas canvas } }
+{
+    Reply {
+        code: Code::BadHandle,
+        value: 0,
+        payload: Payload::Canvas(canvas),
+    }
+}
+
+impl Machine {
+    /// Makes a stream.
+    pub(crate) fn stream_new(
+        &mut self,
+        width: i64,
+        height: i64,
+        format: Format,
+        buffers: i64,
+    ) -> Reply
+        ensures { stream_step self.old (stream_new width height format buffers (is_out_of_memory result.code) self.old) ≡ (self.new, result) }
+    {
+        if !is_stream(width, height, buffers) {
+            return refused(Code::IllegalArgument);
+        }
+        let handle = match make(&mut self.store, width, height, format, buffers) {
+            Ok(handle) => handle,
+            Err(MakeStop::Limit) => return refused(Code::Limit),
+            Err(MakeStop::NoMemory) => return refused(Code::OutOfMemory),
+        };
+        done(handle)
+    }
+
+    /// What is kept.
+    pub(crate) fn stat(&self, what: StatWord) -> Reply
+        ensures { result ≡ answer Code.Ok (stat what (held self.now.streams)) }
+    {
+        let held = self.store.held();
+        match what {
+            StatWord::Streams => done(held.streams),
+            StatWord::Bytes => done(held.bytes as u32),
+        }
+    }
+
+    /// Takes a stream's write buffer.
+    pub(crate) fn acquire(&mut self, stream: u32) -> Reply
+        ensures { acquire_step self.old (acquirable stream self.old) ≡ (self.new, result) }
+    {
+        let Ok(number) = self.store.number(stream) else {
+            return refused(Code::BadHandle);
+        };
+        let canvas = match acquire_from(&mut self.store, number) {
+            Ok(canvas) => canvas,
+            Err(Refused::Busy) => return refused(Code::Busy),
+            Err(Refused::NoBuffer) => return refused(Code::NoBuffer),
+        };
+        Reply {
+            code: Code::Ok,
+            value: 0,
+            payload: Payload::Canvas(canvas),
+        }
+    }
+
+    /// A canvas is the write buffer of a kept stream, out at a client.
+    fn is_out_at_client(&self, canvas: &Canvas) -> bool
+        ensures { result ≡ is_out_at_client canvas.now self.now }
+    {
+        match self.store.get(canvas.stream) {
+            Some(stream) => {
+                stream.is_out()
+                    && stream.size() == canvas.image.size()
+                    && stream.format() == canvas.image.format()
+            }
+            None => false,
+        }
+    }
+
+    /// Makes a write buffer the newest image of its stream.
+    pub(crate) fn post(&mut self, canvas: Canvas) -> Reply
+        ensures { canvas_back canvas (posted canvas.image) self.old ≡ (self.new, result) }
+    {
+        if !self.is_out_at_client(&canvas) {
+            return handed_back(canvas);
+        }
+        post_to(&mut self.store, canvas);
+        done(0)
+    }
+
+    /// Gives a write buffer back unseen.
+    pub(crate) fn discard(&mut self, canvas: Canvas) -> Reply
+        ensures { canvas_back canvas discarded self.old ≡ (self.new, result) }
+    {
+        if !self.is_out_at_client(&canvas) {
+            return handed_back(canvas);
+        }
+        discard_to(&mut self.store, canvas);
+        done(0)
+    }
+}

@@ -1,0 +1,240 @@
+//! The cached scene of a context.
+
+ghost use Rattle.std.specs.Prelude.{◌≡◌, ◌<◌, ◌≤◌, IsTrue, IfOk, OnErr, false, length};
+ghost use Rattle.wf_words.specs.Refusals.{left_by};
+ghost use Rattle.wf_scene.specs.Elements.{may_take};
+ghost use Rattle.wf_scene.specs.Cached as cached;
+ghost use Rattle.wf_scene.specs.Consistent as scene;
+ghost use Rattle.wf_scene.specs.Cached.{IsOrderly};
+
+use crate::attributes::{ContextAttr, ElementAttr, Refused};
+use crate::consistency::layers_of;
+use crate::element::{Element, find, place_in};
+use crate::look::{Fault, Look};
+use crate::order::Handles;
+use crate::{Scene, order, values};
+use arrayvec::ArrayVec;
+use std::alloc::Global;
+use std::marker::Model;
+use wf_pixel::{Rgba, Rotation, Size};
+use wf_words::NoMemory;
+
+/// How many elements live in a context at most.
+const MOST_ELEMENTS: usize = 64;
+
+/// A context's cached scene: its target's size and whether that is a screen, its turn and its background, its live
+/// elements with their attributes, and which of them are inserted, from the bottom up. No call but `new` takes memory.
+#[derive(Drop)]
+pub struct Cached {
+    size: Size,
+    on_screen: bool,
+    turn: Rotation,
+    background: Rgba,
+    elements: Vec<Element>,
+    order: Handles,
+}
+
+impl Model for Cached {
+    ghost use Rattle.wf_scene.specs.Cached.{CachedScene};
+
+    ghost Value = { CachedScene };
+
+    ghost use Rattle.wf_scene.specs.Inside.{scene_inside, IsSound};
+
+    ghost view = { scene_inside };
+
+    ghost invariant = { IsSound };
+}
+
+impl Cached {
+    /// A scene without elements for a target of this size, which is a screen or not, with the room for 64 elements.
+    pub fn new(alloc: Global, target: Size, on_screen: bool) -> Result<Cached, NoMemory>
+        ensures { IfOk result (λ made. made ≡ cached.empty target on_screen) }
+    {
+        let elements = Vec::with_capacity(alloc, MOST_ELEMENTS)?;
+        Ok(Cached {
+            size: target,
+            on_screen,
+            turn: Rotation::R0,
+            background: Rgba {
+                r: 0,
+                g: 0,
+                b: 0,
+                a: 255,
+            },
+            elements,
+            order: ArrayVec::new(),
+        })
+    }
+
+    /// How many elements live here.
+    pub fn count(&self) -> u32
+        ensures count { result ≡ length self.now.elements }
+        ensures orderly { IsOrderly self.now }
+    {
+        self.elements.len() as u32
+    }
+
+    /// An element lives here.
+    pub fn has(&self, element: u32) -> bool
+        ensures live { result ≡ cached.has_element element self.now }
+        ensures orderly { IsOrderly self.now }
+    {
+        self.elements.iter().any(|e| e.handle == element)
+    }
+
+    /// One more element, with the initial attributes. Its handle is not 0.
+    pub fn add(&mut self, element: u32)
+        requires room { length self.old.elements < 64 }
+        requires handle { 0 < element }
+        requires fresh { cached.has_element element self.old ≡ false }
+        ensures added { self.new ≡ cached.add element self.old }
+        ensures orderly { IsOrderly self.new }
+    {
+        self.elements.push_reserved(Element::new(element));
+    }
+
+    /// The element lives here no more, and is not inserted.
+    pub fn forget(&mut self, element: u32)
+        requires { IsTrue (cached.has_element element self.old) }
+        ensures forgotten { self.new ≡ cached.forget element self.old }
+        ensures orderly { IsOrderly self.new }
+    {
+        order::take_out(&mut self.order, element);
+        let place = place_in(&self.elements, element);
+        self.elements.remove(place);
+    }
+
+    /// Sets an attribute of a live element. A value that names a source or a mask is 0 or a handle, which is for the
+    /// caller to test; every other number may be anything, and is refused outside the attribute's range.
+    pub fn set(&mut self, element: u32, attr: ElementAttr, value: [i64; 4]) -> Result<(), Refused>
+        requires live { IsTrue (cached.has_element element self.old) }
+        requires number { IsTrue (may_take attr value) }
+        ensures case { cached.set element attr value self.old ≡ left_by result self.new }
+        ensures refused { OnErr result (self.new ≡ self.old) }
+        ensures orderly { IsOrderly self.new }
+    {
+        let place = place_in(&self.elements, element);
+        let Some(changed) = self.elements[place].with(attr, value) else {
+            return Err(Refused::IllegalArgument);
+        };
+        self.elements[place] = changed;
+        Ok(())
+    }
+
+    /// One number of an attribute of a live element, by its index from 0. A negative one is given in two's complement.
+    pub fn get(&self, element: u32, attr: ElementAttr, index: i64) -> Result<u32, Refused>
+        requires { IsTrue (cached.has_element element self.now) }
+        ensures { result ≡ cached.get element attr index self.now }
+    {
+        match find(&self.elements, element) {
+            Some(e) => e.number(attr, index).ok_or(Refused::IllegalArgument),
+            None => Err(Refused::IllegalArgument),
+        }
+    }
+
+    /// Puts a live element directly above another, or to the bottom where that is 0. An element that is inserted already
+    /// is moved, and above itself it stays where it is.
+    pub fn insert(&mut self, element: u32, below: u32) -> Result<(), Refused>
+        requires { IsTrue (cached.has_element element self.old) }
+        ensures case { cached.insert element below self.old ≡ left_by result self.new }
+        ensures refused { OnErr result (self.new ≡ self.old) }
+        ensures orderly { IsOrderly self.new }
+    {
+        if !order::is_base(self.order.as_slice(), below) {
+            return Err(Refused::IllegalArgument);
+        }
+        if order::has_no_room(self.order.as_slice(), element) {
+            return Err(Refused::Limit);
+        }
+        order::insert(&mut self.order, element, below);
+        Ok(())
+    }
+
+    /// Takes an inserted element out of the order. It stays a live element.
+    pub fn remove(&mut self, element: u32) -> Result<(), Refused>
+        requires { IsTrue (cached.has_element element self.old) }
+        ensures case { cached.remove element self.old ≡ left_by result self.new }
+        ensures refused { OnErr result (self.new ≡ self.old) }
+        ensures orderly { IsOrderly self.new }
+    {
+        if !order::is_inserted(self.order.as_slice(), element) {
+            return Err(Refused::IllegalArgument);
+        }
+        order::take_out(&mut self.order, element);
+        Ok(())
+    }
+
+    /// The element directly above an inserted one, or 0.
+    pub fn above(&self, element: u32) -> Result<u32, Refused>
+        requires { IsTrue (cached.has_element element self.now) }
+        ensures { result ≡ cached.above element self.now }
+    {
+        order::above(self.order.as_slice(), element).ok_or(Refused::IllegalArgument)
+    }
+
+    /// The element directly below an inserted one, or 0.
+    pub fn below(&self, element: u32) -> Result<u32, Refused>
+        requires { IsTrue (cached.has_element element self.now) }
+        ensures { result ≡ cached.below element self.now }
+    {
+        order::below(self.order.as_slice(), element).ok_or(Refused::IllegalArgument)
+    }
+
+    /// Sets an attribute of the context: its rotation or its background.
+    pub fn set_context(&mut self, attr: ContextAttr, value: [i64; 4]) -> Result<(), Refused>
+        ensures case { cached.set_context attr value self.old ≡ left_by result self.new }
+        ensures refused { OnErr result (self.new ≡ self.old) }
+        ensures orderly { IsOrderly self.new }
+    {
+        match attr {
+            ContextAttr::Rotation => {
+                self.turn = values::turn_of(value[0]).ok_or(Refused::IllegalArgument)?;
+                Ok(())
+            }
+            ContextAttr::Background => {
+                self.background = values::colour_of(value).ok_or(Refused::IllegalArgument)?;
+                Ok(())
+            }
+            _ => Err(Refused::BadAttribute),
+        }
+    }
+
+    /// One number of an attribute of the context, by its index from 0.
+    pub fn get_context(&self, attr: ContextAttr, index: i64) -> Result<u32, Refused>
+        ensures { result ≡ cached.get_context attr index self.now }
+    {
+        let number = match attr {
+            ContextAttr::Rotation => values::at_index(index, &[values::degrees(self.turn)]),
+            ContextAttr::Background => {
+                values::at_index(index, &values::colour_numbers(self.background))
+            }
+            ContextAttr::Width => values::at_index(index, &[self.size.w]),
+            ContextAttr::Height => values::at_index(index, &[self.size.h]),
+            ContextAttr::Lowest => values::at_index(index, &[order::lowest(self.order.as_slice())]),
+        };
+        number.ok_or(Refused::IllegalArgument)
+    }
+
+    /// The scene that a commit takes: the target's size, the turn, the background, which is opaque on a screen, and a
+    /// layer for each inserted element; or the first fault from the bottom up.
+    pub fn consistent<L: Look>(&self, look: &L) -> Result<Scene, Fault>
+        ensures { result ≡ scene.consistent (L.sight look.now) self.now }
+    {
+        let layers = layers_of(look, &self.elements, self.order.as_slice())?;
+        let background = if self.on_screen {
+            Rgba {
+                a: 255,
+                ..self.background
+            }
+        } else {
+            self.background
+        };
+        Ok(Scene {
+            size: self.size,
+            turn: self.turn,
+            background,
+            layers,
+        })
+    }
+}

@@ -1,0 +1,150 @@
+-- The Job that a program takes can be painted.
+use Rattle.std.proofs.Common.{◌≡◌, ◌∙◌, ℕ, ◌+◌, Bool, true, false, not, cond, ◌==◌, ◌||◌, List, [], ◌∷◌, Option, Some, None, refl, sym, ap, subst, arith, IsTrue}
+use Rattle.std.specs.Prelude.{nat_lt, ℤ, pos}
+use Rattle.std.specs.Option.{is_some, option_map, IfSome}
+use Rattle.wf_words.specs.Whole.{count_of}
+use Rattle.wf_image.specs.declared.canvas.Canvas.{Canvas}
+use Rattle.wf_image.specs.declared.paint.Paint.{Paint}
+use Rattle.wf_scene.specs.declared.Scene.{Scene}
+use Rattle.wf_calls.specs.declared.call.Call.{Call}
+use Rattle.wf_calls.specs.declared.call.Call.TheVariants as call
+use Rattle.wf_calls.specs.declared.call.Job.{Job}
+use Rattle.wf_calls.specs.declared.call.Payload.{Payload}
+use Rattle.wf_calls.specs.declared.call.Payload.TheVariants as payload
+use Rattle.wf_calls.specs.declared.call.Reply.{Reply}
+use Rattle.wf_calls.specs.declared.code.Code.{Code}
+use Rattle.wf_calls.specs.declared.code.Code.TheVariants as code
+use Rattle.wf_calls.specs.Codes.{is_ok_code, is_out_of_memory}
+use Rattle.wf_machine.specs.Object.{CarriesPaintable, IsAnswer, IsPaintable, MayAnswer, SamePayload, is_begin}
+use Rattle.wf_model.specs.Display.{port_scene}
+use Rattle.wf_model.specs.Frames.{all_begun, begin_next, begin_port, is_running}
+use Rattle.wf_model.specs.State.{State}
+use Rattle.wf_model.specs.Step.{step}
+use Rattle.wf_script.specs.declared.line.Line.{Line}
+use Rattle.wf_script.specs.declared.line.Verb.{Verb}
+use Rattle.wf_script.specs.declared.line.Verb.TheVariants as verb
+use Rattle.wf_turn.specs.declared.stage.Leg.{Leg}
+use Rattle.wf_turn.specs.declared.stage.Leg.TheVariants as leg
+use Rattle.wf_turn.specs.declared.stage.Stage.{Stage}
+use Rattle.wf_turn.specs.declared.stage.Stage.TheVariants as stage
+use Rattle.wf_turn.specs.declared.stage.Wanted.{Wanted}
+use Rattle.wf_turn.specs.Names.{bound_name}
+use Rattle.wf_turn.specs.Program.{Program, asked_for, asked_next, at_port, before, bound, first_call, first_line, given_canvas, go_on, line_done, next, port_count, ticking, took, took_at, took_first, took_frame, took_job, took_leg, wanted_at, waiting}
+use Rattle.wf_turn.specs.Ready.{IsFit, IsWork}
+
+-- an answer that may carry a Job carries one only with Ok
+abbrev JobIsOk : Reply → Type 0
+JobIsOk wanted = (job : Job) → wanted.payload ≡ payload.Job job → wanted.code ≡ code.Ok
+
+next_ok : (after : ℕ) (h : State) → JobIsOk (begin_next after h).1
+next_ok after h job has = of_test (is_running h) refl
+  where
+    of_test : (b : Bool) → is_running h ≡ b → (begin_next after h).1.code ≡ code.Ok
+    of_test true is = absurd (let none : payload.Nothing ≡ payload.Job job = rw is at has in cc)
+    of_test false is = rw is refl
+
+port_ok : (port : ℤ) (h : State) → JobIsOk (begin_port port h).1
+port_ok port h job has = of_scene (port_scene (count_of port) h.display) refl
+  where
+    Ok : Type 0
+    Ok = (begin_port port h).1.code ≡ code.Ok
+
+    of_limit : (s : Scene) → port_scene (count_of port) h.display ≡ Some s → is_running h ≡ false → (b : Bool) → all_begun h ≡ b → Ok
+    of_limit s shows runs true is = absurd (let none : payload.Nothing ≡ payload.Job job = rw (shows, runs, is) at has in cc)
+    of_limit s shows runs false is = rw (shows, runs, is) refl
+
+    of_running : (s : Scene) → port_scene (count_of port) h.display ≡ Some s → (b : Bool) → is_running h ≡ b → Ok
+    of_running s shows true is = absurd (let none : payload.Nothing ≡ payload.Job job = rw (shows, is) at has in cc)
+    of_running s shows false is = of_limit s shows is (all_begun h) refl
+
+    of_scene : (o : Option Scene) → port_scene (count_of port) h.display ≡ o → Ok
+    of_scene None is = absurd (let none : payload.Nothing ≡ payload.Job job = rw is at has in cc)
+    of_scene (Some s) is = of_running s is (is_running h) refl
+
+-- a Job that comes with an answer as wanted comes with one that is wanted
+wanted_job : (is_new : Bool) (wanted : Payload) (job : Job) → SamePayload is_new wanted (payload.Job job) → (j : Job) × (wanted ≡ payload.Job j)
+wanted_job is_new (payload.Job j) job same = (j, refl)
+wanted_job is_new payload.Nothing job same = absurd cc
+wanted_job is_new (payload.Canvas canvas) job same = absurd cc
+
+carried : (wanted given : Reply) (job : Job) → JobIsOk wanted → IsAnswer wanted given → given.payload ≡ payload.Job job → IsPaintable job
+carried wanted given job ok answer has =
+    let same : SamePayload (is_ok_code given.code) wanted.payload (payload.Job job) = subst (λ (x : Payload). SamePayload (is_ok_code given.code) wanted.payload x) has answer.payload in
+    let j = wanted_job (is_ok_code given.code) wanted.payload job same in
+    let is : is_ok_code given.code ≡ true = ap is_ok_code (answer.code ∙ ok j.0 j.1) in
+    let carries : CarriesPaintable (is_ok_code given.code) (payload.Job job) = subst (λ (x : Payload). CarriesPaintable (is_ok_code given.code) x) has answer.paintable in
+    rw is at carries
+
+-- a Job that comes with the answer to a call that begins a frame can be painted
+begun_paintable : (h : State) (client : ℕ) (c : Call) (reply : Reply) (job : Job) → is_begin c ≡ true → MayAnswer h client c reply → reply.payload ≡ payload.Job job → IsPaintable job
+unfolding step
+begun_paintable h client (call.StreamNew w ht f b) reply job begins may has = absurd cc
+begun_paintable h client (call.Acquire s) reply job begins may has = absurd cc
+begun_paintable h client (call.Post canvas) reply job begins may has = absurd cc
+begun_paintable h client (call.Discard canvas) reply job begins may has = absurd cc
+begun_paintable h client (call.Stat what) reply job begins may has = absurd cc
+begun_paintable h client (call.BeginNext after) reply job begins may has = carried (begin_next after h).1 reply job (next_ok after h) may has
+begun_paintable h client (call.BeginPort port) reply job begins may has = carried (begin_port port h).1 reply job (port_ok port h) may has
+begun_paintable h client (call.End j) reply job begins may has = absurd cc
+
+-- no Job is left to paint by what goes on without one
+module _ (p : Program) (painted : p.unpainted ≡ false) where
+  done_painted : (v : ℕ) → (line_done p v).unpainted ≡ false
+  done_painted v = of_lines p.lines refl
+    where
+      of_lines : (ls : List (ℕ × Line)) → p.lines ≡ ls → (line_done p v).unpainted ≡ false
+      of_lines [] is = rw is painted
+      of_lines (l ∷ ls) is = rw is painted
+
+  port_painted : (port : ℕ) → (at_port p port).unpainted ≡ false
+  port_painted port = elim (nat_lt (port_count p) port) as (λ b. (cond b (line_done p 0) (record p { stage = stage.Ticking (leg.Ports port) })).unpainted ≡ false) [ true ↦ done_painted 0 | false ↦ painted ]
+
+  on_painted : (l : Leg) → (go_on p l).unpainted ≡ false
+  on_painted (leg.Contexts asked last) =
+      elim ((last == 0) || not (nat_lt asked 16)) as (λ b. (cond b (at_port p 1) (record p { stage = stage.Ticking (leg.Contexts asked last) })).unpainted ≡ false) [ true ↦ port_painted 1 | false ↦ painted ]
+  on_painted (leg.Ports port) = port_painted port
+
+no_work : (p : Program) → p.unpainted ≡ false → IsWork p
+no_work p painted unpainted = absurd (cc (painted, unpainted))
+
+job_work : (p : Program) (given : Payload) (l : Leg) → p.unpainted ≡ false → ((job : Job) → given ≡ payload.Job job → IsPaintable job) → IsWork (took_job p given l)
+job_work p (payload.Job job) l painted paintable unpainted = paintable job refl
+job_work p payload.Nothing l painted paintable = no_work (go_on p l) (on_painted p painted l)
+job_work p (payload.Canvas canvas) l painted paintable = no_work (go_on p l) (on_painted p painted l)
+
+module _ (p : Program) (h : State) (client : ℕ) (w : Wanted) (reply : Reply) (painted : p.unpainted ≡ false) (may : MayAnswer h client w.call reply) where
+  begins_work : is_begin w.call ≡ true → (job : Job) → reply.payload ≡ payload.Job job → IsPaintable job
+  begins_work begins job has = begun_paintable h client w.call reply job begins may has
+
+  first_work : (l : Line) (v : Verb) → first_call p v ≡ Some w → IsWork (took_first p (record l { verb = v }) reply)
+  first_work l (verb.StreamNew width ht f b) wants = no_work (line_done p reply.value) (done_painted p painted reply.value)
+  first_work l (verb.Acquire s) wants = no_work _ (done_painted (record p { canvas = given_canvas reply.payload }) painted 0)
+  first_work l verb.Post wants = no_work _ (done_painted (record p { canvas = given_canvas reply.payload }) painted 0)
+  first_work l verb.Discard wants = no_work _ (done_painted (record p { canvas = given_canvas reply.payload }) painted 0)
+  first_work l (verb.Stat what) wants = no_work (line_done p reply.value) (done_painted p painted reply.value)
+  first_work l (verb.Paint paint) wants = no_work (line_done p reply.value) (done_painted p painted reply.value)
+  first_work l (verb.Frame s paint) wants = of_canvas (given_canvas reply.payload)
+    where
+      of_canvas : (c : Option Canvas) → IsWork (took_frame p paint c)
+      of_canvas None = no_work (line_done p 0) (done_painted p painted 0)
+      of_canvas (Some canvas) = no_work _ painted
+  first_work l verb.Tick wants =
+      let is : waiting (call.BeginNext 0) ≡ w = cc in
+      job_work (ticking p) reply.payload (leg.Contexts 1 reply.value) painted (begins_work (ap (λ (x : Wanted). is_begin x.call) (sym is)))
+
+  leg_work : (m : Leg) → asked_for m ≡ w → IsWork (took_leg p reply m)
+  leg_work (leg.Contexts asked last) is = job_work p reply.payload (leg.Contexts (asked + 1) reply.value) painted (begins_work (ap (λ (x : Wanted). is_begin x.call) (sym is)))
+  leg_work (leg.Ports port) is = job_work p reply.payload (leg.Ports (port + 1)) painted (begins_work (ap (λ (x : Wanted). is_begin x.call) (sym is)))
+
+  stage_work : (l : Line) (s : Stage) → wanted_at p l.verb s ≡ Some w → IsWork (took_at p l reply s)
+  stage_work l stage.Fresh wants = first_work l l.verb wants
+  stage_work l stage.Posting wants = no_work _ (done_painted (record p { canvas = given_canvas reply.payload }) painted 0)
+  stage_work l (stage.Ticking m) wants = leg_work m cc
+  stage_work l (stage.Ending m) wants = no_work _ (on_painted (record p { job = None; unpainted = false }) refl m)
+
+  pub took_work : next p ≡ Some w → IsWork (took p reply)
+  took_work wants = of_line (first_line p) refl
+    where
+      of_line : (o : Option Line) → first_line p ≡ o → IsWork (took p reply)
+      of_line None none = absurd (let no : None ≡ Some w = rw none at wants in cc)
+      of_line (Some l) is = rw is (stage_work l p.stage (rw is at wants))

@@ -1,0 +1,78 @@
+-- Sums of quotas.
+use Rattle.std.proofs.Common.{◌≡◌, ◌∙◌, ℕ, zero, suc, ◌+◌, ◌*◌, ◌<◌, ◌≤◌, ◌==◌, Bool, true, false, cond, List, [], ◌∷◌, ◌++◌, length, refl, sym, ap, subst, arith}
+use Rattle.std.specs.Prelude.{sum_by}
+use Rattle.std.specs.List.{range_with_len}
+use Rattle.std.proofs.lemmas.Bool.Decides.{nat_tests}
+use Rattle.std.proofs.lemmas.List.Sums.{sum_by-cons}
+use Rattle.wf_script.specs.declared.line.Line.{Line}
+use Rattle.wf_script.specs.declared.line.Verb.{Verb}
+use Rattle.wf_script.specs.declared.line.Verb.TheVariants as verb
+use Rattle.wf_turn.specs.Quota.{line_quota, most_turns, quota, quota_of}
+
+-- one number more
+pub total_more : (f : ℕ → ℕ) (n : ℕ) → sum_by f (range_with_len 0 (n + 1)) ≡ sum_by f (range_with_len 0 n) + f n
+total_more f n = from 0 n ∙ ap (λ (k : ℕ). sum_by f (range_with_len 0 n) + f k) (omega arith)
+  where
+    from : (a n : ℕ) → sum_by f (range_with_len a (n + 1)) ≡ sum_by f (range_with_len a n) + f (a + n)
+    from a zero =
+        let here : a ≡ a + 0 = omega arith in
+        sum_by-cons f a [] ∙ (rw (sym here) (omega arith))
+    from a (suc n) =
+        let shift : suc n + 1 ≡ suc (n + 1) = omega arith in
+        let at : a + 1 + n ≡ a + suc n = omega arith in
+        rw shift (sum_by-cons f a (range_with_len (a + 1) (n + 1)) ∙ ap (λ (k : ℕ). f a + k) (from (a + 1) n) ∙ rw at (omega (arith, sum_by-cons f a (range_with_len (a + 1) n))))
+
+least_40 : (v : Verb) → line_quota v ≤ 40
+least_40 (verb.StreamNew w h f b) = omega arith
+least_40 (verb.Acquire s) = omega arith
+least_40 verb.Post = omega arith
+least_40 verb.Discard = omega arith
+least_40 (verb.Stat w) = omega arith
+least_40 (verb.Paint p) = omega arith
+least_40 (verb.Frame s p) = omega arith
+least_40 verb.Tick = omega arith
+
+-- a line is of one client at most
+one_client : (l : Line) (a n : ℕ) → sum_by (λ c. quota_of c l) (range_with_len a n) ≤ line_quota l.verb
+one_client l a zero = omega arith
+one_client l a (suc n) =
+    let each : ℕ → ℕ = λ c. quota_of c l in
+    elim (l.client == a) as (λ b. (l.client == a) ≡ b → sum_by each (a ∷ range_with_len (a + 1) n) ≤ line_quota l.verb) [
+      | true ↦ λ here. (
+        let none = past l (a + 1) n (grind (arith, nat_tests, here)) in
+        let this : each a ≡ line_quota l.verb = ap (λ (b : Bool). cond b (line_quota l.verb) 0) here in
+        omega (arith, sum_by-cons each a (range_with_len (a + 1) n), none, this))
+      | false ↦ λ apart. (
+        let rest = one_client l (a + 1) n in
+        let none : each a ≡ 0 = ap (λ (b : Bool). cond b (line_quota l.verb) 0) apart in
+        omega (arith, sum_by-cons each a (range_with_len (a + 1) n), rest, none))
+    ] refl
+  where
+    past : (l : Line) (a n : ℕ) → l.client < a → sum_by (λ c. quota_of c l) (range_with_len a n) ≡ 0
+    past l a zero below = refl
+    past l a (suc n) below =
+        let each : ℕ → ℕ = λ c. quota_of c l in
+        let apart : (l.client == a) ≡ false = grind (arith, nat_tests, below) in
+        let none : each a ≡ 0 = ap (λ (b : Bool). cond b (line_quota l.verb) 0) apart in
+        let rest = past l (a + 1) n (omega (arith, below)) in
+        omega (arith, sum_by-cons each a (range_with_len (a + 1) n), rest, none)
+
+-- sums of sums
+sum_both : (f g h : ℕ → ℕ) (ns : List ℕ) → ((n : ℕ) → h n ≡ f n + g n) → sum_by h ns ≡ sum_by f ns + sum_by g ns
+sum_both f g h [] each = refl
+sum_both f g h (n ∷ ns) each =
+    let rest = sum_both f g h ns each in
+    omega (arith, sum_by-cons f n ns, sum_by-cons g n ns, sum_by-cons h n ns, each n, rest)
+
+-- a line makes 40 events at most
+pub most_40 : (lines : List Line) → most_turns lines ≤ 40 * length lines
+most_40 [] = nothing (range_with_len 0 8)
+  where
+    nothing : (ns : List ℕ) → sum_by (quota []) ns ≤ 0
+    nothing [] = omega arith
+    nothing (n ∷ ns) = (let rest = nothing ns in omega (arith, sum_by-cons (quota []) n ns, rest))
+most_40 (l ∷ lines) =
+    let split = sum_both (λ c. quota_of c l) (quota lines) (quota (l ∷ lines)) (range_with_len 0 8) (λ c. sum_by-cons (quota_of c) l lines) in
+    let one = one_client l 0 8 in
+    let rest = most_40 lines in
+    omega (arith, split, one, least_40 l.verb, rest)

@@ -1,0 +1,12 @@
+use Rattle.std.proofs.Common.{◌≡◌, ◌+◌, ◌*◌, ◌≤◌, arith}
+use Rattle.wf_turn.specs.Quota.{quota}
+use Rattle.wf_turn.proofs.QuotaSums.{total_more}
+use Rattle.wf_turn.proofs.quotas.most_turns.Goals as goal
+
+pub loop-client-preserved : goal.loop-client-preserved
+loop-client-preserved c =
+    let was = c.loop-client.invariant in
+    record {
+      sum = omega (arith, was.sum, c.quota.ensures.count, total_more (quota c.args.script.now.lines) c.loop-client.client);
+      most = omega (arith, was.most, c.quota.ensures.most);
+    }

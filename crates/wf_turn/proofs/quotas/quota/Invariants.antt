@@ -1,0 +1,11 @@
+use Rattle.std.proofs.Common.{◌≡◌, ◌*◌, ◌≤◌, take}
+use Rattle.std.specs.Prelude.{sum_by}
+use Rattle.wf_turn.specs.Quota.{quota_of}
+use Rattle.wf_turn.proofs.quotas.quota.Given as goal
+
+-- the sum of the lines so far
+abbrev pub invariant-loop-line : goal.invariant-loop-line
+invariant-loop-line l = record {
+  sum : l.sum ≡ sum_by (quota_of l.client) (take l.line-index l.line-items);
+  most : l.sum ≤ 40 * l.line-index;
+}

@@ -1,0 +1,28 @@
+-- Where a name stands first in a list of names, and a map that tells it.
+use Rattle.std.specs.Prelude.{◌≡◌, ℕ, zero, suc, Bool, List, [], ◌∷◌, map, Option, Some, None, option_map, if◌then◌else◌}
+use Rattle.std.specs.Str.{bytes_eq}
+use Rattle.std.specs.BTreeMap.{get_by}
+use Rattle.std.specs.Cmp.Lexicographic.{slice_cmp}
+use Rattle.std.specs.Ordering.{nat_cmp}
+use Rattle.wf_script.specs.declared.name.Name.{Name}
+use Rattle.wf_turn.specs.declared.index.Index as declared
+
+abbrev pub next_place : Option ℕ → Option ℕ
+next_place None = None
+next_place (Some n) = Some (suc n)
+
+-- the place where a name stands first
+abbrev pub place_in : Name → List Name → Option ℕ
+place_in name [] = None
+place_in name (n ∷ ns) = if bytes_eq n name then Some zero else next_place (place_in name ns)
+
+abbrev pub names_of : declared.Index → List Name
+names_of index = map (λ n. n.now) index.names.items
+
+-- where the map tells that a name stands
+abbrev pub told : declared.Index → Name → Option ℕ
+told index name = get_by (λ key. slice_cmp nat_cmp name key.now) index.places
+
+-- the map tells the place where each name stands first
+abbrev pub IsIndex : declared.Index → Type 0
+IsIndex index = (name : Name) → told index name ≡ place_in name (names_of index)

@@ -1,0 +1,55 @@
+//! How many events a script makes at most.
+
+ghost use Rattle.std.specs.Prelude.{◌≡◌, ◌*◌, ◌≤◌, length};
+ghost use Rattle.wf_turn.specs.Quota.{line_quota, most_turns, quota, quota_of};
+
+use wf_script::{Line, Script, Verb};
+
+/// How many events a line makes at most.
+fn line_quota(verb: &Verb) -> u32
+    ensures count { result ≡ line_quota verb.now }
+    ensures most { result ≤ 40 }
+{
+    match verb {
+        Verb::Tick => 40,
+        Verb::Frame { .. } => 2,
+        Verb::Paint(_) => 0,
+        _ => 1,
+    }
+}
+
+/// How many events a line makes at most, if it is a client's.
+fn quota_of(client: u8, line: &Line) -> u32
+    ensures count { result ≡ quota_of client line.now }
+    ensures most { result ≤ 40 }
+{
+    if line.client == client {
+        line_quota(&line.verb)
+    } else {
+        0
+    }
+}
+
+/// How many events the lines of a client make at most: 40 for a `tick`, 2 for a `frame`, none for a `paint`, and one
+/// for any other line.
+pub fn quota(script: &Script, client: u8) -> u32
+    ensures count { result ≡ quota script.now.lines client }
+    ensures most { result ≤ 40 * 16384 }
+{
+    let mut sum = 0;
+    for line in script.lines() {
+        sum += quota_of(client, line);
+    }
+    sum
+}
+
+/// How many events the lines of all clients make at most.
+pub(crate) fn most_turns(script: &Script) -> usize
+    ensures { result ≡ most_turns script.now.lines }
+{
+    let mut sum = 0;
+    for client in 0..8u8 {
+        sum += quota(script, client) as usize;
+    }
+    sum
+}

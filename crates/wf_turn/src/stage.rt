@@ -1,0 +1,32 @@
+//! Where a program stands in its first line.
+
+use wf_calls::Call;
+
+/// What a tick asks for next.
+#[derive(Clone, Copy, Debug, PartialEq, Eq)]
+pub enum Leg {
+    /// A frame of a context: so many were asked for, and the last answer had this value.
+    Contexts { asked: u32, last: u32 },
+    /// The frame of a port, counted from 1.
+    Ports { port: u32 },
+}
+
+/// Where a program stands in its first line.
+#[derive(Clone, Copy, Debug, PartialEq, Eq)]
+pub enum Stage {
+    /// Before it.
+    Fresh,
+    /// With a painted canvas to post.
+    Posting,
+    /// In a tick, before it asks for a frame.
+    Ticking(Leg),
+    /// In a tick, with a frame's Job to end, and where it goes on.
+    Ending(Leg),
+}
+
+/// A call that a program makes next, and whether it waits until no frame runs.
+#[derive(Drop)]
+pub struct Wanted {
+    pub call: Call,
+    pub wait: bool,
+}

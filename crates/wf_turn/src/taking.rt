@@ -1,0 +1,212 @@
+//! The answers that a program takes.
+
+ghost use Rattle.std.specs.Prelude.{◌≡◌, ◌<◌, ◌≤◌, ◌+◌, ◌-◌, ◌^◌, ◌++◌, length, is_some, IsTrue};
+ghost use Rattle.std.specs.Option.{option_copied};
+ghost use Rattle.wf_image.specs.Paints.{is_paint};
+ghost use Rattle.wf_script.specs.Script.{is_line};
+ghost use Rattle.wf_turn.specs.Ready.{IsAnswered, IsAsking, IsWork};
+ghost use Rattle.wf_turn.specs.Names.{bound_name, bound_value};
+ghost use Rattle.wf_turn.specs.Program.{asked_next, at_port, given_canvas, go_on, line_done, port_count, took, took_canvas, took_first, took_frame, took_job, took_leg, is_work, ticking, worked};
+
+use crate::names::{Names, is_creation};
+use crate::program::Program;
+use crate::skipping::skip;
+use crate::stage::{Leg, Stage};
+use wf_calls::{Job, Payload, Reply};
+use wf_image::{Canvas, Paint};
+use wf_kernel::picture;
+use wf_script::{Line, Verb};
+
+/// How many contexts a tick asks for at most.
+const MOST_CONTEXTS: u32 = 16;
+
+/// Gives the name that a line binds, if there is one, its value.
+fn bind_line(own: &mut Names, line: &Line, value: u32)
+    requires { IsTrue (is_some (bound_name line.now)) → length own.old.values < length own.old.names }
+    ensures { own.new ≡ record own.old { values = own.old.values ++ bound_value (bound_name line.now) value } }
+{
+    if is_creation(&line.verb) && line.name.is_some() {
+        own.bind(value);
+    }
+}
+
+/// The canvas that comes with an answer.
+fn given_canvas(payload: Payload) -> Option<Canvas>
+    ensures { result ≡ given_canvas payload }
+{
+    match payload {
+        Payload::Canvas(canvas) => Some(canvas),
+        _ => None,
+    }
+}
+
+impl<'a> Program<'a> {
+    /// The first line is through; the name that it binds, if there is one, has this value.
+    fn finish(&mut self, value: u32)
+        ensures { self.new ≡ line_done self.old value }
+    {
+        let lines = self.script.lines();
+        if self.at < lines.len() {
+            bind_line(&mut self.own, &lines[self.at], value);
+            self.at = skip(lines, self.client, self.at + 1, &mut self.canvas);
+            self.stage = Stage::Fresh;
+        }
+    }
+
+    /// Goes on with the ports of a tick from one on.
+    fn at_port(&mut self, port: u32)
+        requires { port ≤ port_count self.old + 1 }
+        ensures { self.new ≡ at_port self.old port }
+    {
+        if self.port_count < port {
+            self.finish(0);
+        } else {
+            self.stage = Stage::Ticking(Leg::Ports { port });
+        }
+    }
+
+    /// Goes on after the answer to a question for a context's frame, or after the end of that frame.
+    fn asked_next(&mut self, asked: u32, last: u32)
+        requires { asked ≤ 16 }
+        ensures { self.new ≡ asked_next self.old asked last }
+    {
+        if last == 0 || asked >= MOST_CONTEXTS {
+            self.at_port(1);
+        } else {
+            self.stage = Stage::Ticking(Leg::Contexts { asked, last });
+        }
+    }
+
+    /// A tick goes on.
+    fn go_on(&mut self, leg: Leg)
+        requires { IsAnswered (port_count self.old) leg }
+        ensures { self.new ≡ go_on self.old leg }
+    {
+        match leg {
+            Leg::Contexts { asked, last } => self.asked_next(asked, last),
+            Leg::Ports { port } => self.at_port(port),
+        }
+    }
+
+    /// Takes the Job of a frame, or goes on without one.
+    fn took_job(&mut self, payload: Payload, leg: Leg)
+        requires { IsAnswered (port_count self.old) leg }
+        ensures { self.new ≡ took_job self.old payload leg }
+    {
+        match payload {
+            Payload::Job(job) => {
+                self.job = Some(job);
+                self.unpainted = true;
+                self.stage = Stage::Ending(leg);
+            }
+            _ => self.go_on(leg),
+        }
+    }
+
+    /// The first line is through, with the canvas that came.
+    fn took_canvas(&mut self, payload: Payload)
+        ensures { self.new ≡ took_canvas self.old payload }
+    {
+        self.canvas = given_canvas(payload);
+        self.finish(0);
+    }
+
+    /// Paints what came, to post it next.
+    fn took_frame(&mut self, paint: &Paint, payload: Payload)
+        requires paint { IsTrue (is_paint paint.now) }
+        ensures { self.new ≡ took_frame self.old paint.now (given_canvas payload) }
+    {
+        match given_canvas(payload) {
+            Some(mut canvas) => {
+                canvas.paint(paint);
+                self.canvas = Some(canvas);
+                self.stage = Stage::Posting;
+            }
+            None => self.finish(0),
+        }
+    }
+
+    /// A tick begins.
+    fn start_tick(&mut self)
+        requires { self.old.stage ≡ Stage.Fresh }
+        ensures { self.new ≡ ticking self.old }
+    {
+        self.tick += 1;
+        self.stage = Stage::Ticking(Leg::Contexts { asked: 0, last: 0 });
+    }
+
+    /// Takes the answer to the first call of a line.
+    fn took_first(&mut self, line: &Line, reply: Reply)
+        requires line { IsTrue (is_line line.now) }
+        requires fresh { self.old.stage ≡ Stage.Fresh }
+        ensures { self.new ≡ took_first self.old line.now reply }
+    {
+        match &line.verb {
+            Verb::Acquire { .. } | Verb::Post | Verb::Discard => self.took_canvas(reply.payload),
+            Verb::Frame { paint, .. } => self.took_frame(paint, reply.payload),
+            Verb::Tick => {
+                self.start_tick();
+                self.took_job(reply.payload, Leg::Contexts { asked: 1, last: reply.value });
+            }
+            _ => self.finish(reply.value),
+        }
+    }
+
+    /// Takes the answer to a tick's question.
+    fn took_leg(&mut self, leg: Leg, reply: Reply)
+        requires asking { IsAsking (port_count self.old) leg }
+        requires ports { port_count self.old ≤ 4 }
+        ensures { self.new ≡ took_leg self.old reply leg }
+    {
+        let next = match leg {
+            Leg::Contexts { asked, .. } => Leg::Contexts { asked: asked + 1, last: reply.value },
+            Leg::Ports { port } => Leg::Ports { port: port + 1 },
+        };
+        self.took_job(reply.payload, next);
+    }
+
+    /// Takes the answer to the last call that was handed out.
+    pub fn took(&mut self, reply: Reply)
+        ensures { self.new ≡ took self.old reply }
+    {
+        let Some(line) = self.first_line() else {
+            return;
+        };
+        match self.stage {
+            Stage::Fresh => self.took_first(line, reply),
+            Stage::Posting => self.took_canvas(reply.payload),
+            Stage::Ticking(leg) => self.took_leg(leg, reply),
+            Stage::Ending(leg) => {
+                self.job = None;
+                self.unpainted = false;
+                self.go_on(leg);
+            }
+        }
+    }
+
+    /// Paints the Job that is held and not painted yet, and answers whether there was one.
+    pub(crate) fn paint(&mut self) -> bool
+        requires { IsWork self.old }
+        ensures painted { self.new ≡ worked self.old }
+        ensures was { result ≡ is_work self.old }
+    {
+        if !self.unpainted {
+            return false;
+        }
+        self.unpainted = false;
+        match &mut self.job {
+            Some(job) => {
+                picture(&job.scene, &job.contents, &mut job.image);
+                true
+            }
+            None => false,
+        }
+    }
+
+    /// The Job that is held.
+    pub(crate) fn job(&self) -> Option<&Job>
+        ensures { option_copied result ≡ self.now.job }
+    {
+        self.job.as_ref()
+    }
+}
