@@ -52,7 +52,6 @@ module _ {E : Type 0} where
   passed e true u h = absurd cc
   passed e false u h = refl
 
-
 not_false : (b : Bool) → not b ≡ false → b ≡ true
 not_false true h = refl
 not_false false h = absurd cc
@@ -135,7 +134,6 @@ rectangle_sound ws p hp =
     (integer_within (negsuc 16383) (pos 16384) fx.0 x.0.0 fx.1) (integer_within (negsuc 16383) (pos 16384) fy.0 y.0.0 fy.1)
     (at_most w.0.0 16384 (count_within 0 16384 fw.0 w.0.0 fw.1).1) (at_most h.0.0 16384 (count_within 0 16384 fh.0 h.0.0 fh.1).1))
     c.2
-
 
 checker_sound : (ws : List Word) (p : Paint) → checker ws ≡ Ok p → is_paint p ≡ true
 unfolding checker
@@ -491,8 +489,8 @@ words_sound r left [] words sound h = goes_on r r left (record { sound = sound; 
 words_sound r left (w ∷ ws) words sound h =
     let behind = (and_parts (is_word w) (list_all is_word ws) words).1 in
     let event = λ (e : (found_or rule.Client (client_of w) >>= (λ client. event_line r client ws)) ≡ Ok left). (
-      let client = bind_ok (found_or rule.Client (client_of w)) _ left e in
-      event_sound r left client.0 ws (client_small w client.0 (found_ok rule.Client (client_of w) client.0 client.1)) behind sound client.2) in
+    let client = bind_ok (found_or rule.Client (client_of w)) _ left e in
+    event_sound r left client.0 ws (client_small w client.0 (found_ok rule.Client (client_of w) client.0 client.1)) behind sound client.2) in
     by_word (bytes_eq w (codes "port")) (bytes_eq w (codes "pipes")) (bytes_eq w (codes "end")) event behind h
   where
     by_word : (port pipes end : Bool) → ((found_or rule.Client (client_of w) >>= (λ client. event_line r client ws)) ≡ Ok left → GoesOn r left) → AreWords ws

@@ -7,7 +7,6 @@ use wf_calls::StatWord;
 use wf_image::Paint;
 use wf_pixel::{Format, Rgba, Size};
 
-
 const SMALL: &[u8] = b"WFS1\nport 4x2\n0 tick\nend\n";
 
 /// The fault of a line that breaks a rule; line 0 breaks none, and rules 8 and 9 are of the end and of too many lines.

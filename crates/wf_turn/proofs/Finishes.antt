@@ -100,12 +100,12 @@ module _ (p : Inside) (l : Line) (sound : IsProgram p) (within : p.at < length p
         → (now : Inside) → now ≡ record p { at = at; own = table; canvas = canvas; stage = stage.Fresh } → program_of now ≡ line_done s v
     leaves_done s seen passes now now_is =
         let here : lines_from p.client p.at lines ≡ (p.at, l) ∷ lines_from p.client (p.at + 1) lines =
-            lines_at p.client p.at lines l within is ∙ ap (λ (b : Bool). cond b ((p.at, l) ∷ lines_from p.client (p.at + 1) lines) (lines_from p.client (p.at + 1) lines)) own in
+        lines_at p.client p.at lines l within is ∙ ap (λ (b : Bool). cond b ((p.at, l) ∷ lines_from p.client (p.at + 1) lines) (lines_from p.client (p.at + 1) lines)) own in
         let rows : known table ≡ bound (bound_name l) v (known p.own) =
-            ap known bound_now
-            ∙ ap (λ (names : List Name). zip names (p.own.values ++ bound_value (bound_name l) v)) names_are
-            ∙ known_more front rest (bound_name l) p.own.values v sound.values
-            ∙ ap (λ (names : List Name). bound (bound_name l) v (zip names p.own.values)) (sym names_are) in
+        ap known bound_now
+        ∙ ap (λ (names : List Name). zip names (p.own.values ++ bound_value (bound_name l) v)) names_are
+        ∙ known_more front rest (bound_name l) p.own.values v sound.values
+        ∙ ap (λ (names : List Name). bound (bound_name l) v (zip names p.own.values)) (sym names_are) in
         let with : List (Name × ℕ) → Option Canvas × List (ℕ × Line) → Program = λ names x. record (program_of p) { own = names; canvas = x.0; lines = x.1; stage = stage.Fresh } in
         ap program_of now_is
         ∙ ap (λ (names : List (Name × ℕ)). with names (canvas, lines_from p.client at lines)) rows

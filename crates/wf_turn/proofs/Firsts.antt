@@ -74,11 +74,11 @@ learns p clock s k names values sound clock_sound seen clock_seen script client 
     let same : clock.script.now ≡ p.script.now = ap (λ (q : Program). q.script) clock_seen ∙ script ∙ sym (ap (λ (q : Program). q.script) seen) in
     let zeroth : clock.client ≡ 0 = ap (λ (q : Program). q.client) clock_seen ∙ client in
     let clock_names : clock.own.names ≡ setup_names lines ++ bound_names 0 (drop (setup_lines lines) lines) =
-        clock_sound.names ∙ ap (λ (n : ℕ). bound_names n clock.script.now.lines) zeroth ∙ ap (λ (x : PlainScript). bound_names 0 x.lines) same ∙ setup_first lines in
+    clock_sound.names ∙ ap (λ (n : ℕ). bound_names n clock.script.now.lines) zeroth ∙ ap (λ (x : PlainScript). bound_names 0 x.lines) same ∙ setup_first lines in
     let learned : zip names values ≡ take (length (setup_names lines)) (zip clock.own.names clock.own.values) =
-        ap (λ (ns : List Name). zip ns values) (names_are ∙ sound.setup)
-        ∙ ap (λ (vs : List ℕ). zip (setup_names lines) vs) (values_are ∙ ap (λ (ns : List Name). take (length ns) clock.own.values) sound.setup)
-        ∙ first_values (setup_names lines) (bound_names 0 (drop (setup_lines lines) lines)) clock.own.values
-        ∙ ap (λ (ns : List Name). take (length (setup_names lines)) (zip ns clock.own.values)) (sym clock_names) in
+    ap (λ (ns : List Name). zip ns values) (names_are ∙ sound.setup)
+    ∙ ap (λ (vs : List ℕ). zip (setup_names lines) vs) (values_are ∙ ap (λ (ns : List Name). take (length ns) clock.own.values) sound.setup)
+    ∙ first_values (setup_names lines) (bound_names 0 (drop (setup_lines lines) lines)) clock.own.values
+    ∙ ap (λ (ns : List Name). take (length (setup_names lines)) (zip ns clock.own.values)) (sym clock_names) in
     ap (λ (rows : List (Name × ℕ)). record (program_of p) { learned = rows }) learned
     ∙ ap (λ (q : Program). taught q (program_of p)) clock_seen ∙ ap (taught k) seen

@@ -110,5 +110,5 @@ left_took p l reply fit is = of_lines p.lines refl
         let at : IsAt (record p { lines = m ∷ ls }) m.1 p.stage = subst (λ (ms : List (ℕ × Line)). IfSome (first_of ms) (λ k. IsAt (record p { lines = ms }) k p.stage)) some fit.at in
         let less = left_at p m ls p.stage reply at fit.ports in
         let full : left (worked (took (record p { lines = m ∷ ls }) reply)) + 1 ≤ left (record p { lines = m ∷ ls }) =
-            rw (left_worked (took (record p { lines = m ∷ ls }) reply)) (omega (arith, less)) in
+        rw (left_worked (took (record p { lines = m ∷ ls }) reply)) (omega (arith, less)) in
         subst (λ (q : Program). left (worked (took q reply)) + 1 ≤ left q) (sym same) full

@@ -39,13 +39,13 @@ one_client l a (suc n) =
     let each : ℕ → ℕ = λ c. quota_of c l in
     elim (l.client == a) as (λ b. (l.client == a) ≡ b → sum_by each (a ∷ range_with_len (a + 1) n) ≤ line_quota l.verb) [
       | true ↦ λ here. (
-        let none = past l (a + 1) n (grind (arith, nat_tests, here)) in
-        let this : each a ≡ line_quota l.verb = ap (λ (b : Bool). cond b (line_quota l.verb) 0) here in
-        omega (arith, sum_by-cons each a (range_with_len (a + 1) n), none, this))
+          let none = past l (a + 1) n (grind (arith, nat_tests, here)) in
+          let this : each a ≡ line_quota l.verb = ap (λ (b : Bool). cond b (line_quota l.verb) 0) here in
+          omega (arith, sum_by-cons each a (range_with_len (a + 1) n), none, this))
       | false ↦ λ apart. (
-        let rest = one_client l (a + 1) n in
-        let none : each a ≡ 0 = ap (λ (b : Bool). cond b (line_quota l.verb) 0) apart in
-        omega (arith, sum_by-cons each a (range_with_len (a + 1) n), rest, none))
+          let rest = one_client l (a + 1) n in
+          let none : each a ≡ 0 = ap (λ (b : Bool). cond b (line_quota l.verb) 0) apart in
+          omega (arith, sum_by-cons each a (range_with_len (a + 1) n), rest, none))
     ] refl
   where
     past : (l : Line) (a n : ℕ) → l.client < a → sum_by (λ c. quota_of c l) (range_with_len a n) ≡ 0

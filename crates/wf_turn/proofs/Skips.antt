@@ -71,14 +71,16 @@ stopped client at lines l canvas within is own event =
 -- what stands where there is no event of the client
 quiet_at : (client at : ℕ) (lines : List Line) (l : Line) (canvas : Option Canvas) → at < length lines → l ≡ get_or lines at l → (own event : Bool) → (l.client == client) ≡ own → is_event (is_some canvas) l.verb ≡ event → (own && event) ≡ false
     → (skipped canvas (lines_from client at lines) ≡ skipped (cond own (silent l.verb canvas) canvas) (lines_from client (at + 1) lines)) × (bound_by client l ≡ None)
-quiet_at client at lines l canvas within is false event other makes quiet =
-    (ap (skipped canvas) (lines_at client at lines l within is ∙ ap (λ (b : Bool). cond b ((at, l) ∷ lines_from client (at + 1) lines) (lines_from client (at + 1) lines)) other),
-    ap (λ (b : Bool). cond b (bound_name l) None) other)
+quiet_at client at lines l canvas within is false event other makes quiet = (
+  ap (skipped canvas) (lines_at client at lines l within is ∙ ap (λ (b : Bool). cond b ((at, l) ∷ lines_from client (at + 1) lines) (lines_from client (at + 1) lines)) other),
+  ap (λ (b : Bool). cond b (bound_name l) None) other,
+)
 quiet_at client at lines l canvas within is true event own makes quiet =
     let rest = lines_from client (at + 1) lines in
-    let none = makes ∙ quiet in
-    (ap (skipped canvas) (lines_at client at lines l within is ∙ ap (λ (b : Bool). cond b ((at, l) ∷ rest) rest) own) ∙ ap (λ (b : Bool). cond b (canvas, (at, l) ∷ rest) (skipped (silent l.verb canvas) rest)) none,
-    ap (λ (b : Bool). cond b (bound_name l) None) own ∙ ap (λ (b : Bool). cond b l.name None) (binds_none (is_some canvas) l.verb none))
+    let none = makes ∙ quiet in (
+      ap (skipped canvas) (lines_at client at lines l within is ∙ ap (λ (b : Bool). cond b ((at, l) ∷ rest) rest) own) ∙ ap (λ (b : Bool). cond b (canvas, (at, l) ∷ rest) (skipped (silent l.verb canvas) rest)) none,
+      ap (λ (b : Bool). cond b (bound_name l) None) own ∙ ap (λ (b : Bool). cond b l.name None) (binds_none (is_some canvas) l.verb none),
+    )
 
 -- a line that makes no event of the client is passed
 pub passes : (client at : ℕ) (lines : List Line) (l : Line) (canvas : Option Canvas) → at < length lines → l ≡ get_or lines at l → is_event_of client (is_some canvas) l ≡ false

@@ -133,7 +133,12 @@ impl<'a> Program<'a> {
         ensures handed { self.new ≡ record self.old { canvas = kept_first verb.now self.old.canvas } }
     {
         match verb {
-            Verb::StreamNew { width, height, format, buffers } => Some(plain(Call::StreamNew {
+            Verb::StreamNew {
+                width,
+                height,
+                format,
+                buffers,
+            } => Some(plain(Call::StreamNew {
                 width: *width,
                 height: *height,
                 format: *format,

@@ -146,7 +146,13 @@ impl<'a> Program<'a> {
             Verb::Frame { paint, .. } => self.took_frame(paint, reply.payload),
             Verb::Tick => {
                 self.start_tick();
-                self.took_job(reply.payload, Leg::Contexts { asked: 1, last: reply.value });
+                self.took_job(
+                    reply.payload,
+                    Leg::Contexts {
+                        asked: 1,
+                        last: reply.value,
+                    },
+                );
             }
             _ => self.finish(reply.value),
         }
@@ -159,7 +165,10 @@ impl<'a> Program<'a> {
         ensures { self.new ≡ took_leg self.old reply leg }
     {
         let next = match leg {
-            Leg::Contexts { asked, .. } => Leg::Contexts { asked: asked + 1, last: reply.value },
+            Leg::Contexts { asked, .. } => Leg::Contexts {
+                asked: asked + 1,
+                last: reply.value,
+            },
             Leg::Ports { port } => Leg::Ports { port: port + 1 },
         };
         self.took_job(reply.payload, next);

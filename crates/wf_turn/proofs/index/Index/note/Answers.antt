@@ -24,4 +24,4 @@ returns-clause-places c =
     subst (λ (n : Name). (q : Name) → told (record self { places = c.insert.new.self }) q ≡ place_in q (names_of self ++ n ∷ [])) c.as_str-text.ensures
     (told_new (told self) (told (record self { places = c.insert.new.self })) text (names_of self) c.requires.index is
     (λ q. btree_map_updates_str text self.places c.insert.new.self (Some c.len.result) c.in_ok-insert.ensures.updates q
-        ∙ ap (λ (k : ℕ). cond (bytes_eq text q) (Some k) (told self q)) place))
+    ∙ ap (λ (k : ℕ). cond (bytes_eq text q) (Some k) (told self q)) place))
