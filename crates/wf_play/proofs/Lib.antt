@@ -1,5 +1,1 @@
-pub mod Ticks
-pub mod Pixels
-pub mod FilmParts
-pub mod Accepted
-pub mod Plays
+pub mod Fronts

@@ -1,6 +1,4 @@
--- What the top call promises: its words, its statuses, and what they say of the bytes.
-pub mod Ticks
-pub mod Painting
-pub mod Player
+-- What the top call promises: its words, its statuses, and what they say of the bytes and of the notes.
 pub mod Words
 pub mod Report
+pub mod Notes

@@ -1,14 +1,16 @@
 -- What a report says: of the input's bytes, of what went into the film, and of the order.
 use Rattle.std.specs.Prelude.{◌≡◌, ℕ, ◌^◌, ◌<◌, ◌≤◌, ◌⊎◌, List, [], length, Result, Ok, Err}
-use Rattle.wf_io.specs.Bytes.{Puts, PutsNothing, PutsPart}
+use Rattle.wf_io.specs.Bytes.{Puts, PutsNothing}
 use Rattle.wf_io.specs.Causes.{Rose}
 use Rattle.wf_calls.specs.declared.order.Turn.{Turn}
+use Rattle.wf_script.specs.declared.fault.ScriptFault.{ScriptFault}
+use Rattle.wf_script.specs.declared.fault.ScriptFault.TheVariants as fault
+use Rattle.wf_script.specs.Grammar.{Stands, read_script}
 use Rattle.wf_script.specs.Script.{PlainScript}
-use Rattle.wf_script.specs.TickText.{Stands, StandsForNone}
-use Rattle.wf_turn.specs.Play.{IsLegal, film, serial_order}
+use Rattle.wf_turn.specs.Play.{film}
+use Rattle.wf_turn.specs.Serial.{IsCutFilm, IsSerial}
 use Rattle.wf_play.specs.declared.report.Status.{Status}
 use Rattle.wf_play.specs.declared.report.Status.TheVariants as status
-use Rattle.wf_play.specs.Player.{IsSerial}
 
 -- the exit of a status
 abbrev pub exit_of : Status → ℕ
@@ -24,6 +26,18 @@ exit_of status.NoMemory = 10
 abbrev pub script_limit : ℕ
 script_limit = 2 ^ 20
 
+-- the status of bytes that are no script, by their first fault
+abbrev pub refusal_of : ScriptFault → Status
+refusal_of fault.Header = status.Refused 1 0
+refusal_of (fault.Line line rule) = status.Refused line rule
+refusal_of fault.TooManyLines = status.Refused 16385 9
+refusal_of (fault.NoEnd line) = status.Refused line 8
+refusal_of fault.NoMemory = status.NoMemory
+
+-- the first line of these bytes that breaks a rule, with the least rule that it breaks
+abbrev pub IsRefused : List ℕ → ℕ → ℕ → Type 0
+IsRefused bytes line rule = (f : ScriptFault) × ((read_script bytes ≡ Err f) × (refusal_of f ≡ status.Refused line rule))
+
 -- the bytes that were put are the plain film of the script that the input's bytes stand for, under the order,
 -- which is legal and complete, and is the serial order
 pub record IsPlainFilm {O : Type 0} (took : O → List ℕ → Type 0) (old new : O) (bytes : List ℕ) (order : List Turn) : Type 0 where
@@ -32,12 +46,11 @@ pub record IsPlainFilm {O : Type 0} (took : O → List ℕ → Type 0) (old new 
   pub put : Puts took old new (film script order)
   pub order_is : IsSerial script order
 
--- the bytes that were put are the first `written` of a film of that script, and not all of it; the order is legal
-pub record IsCutFilm {O : Type 0} (took : O → List ℕ → Type 0) (old new : O) (bytes : List ℕ) (order : List Turn) (written : ℕ) : Type 0 where
+-- the first `written` bytes of a film of that script were put, with an order that begins the serial one
+pub record IsFront {O : Type 0} (took : O → List ℕ → Type 0) (old new : O) (bytes : List ℕ) (order : List Turn) (written : ℕ) : Type 0 where
   pub script : PlainScript
   pub stands : Stands bytes script
-  pub put : PutsPart took old new 0 (film script (serial_order script [])) written
-  pub legal : IsLegal script order
+  pub cut : IsCutFilm took old new script order written
 
 module _ {O : Type 0} (took : O → List ℕ → Type 0) (old new : O) (order : List Turn) where
   -- what each status says of an input of these bytes
@@ -46,10 +59,9 @@ module _ {O : Type 0} (took : O → List ℕ → Type 0) (old new : O) (order : 
   SaysOfInput bytes status.Usage = Unit {0}
   SaysOfInput bytes status.ReadFault = Unit {0}
   SaysOfInput bytes status.TooLong = script_limit < length bytes
-  SaysOfInput bytes (status.Refused line rule) =
-      (length bytes ≤ script_limit) × (line ≡ 0) × (rule ≡ 0) × StandsForNone bytes
+  SaysOfInput bytes (status.Refused line rule) = (length bytes ≤ script_limit) × IsRefused bytes line rule
   SaysOfInput bytes (status.WriteFault written) =
-      (length bytes ≤ script_limit) × IsCutFilm took old new bytes order written
+      (length bytes ≤ script_limit) × IsFront took old new bytes order written
   SaysOfInput bytes status.NoMemory = Unit {0}
 
   -- what each status says of the film and of the order, whatever the input
@@ -68,8 +80,7 @@ IsCaused _ _ _ _ _ = Unit {0}
 abbrev pub ReadsScript : List ℕ → Result PlainScript Status → Type 0
 ReadsScript bytes (Ok script) = (length bytes ≤ script_limit) × Stands bytes script
 ReadsScript bytes (Err status.TooLong) = script_limit < length bytes
-ReadsScript bytes (Err (status.Refused line rule)) =
-    (length bytes ≤ script_limit) × (line ≡ 0) × (rule ≡ 0) × StandsForNone bytes
+ReadsScript bytes (Err (status.Refused line rule)) = (length bytes ≤ script_limit) × IsRefused bytes line rule
 ReadsScript bytes (Err _) = Unit {0}
 
 -- the statuses that reading a script comes to, and their cause

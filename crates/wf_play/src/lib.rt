@@ -3,8 +3,7 @@
 
 mod gate;
 mod laws;
-mod painter;
-mod player;
+mod notes;
 mod report;
 mod top;
 mod words;

@@ -16,8 +16,7 @@ pub enum Status {
     ReadFault,
     /// The input is longer than a script may be, 1,048,576 bytes.
     TooLong,
-    /// The input is no script: the first line that breaks a rule, and the rule. Line 0 with rule 0 stands for
-    /// any fault.
+    /// The input is no script: the first line that breaks a rule, counted from 1, and the least rule that it breaks.
     Refused { line: u32, rule: u32 },
     /// The film's sink failed when it had taken this many bytes.
     WriteFault { written: u64 },

@@ -1,15 +1,13 @@
 //! The top call.
 
-ghost use Rattle.std.specs.Prelude.{◌≡◌, ◌≢◌, ◌≤◌, ◌⊎◌, ◌↔◌, ℕ, List, [], length, IfOk, IfErr, IfSome};
-ghost use Rattle.wf_io.specs.Bytes.{PutsNothing};
+ghost use Rattle.std.specs.Prelude.{◌≡◌, ◌≢◌, ◌≤◌, ◌↔◌, [], IfErr, IfSome};
 ghost use Rattle.wf_io.specs.Causes.{Rose};
-ghost use Rattle.wf_script.specs.Script.{PlainScript};
-ghost use Rattle.wf_script.specs.TickText.{IsAccepted, Stands};
-ghost use Rattle.wf_play.specs.Report.{script_limit, IsPlainFilm, IsComplete, SaysOfInput, SaysOfFilm, IsCaused, ReadsScript, IsReadStop};
+ghost use Rattle.wf_play.specs.Notes.{PutsOrFront, note_of};
+ghost use Rattle.wf_play.specs.Report.{IsCaused, IsComplete, IsPlainFilm, IsReadStop, ReadsScript, SaysOfFilm, SaysOfInput, refusal_of};
 ghost use Rattle.wf_play.specs.Words.{AreAccepted};
 
 use crate::gate::Gate;
-use crate::player::{PlayStop, play_lines};
+use crate::notes::put_note;
 use crate::report::{Report, Status};
 use crate::words::are_accepted;
 use std::alloc::Global;
@@ -17,7 +15,8 @@ use std::sync::Wait;
 use std::thread::Threads;
 use wf_calls::Order;
 use wf_io::{ReadStop, Sink, Source, read_all};
-use wf_script::{Script, ScriptFault, parse_ticks};
+use wf_script::{Script, ScriptFault, parse};
+use wf_turn::{PlayStop, serial};
 
 /// The longest script, in bytes.
 const SCRIPT_LIMIT: usize = 1_048_576;
@@ -35,7 +34,7 @@ fn play_film<I: Source, O: Sink>(alloc: Global, input: &mut I, film: &mut O) -> 
         Ok(script) => script,
         Err(status) => return without_order(alloc, status),
     };
-    match play_lines(alloc, &script, film) {
+    match serial(alloc, &script, film) {
         Ok(order) => Report {
             status: Status::Done,
             order,
@@ -59,10 +58,25 @@ fn without_order(alloc: Global, status: Status) -> Report
     }
 }
 
+/// The status of bytes that are no script, by their first fault.
+fn refusal_of(fault: ScriptFault) -> Status
+    ensures { result ≡ refusal_of fault }
+{
+    match fault {
+        ScriptFault::Header => Status::Refused { line: 1, rule: 0 },
+        ScriptFault::Line { line, rule } => Status::Refused { line, rule },
+        ScriptFault::TooManyLines => Status::Refused {
+            line: 16_385,
+            rule: 9,
+        },
+        ScriptFault::NoEnd { line } => Status::Refused { line, rule: 8 },
+        ScriptFault::NoMemory => Status::NoMemory,
+    }
+}
+
 /// The script that the input's bytes stand for.
 fn read_script<I: Source>(alloc: Global, input: &mut I) -> Result<Script, Status>
     ensures reads { IfSome (I.left input.old) (λ bytes. ReadsScript bytes result) }
-    ensures accepted { IfOk result IsAccepted }
     ensures stop { IfErr result (IsReadStop (I.faults input.old) (I.faults input.new)) }
     ensures input_count { I.faults input.old ≤ I.faults input.new }
 {
@@ -72,18 +86,38 @@ fn read_script<I: Source>(alloc: Global, input: &mut I) -> Result<Script, Status
         Err(ReadStop::TooLong) => return Err(Status::TooLong),
         Err(ReadStop::NoMemory) => return Err(Status::NoMemory),
     };
-    match parse_ticks(alloc, &bytes) {
+    match parse(alloc, &bytes) {
         Ok(script) => Ok(script),
-        Err(ScriptFault::Line { line, rule }) => Err(Status::Refused { line, rule }),
-        Err(ScriptFault::NoMemory) => Err(Status::NoMemory),
-        // The reader of ticks answers no other fault.
-        Err(_) => unreachable!(),
+        Err(fault) => Err(refusal_of(fault)),
+    }
+}
+
+/// Plays what the words ask for.
+fn play_mode<I: Source, O: Sink>(
+    alloc: Global,
+    words: &[String],
+    input: &mut I,
+    film: &mut O,
+) -> Report
+    ensures usage { (result.status ≡ Status.Usage) ↔ (¬ (AreAccepted words.now)) }
+    ensures usage_first { result.status ≡ Status.Usage → input.new ≡ input.old }
+    ensures input { IfSome (I.left input.old) (λ bytes. SaysOfInput O.took film.old film.new result.order bytes result.status) }
+    ensures film { SaysOfFilm O.took film.old film.new result.order result.status }
+    ensures caused { IsCaused (I.faults input.old) (I.faults input.new) (O.faults film.old) (O.faults film.new) result.status }
+    ensures input_count { I.faults input.old ≤ I.faults input.new }
+    ensures film_count { O.faults film.old ≤ O.faults film.new }
+{
+    if are_accepted(words) {
+        play_film(alloc, input, film)
+    } else {
+        without_order(alloc, Status::Usage)
     }
 }
 
 /// Plays a scene script: reads it from `input`, writes its film into `film`, and answers how that ended. `words`
-/// are the command's words without the program's name; the one word `film` is accepted. Nothing goes into
-/// `notes`. All memory is taken before the first byte of the film is put.
+/// are the command's words without the program's name; the one word `film` is accepted. Each status but `Done` puts its line
+/// into `notes`, and a fault there changes nothing else. All memory but that of the script's own creations is taken before the
+/// first byte of the film is put.
 pub fn play<R: Threads + Wait + Sync, I: Source, O: Sink, N: Sink, G: Gate>(
     _rt: &R,
     alloc: Global,
@@ -106,16 +140,14 @@ pub fn play<R: Threads + Wait + Sync, I: Source, O: Sink, N: Sink, G: Gate>(
 
     // What went out.
     ensures film { SaysOfFilm O.took film.old film.new result.order result.status }
-    ensures notes { PutsNothing N.took notes.old notes.new }
+    ensures notes { PutsOrFront N.took notes.old notes.new (N.faults notes.old) (N.faults notes.new) (note_of result.status) }
 
     // No count of faults falls.
     ensures input_count { I.faults input.old ≤ I.faults input.new }
     ensures film_count { O.faults film.old ≤ O.faults film.new }
-    ensures notes_count { N.faults notes.new ≡ N.faults notes.old }
+    ensures notes_count { N.faults notes.old ≤ N.faults notes.new }
 {
-    if are_accepted(words) {
-        play_film(alloc, input, film)
-    } else {
-        without_order(alloc, Status::Usage)
-    }
+    let report = play_mode(alloc, words, input, film);
+    put_note(notes, report.status);
+    report
 }

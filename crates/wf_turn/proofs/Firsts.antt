@@ -4,7 +4,7 @@ use Rattle.std.proofs.lemmas.Bool.{eq-eqb, lt-ltb, leb-true}
 use Rattle.std.proofs.lemmas.List.Elements.{filter_map-append}
 use Rattle.std.proofs.lemmas.List.{take-append-drop}
 use Rattle.std.specs.Prelude.{slice_get, zip, nat_le, nat_lt}
-use Rattle.std.specs.Option.{IfSome}
+use Rattle.std.specs.Option.{IfSome, IsSomeAnd}
 use Rattle.wf_script.specs.declared.line.Line.{Line}
 use Rattle.wf_script.specs.declared.name.Name.{Name}
 use Rattle.wf_script.specs.Script.{PlainScript}
@@ -55,6 +55,14 @@ place_at p s l sound seen is = of_line (slice_get p.script.now.lines p.at) refl 
     of_line (Some m) at some =
         let here : lines_from p.client p.at p.script.now.lines ≡ (p.at, m) ∷ lines_from p.client (p.at + 1) p.script.now.lines = from_place p.client p.at p.script.now.lines sound.place ∙ ap (from_line p.client p.at p.script.now.lines) at in
         sym (ap (λ (ls : List (ℕ × Line)). place_of (record (program_of p) { lines = ls })) here) ∙ ap place_of seen
+
+-- the line at a program's place is its client's
+pub own_at : (p : Inside) (s : Program) (l : Line) → IsProgram p → program_of p ≡ s → first_line s ≡ Some l → IsSomeAnd (slice_get s.script.lines p.at) (λ m. m.client ≡ s.client)
+own_at p s l sound seen is = subst (λ (q : Program). IsSomeAnd (slice_get q.script.lines p.at) (λ m. m.client ≡ q.client)) seen (of_line (slice_get p.script.now.lines p.at) (first_at p sound ∙ ap first_line seen ∙ is) sound.place.here)
+  where
+    of_line : (o : Option Line) → o ≡ Some l → IfSome o (λ m. m.client ≡ p.client) → IsSomeAnd o (λ m. m.client ≡ p.client)
+    of_line None some here = absurd cc
+    of_line (Some m) some here = here
 
 -- the values of the first names
 first_values : (first rest : List Name) (values : List ℕ) → zip first (take (length first) values) ≡ take (length first) (zip (first ++ rest) values)

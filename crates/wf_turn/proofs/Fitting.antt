@@ -120,6 +120,9 @@ holds_took p reply fit = of_line (first_line p) refl
     of_line None none = rw none (record { at = rw none tt; ports = fit.ports })
     of_line (Some l) is = rw is (holds_at p l reply p.stage (rw is at fit.at) fit.ports)
 
+pub fit_before : (p : Program) (ls : List (ℕ × Line)) → port_count p ≤ 4 → p.unpainted ≡ false → IsFit (before p ls)
+fit_before p ls few painted = record { at = skips_to p.canvas ls; painted = painted; ports = few }
+
 -- a program is fit once its Job is painted
 fit_worked : (p : Program) → Holds p → IsFit (worked p)
 fit_worked p holds =

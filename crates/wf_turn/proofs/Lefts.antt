@@ -36,7 +36,7 @@ left_skipped p canvas (l ∷ ls) =
     Left : Option Canvas × List (ℕ × Line) → ℕ
     Left s = left (record p { canvas = s.0; lines = s.1; stage = stage.Fresh })
 
-left_before : (p : Program) (ls : List (ℕ × Line)) → left (before p ls) ≤ lines_left ls
+pub left_before : (p : Program) (ls : List (ℕ × Line)) → left (before p ls) ≤ lines_left ls
 left_before p ls = left_skipped p p.canvas ls
 
 -- a program whose first line is this one

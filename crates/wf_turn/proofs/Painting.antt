@@ -89,7 +89,7 @@ begun_paintable h client (call.End j) reply job begins may has = absurd cc
 
 -- no Job is left to paint by what goes on without one
 module _ (p : Program) (painted : p.unpainted ≡ false) where
-  done_painted : (v : ℕ) → (line_done p v).unpainted ≡ false
+  pub done_painted : (v : ℕ) → (line_done p v).unpainted ≡ false
   done_painted v = of_lines p.lines refl
     where
       of_lines : (ls : List (ℕ × Line)) → p.lines ≡ ls → (line_done p v).unpainted ≡ false
@@ -99,7 +99,7 @@ module _ (p : Program) (painted : p.unpainted ≡ false) where
   port_painted : (port : ℕ) → (at_port p port).unpainted ≡ false
   port_painted port = elim (nat_lt (port_count p) port) as (λ b. (cond b (line_done p 0) (record p { stage = stage.Ticking (leg.Ports port) })).unpainted ≡ false) [ true ↦ done_painted 0 | false ↦ painted ]
 
-  on_painted : (l : Leg) → (go_on p l).unpainted ≡ false
+  pub on_painted : (l : Leg) → (go_on p l).unpainted ≡ false
   on_painted (leg.Contexts asked last) =
       elim ((last == 0) || not (nat_lt asked 16)) as (λ b. (cond b (at_port p 1) (record p { stage = stage.Ticking (leg.Contexts asked last) })).unpainted ≡ false) [ true ↦ port_painted 1 | false ↦ painted ]
   on_painted (leg.Ports port) = port_painted port
@@ -108,7 +108,7 @@ no_work : (p : Program) → p.unpainted ≡ false → IsWork p
 no_work p painted unpainted = absurd (cc (painted, unpainted))
 
 job_work : (p : Program) (given : Payload) (l : Leg) → p.unpainted ≡ false → ((job : Job) → given ≡ payload.Job job → IsPaintable job) → IsWork (took_job p given l)
-job_work p (payload.Job job) l painted paintable unpainted = paintable job refl
+job_work p (payload.Job job) l painted paintable = λ unpainted. paintable job refl
 job_work p payload.Nothing l painted paintable = no_work (go_on p l) (on_painted p painted l)
 job_work p (payload.Canvas canvas) l painted paintable = no_work (go_on p l) (on_painted p painted l)
 
@@ -118,16 +118,16 @@ module _ (p : Program) (h : State) (client : ℕ) (w : Wanted) (reply : Reply) (
 
   first_work : (l : Line) (v : Verb) → first_call p v ≡ Some w → IsWork (took_first p (record l { verb = v }) reply)
   first_work l (verb.StreamNew width ht f b) wants = no_work (line_done p reply.value) (done_painted p painted reply.value)
-  first_work l (verb.Acquire s) wants = no_work _ (done_painted (record p { canvas = given_canvas reply.payload }) painted 0)
-  first_work l verb.Post wants = no_work _ (done_painted (record p { canvas = given_canvas reply.payload }) painted 0)
-  first_work l verb.Discard wants = no_work _ (done_painted (record p { canvas = given_canvas reply.payload }) painted 0)
+  first_work l (verb.Acquire s) wants = no_work (took_first p (record l { verb = verb.Acquire s }) reply) (done_painted (record p { canvas = given_canvas reply.payload }) painted 0)
+  first_work l verb.Post wants = no_work (took_first p (record l { verb = verb.Post }) reply) (done_painted (record p { canvas = given_canvas reply.payload }) painted 0)
+  first_work l verb.Discard wants = no_work (took_first p (record l { verb = verb.Discard }) reply) (done_painted (record p { canvas = given_canvas reply.payload }) painted 0)
   first_work l (verb.Stat what) wants = no_work (line_done p reply.value) (done_painted p painted reply.value)
   first_work l (verb.Paint paint) wants = no_work (line_done p reply.value) (done_painted p painted reply.value)
   first_work l (verb.Frame s paint) wants = of_canvas (given_canvas reply.payload)
     where
       of_canvas : (c : Option Canvas) → IsWork (took_frame p paint c)
       of_canvas None = no_work (line_done p 0) (done_painted p painted 0)
-      of_canvas (Some canvas) = no_work _ painted
+      of_canvas (Some canvas) = no_work (took_frame p paint (Some canvas)) painted
   first_work l verb.Tick wants =
       let is : waiting (call.BeginNext 0) ≡ w = cc in
       job_work (ticking p) reply.payload (leg.Contexts 1 reply.value) painted (begins_work (ap (λ (x : Wanted). is_begin x.call) (sym is)))
@@ -138,9 +138,9 @@ module _ (p : Program) (h : State) (client : ℕ) (w : Wanted) (reply : Reply) (
 
   stage_work : (l : Line) (s : Stage) → wanted_at p l.verb s ≡ Some w → IsWork (took_at p l reply s)
   stage_work l stage.Fresh wants = first_work l l.verb wants
-  stage_work l stage.Posting wants = no_work _ (done_painted (record p { canvas = given_canvas reply.payload }) painted 0)
+  stage_work l stage.Posting wants = no_work (took_at p l reply stage.Posting) (done_painted (record p { canvas = given_canvas reply.payload }) painted 0)
   stage_work l (stage.Ticking m) wants = leg_work m cc
-  stage_work l (stage.Ending m) wants = no_work _ (on_painted (record p { job = None; unpainted = false }) refl m)
+  stage_work l (stage.Ending m) wants = no_work (took_at p l reply (stage.Ending m)) (on_painted (record p { job = None; unpainted = false }) refl m)
 
   pub took_work : next p ≡ Some w → IsWork (took p reply)
   took_work wants = of_line (first_line p) refl

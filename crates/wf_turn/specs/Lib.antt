@@ -9,3 +9,5 @@ pub mod Passing
 pub mod Inside
 pub mod Turns
 pub mod Play
+pub mod Serial
+pub mod Playing

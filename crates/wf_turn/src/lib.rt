@@ -3,13 +3,17 @@
 
 mod index;
 mod names;
+mod player;
 mod program;
 mod quotas;
 mod setup;
+mod show;
 mod skipping;
 mod stage;
 mod taking;
+mod turning;
 
 pub use program::Program;
 pub use quotas::quota;
+pub use player::{PlayStop, serial};
 pub use stage::{Leg, Stage, Wanted};

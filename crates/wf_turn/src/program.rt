@@ -1,6 +1,6 @@
 //! The program of a client: its lines one after another, as calls.
 
-ghost use Rattle.std.specs.Prelude.{◌≡◌, is_some, slice_get, IfOk, IfSome, IsTrue, Some, None, if◌then◌else◌};
+ghost use Rattle.std.specs.Prelude.{◌≡◌, is_some, slice_get, IfOk, IfSome, IsSomeAnd, IsTrue, Some, None, if◌then◌else◌};
 ghost use Rattle.std.specs.List.{list_all};
 ghost use Rattle.std.specs.Option.{option_copied};
 ghost use Rattle.wf_script.specs.Script.{is_line};
@@ -188,7 +188,8 @@ impl<'a> Program<'a> {
 
     /// The place among the script's lines of the first one that is not through, or none where all are.
     pub fn place(&self) -> Option<usize>
-        ensures { result ≡ place_of self.now }
+        ensures place { result ≡ place_of self.now }
+        ensures own { IfSome result (λ place. IsSomeAnd (slice_get self.now.script.lines place) (λ l. l.client ≡ self.now.client)) }
     {
         match self.first_line() {
             Some(_) => Some(self.at),

@@ -5,4 +5,4 @@ use Rattle.wf_play.proofs.laws.one_film.Goals as goal
 
 pub returns : goal.returns
 returns c bytes s t order first second =
-    ap (λ (script : PlainScript). film script order) (c.one_tick_script.ensures bytes s t first second)
+    ap (λ (script : PlainScript). film script order) (c.one_script.ensures bytes s t first second)

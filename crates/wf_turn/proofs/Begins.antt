@@ -1,0 +1,262 @@
+-- A turn and the running frame: a frame that begins is held by the program that began it, to be ended next.
+use Rattle.std.proofs.Common.{◌≡◌, ◌∙◌, ℕ, ◌+◌, Bool, true, false, not, cond, ◌==◌, ◌||◌, ◌&&◌, List, [], ◌∷◌, Option, Some, None, refl, sym, ap, subst, IsTrue}
+use Rattle.std.specs.Prelude.{ℤ, pos, Result, Ok, Err}
+use Rattle.std.specs.Option.{is_some, option_map, IfSome, IsSome}
+use Rattle.wf_words.specs.Whole.{count_of}
+use Rattle.wf_pixel.specs.declared.Format.{Format}
+use Rattle.wf_pixel.specs.declared.Format.TheVariants.{Rgba8Pre}
+use Rattle.wf_life.specs.Handles.{is_full}
+use Rattle.wf_image.specs.declared.canvas.Canvas.{Canvas}
+use Rattle.wf_image.specs.declared.paint.Paint.{Paint}
+use Rattle.wf_scene.specs.declared.Scene.{Scene}
+use Rattle.wf_stream.specs.Buffers.{Buffers, discarded, posted}
+use Rattle.wf_stream.specs.Streams.{KeptStream, has_no_room}
+use Rattle.wf_calls.specs.declared.call.Call.{Call}
+use Rattle.wf_calls.specs.declared.call.Call.TheVariants as call
+use Rattle.wf_calls.specs.declared.call.Job.{Job}
+use Rattle.wf_calls.specs.declared.call.JobKind.TheVariants as kind
+use Rattle.wf_calls.specs.declared.call.Payload.{Payload}
+use Rattle.wf_calls.specs.declared.call.Payload.TheVariants as payload
+use Rattle.wf_calls.specs.declared.call.Reply.{Reply}
+use Rattle.wf_calls.specs.declared.call.StatWord.{StatWord}
+use Rattle.wf_calls.specs.declared.code.Refusal.{Refusal}
+use Rattle.wf_film.specs.Film.{Frame}
+use Rattle.wf_model.specs.Display.{port_scene}
+use Rattle.wf_model.specs.Frames.{all_begun, begin_next, begin_port, end, is_of_frame, is_running, job_of, running_of}
+use Rattle.wf_model.specs.Outcome.{Outcome}
+use Rattle.wf_model.specs.State.{Running, State}
+use Rattle.wf_model.specs.Step.{step}
+use Rattle.wf_model.specs.Streams.{acquirable, acquire_step, canvas_back, is_out_at_client, is_stream, new_buffers, stream_new, stream_step}
+use Rattle.wf_script.specs.declared.line.Line.{Line}
+use Rattle.wf_script.specs.declared.line.Verb.{Verb}
+use Rattle.wf_script.specs.declared.line.Verb.TheVariants as verb
+use Rattle.wf_turn.specs.declared.stage.Leg.{Leg}
+use Rattle.wf_turn.specs.declared.stage.Leg.TheVariants as leg
+use Rattle.wf_turn.specs.declared.stage.Stage.{Stage}
+use Rattle.wf_turn.specs.declared.stage.Stage.TheVariants as stage
+use Rattle.wf_turn.specs.declared.stage.Wanted.{Wanted}
+use Rattle.wf_turn.specs.Playing.{Ends, EndsAt}
+use Rattle.wf_turn.specs.Program.{Program, asked_for, first_call, first_line, given_canvas, go_on, handle, line_done, next, plain, ticking, took, took_at, took_canvas, took_first, took_frame, took_job, took_leg, waiting, wanted_at, worked}
+use Rattle.wf_turn.specs.Turns.{frames_of}
+use Rattle.wf_turn.proofs.Own.{own_job}
+use Rattle.wf_turn.proofs.Painting.{done_painted, on_painted}
+
+-- the calls that neither begin nor end a frame leave it as it is
+
+new_frame : (w ht b : ℤ) (f : Format) (m : Bool) (h : State) → (stream_step h (stream_new w ht f b m h)).0.frame ≡ h.frame
+new_frame w ht b f m h = of_range (not (is_stream w ht b)) refl
+  where
+    Kept : Type 0
+    Kept = (stream_step h (stream_new w ht f b m h)).0.frame ≡ h.frame
+
+    of_memory : (not (is_stream w ht b)) ≡ false → (has_no_room (new_buffers w ht f b) h.streams || is_full h.made) ≡ false → (x : Bool) → m ≡ x → Kept
+    of_memory range room true is = rw (range, room, is) refl
+    of_memory range room false is = rw (range, room, is) refl
+
+    of_room : (not (is_stream w ht b)) ≡ false → (x : Bool) → (has_no_room (new_buffers w ht f b) h.streams || is_full h.made) ≡ x → Kept
+    of_room range true is = rw (range, is) refl
+    of_room range false is = of_memory range is m refl
+
+    of_range : (x : Bool) → (not (is_stream w ht b)) ≡ x → Kept
+    of_range true is = rw is refl
+    of_range false is = of_room is (has_no_room (new_buffers w ht f b) h.streams || is_full h.made) refl
+
+acquired_frame : (h : State) (o : Result KeptStream Refusal) → (acquire_step h o).0.frame ≡ h.frame
+acquired_frame h (Ok s) = refl
+acquired_frame h (Err r) = refl
+
+back_frame : (canvas : Canvas) (f : Buffers → Buffers) (h : State) → (canvas_back canvas f h).0.frame ≡ h.frame
+back_frame canvas f h = of_test (is_out_at_client canvas h) refl
+  where
+    of_test : (b : Bool) → is_out_at_client canvas h ≡ b → (canvas_back canvas f h).0.frame ≡ h.frame
+    of_test true is = rw is refl
+    of_test false is = rw is refl
+
+-- what is known of a program and of the running frame after a turn: the program holds the frame's Job, and its lines are
+-- the same; without a running frame it shows nothing
+pub record Leaves (p now : Program) (frame : Option Running) : Type 0 where
+  pub ends : IfSome frame (λ f. Ends f (worked now) × (now.lines ≡ p.lines))
+  pub shows : frame ≡ None → frames_of now ≡ []
+
+no_frame : (p now : Program) (o : Option Running) → o ≡ None → now.unpainted ≡ false → Leaves p now o
+no_frame p now o none painted = record { ends = rw none tt; shows = λ free. rw painted refl }
+
+-- a frame of a port, and the program that took its answer
+module _ (p q : Program) (h : State) (l : Leg) (free : h.frame ≡ None) (painted : q.unpainted ≡ false) (same : q.lines ≡ p.lines) where
+  runs_none : is_running h ≡ false
+  runs_none = ap is_some free
+
+  port_leaves : (port : ℤ) → Leaves p (took_job q (begin_port port h).1.payload l) (begin_port port h).0.frame
+  port_leaves port = of_scene (port_scene (count_of port) h.display) refl
+    where
+      Left : Type 0
+      Left = Leaves p (took_job q (begin_port port h).1.payload l) (begin_port port h).0.frame
+
+      of_limit : (s : Scene) → port_scene (count_of port) h.display ≡ Some s → (b : Bool) → all_begun h ≡ b → Left
+      of_limit s shows true is = rw (shows, runs_none, is) (no_frame p (go_on q l) h.frame free (on_painted q painted l))
+      of_limit s shows false is =
+          let job : Job = job_of (kind.Port (count_of port)) s Rgba8Pre h in
+          rw (shows, runs_none, is) (record { ends = (own_job (kind.Port (count_of port)) s Rgba8Pre h, same); shows = λ none. absurd cc })
+
+      of_scene : (o : Option Scene) → port_scene (count_of port) h.display ≡ o → Left
+      of_scene None is = rw is (no_frame p (go_on q l) h.frame free (on_painted q painted l))
+      of_scene (Some s) is = of_limit s is (all_begun h) refl
+
+  next_leaves : (after : ℕ) → Leaves p (took_job q (begin_next after h).1.payload l) (begin_next after h).0.frame
+  next_leaves after = rw runs_none (no_frame p (go_on q l) h.frame free (on_painted q painted l))
+
+-- a turn while no frame runs
+module _ (p : Program) (h : State) (client : ℕ) (m : Bool) (w : Wanted) (free : h.frame ≡ None) (painted : p.unpainted ≡ false) where
+  abbrev answer_of : Call → State × Reply
+  answer_of c = step h client c m
+
+  abbrev Left : Call → (State × Reply → Program) → Type 0
+  Left c now = Leaves p (now (answer_of c)) (answer_of c).0.frame
+
+  at_acquire : (stream : ℕ) → Left (call.Acquire stream) (λ x. took_canvas p x.1.payload)
+  unfolding step
+  at_acquire stream =
+      let x = answer_of (call.Acquire stream) in
+      no_frame p (took_canvas p x.1.payload) x.0.frame (acquired_frame h (acquirable stream h) ∙ free) (done_painted (record p { canvas = given_canvas x.1.payload }) painted 0)
+
+  frame_painted : (paint : Paint) (o : Option Canvas) → (took_frame p paint o).unpainted ≡ false
+  frame_painted paint None = done_painted p painted 0
+  frame_painted paint (Some canvas) = painted
+
+  at_frame : (paint : Paint) (stream : ℕ) → Left (call.Acquire stream) (λ x. took_frame p paint (given_canvas x.1.payload))
+  unfolding step
+  at_frame paint stream =
+      let x = answer_of (call.Acquire stream) in
+      no_frame p (took_frame p paint (given_canvas x.1.payload)) x.0.frame (acquired_frame h (acquirable stream h) ∙ free) (frame_painted paint (given_canvas x.1.payload))
+
+  at_post : (canvas : Canvas) → Left (call.Post canvas) (λ x. took_canvas p x.1.payload)
+  unfolding step
+  at_post canvas =
+      let x = answer_of (call.Post canvas) in
+      no_frame p (took_canvas p x.1.payload) x.0.frame (back_frame canvas (posted canvas.image) h ∙ free) (done_painted (record p { canvas = given_canvas x.1.payload }) painted 0)
+
+  at_discard : (canvas : Canvas) → Left (call.Discard canvas) (λ x. took_canvas p x.1.payload)
+  unfolding step
+  at_discard canvas =
+      let x = answer_of (call.Discard canvas) in
+      no_frame p (took_canvas p x.1.payload) x.0.frame (back_frame canvas discarded h ∙ free) (done_painted (record p { canvas = given_canvas x.1.payload }) painted 0)
+
+  at_new : (width height b : ℤ) (f : Format) → Left (call.StreamNew width height f b) (λ x. line_done p x.1.value)
+  unfolding step
+  at_new width height b f =
+      let x = answer_of (call.StreamNew width height f b) in
+      no_frame p (line_done p x.1.value) x.0.frame (new_frame width height b f m h ∙ free) (done_painted p painted x.1.value)
+
+  at_stat : (what : StatWord) → Left (call.Stat what) (λ x. line_done p x.1.value)
+  unfolding step
+  at_stat what =
+      let x = answer_of (call.Stat what) in
+      no_frame p (line_done p x.1.value) x.0.frame free (done_painted p painted x.1.value)
+
+  at_next : (q : Program) (after : ℕ) (leg_of : ℕ → Leg) → q.unpainted ≡ false → q.lines ≡ p.lines → Left (call.BeginNext after) (λ x. took_job q x.1.payload (leg_of x.1.value))
+  unfolding step
+  at_next q after leg_of clean same = next_leaves p q h (leg_of (begin_next after h).1.value) free clean same after
+
+  at_port : (q : Program) (port : ℤ) (l : Leg) → q.unpainted ≡ false → q.lines ≡ p.lines → Left (call.BeginPort port) (λ x. took_job q x.1.payload l)
+  unfolding step
+  at_port q port l clean same = port_leaves p q h l free clean same port
+
+  at_end : (job : Job) (l : Leg) → Left (call.End job) (λ x. go_on (record p { job = None; unpainted = false }) l)
+  unfolding step
+  at_end job l = no_frame p (go_on (record p { job = None; unpainted = false }) l) (answer_of (call.End job)).0.frame (rw free refl) (on_painted (record p { job = None; unpainted = false }) refl l)
+
+  -- what is asked for where no canvas is held, and with one
+  unheld : (b : Bool) (x : Wanted) → cond b None (Some x) ≡ Some w → x ≡ w
+  unheld true x asks = absurd cc
+  unheld false x asks = cc
+
+  first_leaves : (l : Line) (v : Verb) → first_call p v ≡ Some w → Left w.call (λ x. took_first p (record l { verb = v }) x.1)
+  first_leaves l (verb.StreamNew width height f b) asks =
+      let is : plain (call.StreamNew width height f b) ≡ w = cc in
+      subst (λ (y : Wanted). Left y.call (λ x. line_done p x.1.value)) is (at_new width height b f)
+  first_leaves l (verb.Acquire s) asks =
+      subst (λ (y : Wanted). Left y.call (λ x. took_canvas p x.1.payload)) (unheld (is_some p.canvas) (plain (call.Acquire (handle p s))) asks) (at_acquire (handle p s))
+  first_leaves l verb.Post asks = of_canvas p.canvas asks
+    where
+      of_canvas : (o : Option Canvas) → option_map (λ (c : Canvas). plain (call.Post c)) o ≡ Some w → Left w.call (λ x. took_canvas p x.1.payload)
+      of_canvas None asks = absurd cc
+      of_canvas (Some c) asks = (let is : plain (call.Post c) ≡ w = cc in subst (λ (y : Wanted). Left y.call (λ x. took_canvas p x.1.payload)) is (at_post c))
+  first_leaves l verb.Discard asks = of_canvas p.canvas asks
+    where
+      of_canvas : (o : Option Canvas) → option_map (λ (c : Canvas). plain (call.Discard c)) o ≡ Some w → Left w.call (λ x. took_canvas p x.1.payload)
+      of_canvas None asks = absurd cc
+      of_canvas (Some c) asks = (let is : plain (call.Discard c) ≡ w = cc in subst (λ (y : Wanted). Left y.call (λ x. took_canvas p x.1.payload)) is (at_discard c))
+  first_leaves l (verb.Stat what) asks =
+      let is : plain (call.Stat what) ≡ w = cc in
+      subst (λ (y : Wanted). Left y.call (λ x. line_done p x.1.value)) is (at_stat what)
+  first_leaves l (verb.Paint paint) asks = absurd cc
+  first_leaves l (verb.Frame s paint) asks =
+      subst (λ (y : Wanted). Left y.call (λ x. took_frame p paint (given_canvas x.1.payload))) (unheld (is_some p.canvas) (plain (call.Acquire (handle p s))) asks) (at_frame paint (handle p s))
+  first_leaves l verb.Tick asks =
+      let is : waiting (call.BeginNext 0) ≡ w = cc in
+      subst (λ (y : Wanted). Left y.call (λ x. took_job (ticking p) x.1.payload (leg.Contexts 1 x.1.value))) is (at_next (ticking p) 0 (λ v. leg.Contexts 1 v) painted refl)
+
+  stage_leaves : (l : Line) (s : Stage) → wanted_at p l.verb s ≡ Some w → Left w.call (λ x. took_at p l x.1 s)
+  stage_leaves l stage.Fresh asks = first_leaves l l.verb asks
+  stage_leaves l stage.Posting asks = of_canvas p.canvas asks
+    where
+      of_canvas : (o : Option Canvas) → option_map (λ (c : Canvas). plain (call.Post c)) o ≡ Some w → Left w.call (λ x. took_canvas p x.1.payload)
+      of_canvas None asks = absurd cc
+      of_canvas (Some c) asks = (let is : plain (call.Post c) ≡ w = cc in subst (λ (y : Wanted). Left y.call (λ x. took_canvas p x.1.payload)) is (at_post c))
+  stage_leaves l (stage.Ticking (leg.Contexts asked last)) asks =
+      let is : waiting (call.BeginNext last) ≡ w = cc in
+      subst (λ (y : Wanted). Left y.call (λ x. took_job p x.1.payload (leg.Contexts (asked + 1) x.1.value))) is (at_next p last (λ v. leg.Contexts (asked + 1) v) painted refl)
+  stage_leaves l (stage.Ticking (leg.Ports port)) asks =
+      let is : waiting (call.BeginPort (pos port)) ≡ w = cc in
+      subst (λ (y : Wanted). Left y.call (λ x. took_job p x.1.payload (leg.Ports (port + 1)))) is (at_port p (pos port) (leg.Ports (port + 1)) painted refl)
+  stage_leaves l (stage.Ending leg) asks = of_job p.job asks
+    where
+      of_job : (o : Option Job) → option_map (λ (j : Job). plain (call.End j)) o ≡ Some w → Left w.call (λ x. go_on (record p { job = None; unpainted = false }) leg)
+      of_job None asks = absurd cc
+      of_job (Some j) asks = (let is : plain (call.End j) ≡ w = cc in subst (λ (y : Wanted). Left y.call (λ x. go_on (record p { job = None; unpainted = false }) leg)) is (at_end j leg))
+
+  pub turn_leaves : next p ≡ Some w → Left w.call (λ x. took p x.1)
+  turn_leaves asks = of_line (first_line p) refl
+    where
+      of_line : (o : Option Line) → first_line p ≡ o → Left w.call (λ x. took p x.1)
+      of_line None none = absurd (let no : None ≡ Some w = rw none at asks in cc)
+      of_line (Some l) is = rw is (stage_leaves l p.stage (rw is at asks))
+
+nothing_shown : (q : Program) → q.unpainted ≡ false → frames_of q ≡ []
+nothing_shown q painted = rw painted refl
+
+-- a turn of the program that ends the running frame
+module _ (p : Program) (h : State) (client : ℕ) (m : Bool) (w : Wanted) (f : Running) (runs : h.frame ≡ Some f) (ends : Ends f p) (asks : next p ≡ Some w) where
+  -- it does not wait, no frame runs behind it, and it shows nothing
+  pub record Ended : Type 0 where
+    pub plain_is : w.wait ≡ false
+    pub free : (step h client w.call m).0.frame ≡ None
+    pub shows : frames_of (took p (step h client w.call m).1) ≡ []
+
+  at_job : (l : Line) (leg : Leg) (o : Option Job) → first_line p ≡ Some l → p.stage ≡ stage.Ending leg → p.job ≡ o → EndsAt o f (stage.Ending leg) → Ended
+  unfolding step
+  at_job l leg None is at job own = absurd own
+  at_job l leg (Some j) is at job own =
+      let wanted : Some (plain (call.End j)) ≡ Some w = rw (is, at, job) at asks in
+      let is_end : plain (call.End j) ≡ w = cc in
+      record {
+        plain_is = ap (λ (y : Wanted). y.wait) (sym is_end);
+        free = subst (λ (y : Wanted). (step h client y.call m).0.frame ≡ None) is_end (rw (runs, own) refl);
+        shows =
+            let q : Program = go_on (record p { job = None; unpainted = false }) leg in
+            let goes : took p (step h client w.call m).1 ≡ q = rw (is, at) refl in
+            ap frames_of goes ∙ nothing_shown q (on_painted (record p { job = None; unpainted = false }) refl leg);
+      }
+
+  at_stage : (l : Line) (s : Stage) → first_line p ≡ Some l → p.stage ≡ s → EndsAt p.job f s → Ended
+  at_stage l stage.Fresh is at own = absurd own
+  at_stage l stage.Posting is at own = absurd own
+  at_stage l (stage.Ticking leg) is at own = absurd own
+  at_stage l (stage.Ending leg) is at own = at_job l leg p.job is at refl own
+
+  pub ended : Ended
+  ended = of_line (first_line p) refl
+    where
+      of_line : (o : Option Line) → first_line p ≡ o → Ended
+      of_line None none = absurd (let no : None ≡ Some w = rw none at asks in cc)
+      of_line (Some l) is = at_stage l p.stage is refl ends

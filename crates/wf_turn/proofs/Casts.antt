@@ -1,0 +1,159 @@
+-- The eight programs of a show: one of them changed, and names handed on.
+use Rattle.std.proofs.Common.{◌≡◌, ◌∙◌, ℕ, zero, suc, ◌+◌, ◌-◌, ◌<◌, ◌≤◌, Bool, true, false, not, cond, ◌&&◌, List, [], ◌∷◌, map, length, Option, Some, None, refl, sym, ap, subst, arith, set, get_or}
+use Rattle.std.specs.Prelude.{slice_get, sum_by}
+use Rattle.std.specs.Option.{IfSome, is_some}
+use Rattle.std.proofs.lemmas.List.Sums.{sum_by-cons}
+use Rattle.wf_script.specs.Script.{PlainScript}
+use Rattle.wf_film.specs.Film.{Frame}
+use Rattle.wf_turn.specs.Playing.{frames_if, shown_by}
+use Rattle.wf_turn.specs.Program.{Program, in_setup, place_of, taught}
+use Rattle.wf_turn.specs.Quota.{all_left, left}
+use Rattle.wf_turn.specs.Ready.{AreOf, IsFit}
+use Rattle.wf_turn.specs.Turns.{all_taught, handed_on, is_setting_up}
+use Rattle.wf_turn.proofs.Fitting.{fit_taught}
+
+-- what is known of the program of a client
+pub record IsOf (script : PlainScript) (client : ℕ) (p : Program) : Type 0 where
+  pub script_is : p.script ≡ script
+  pub client_is : p.client ≡ client
+  pub fit : IsFit p
+
+pub at_client : (script : PlainScript) (k : ℕ) (ps : List Program) (i : ℕ) (p : Program) → AreOf script k ps → slice_get ps i ≡ Some p → IsOf script (k + i) p
+at_client script k [] i p are found = absurd cc
+at_client script k (q ∷ ps) zero p are found =
+    let same : q ≡ p = cc in
+    subst (IsOf script (k + 0)) same (record { script_is = are.0; client_is = are.1 ∙ omega arith; fit = are.2 })
+at_client script k (q ∷ ps) (suc i) p are found =
+    let at : k + 1 + i ≡ k + suc i = omega arith in
+    subst (λ (n : ℕ). IsOf script n p) at (at_client script (k + 1) ps i p are.3 found)
+
+pub are_set : (script : PlainScript) (k : ℕ) (ps : List Program) (i : ℕ) (p q : Program) → AreOf script k ps → slice_get ps i ≡ Some p → q.script ≡ p.script → q.client ≡ p.client → IsFit q → AreOf script k (set ps i q)
+are_set script k [] i p q are found script_is client_is fit = tt
+are_set script k (r ∷ ps) zero p q are found script_is client_is fit =
+    let same : p ≡ r = cc in
+    (script_is ∙ ap (λ (x : Program). x.script) same ∙ are.0, client_is ∙ ap (λ (x : Program). x.client) same ∙ are.1, fit, are.3)
+are_set script k (r ∷ ps) (suc i) p q are found script_is client_is fit = (are.0, are.1, are.2, are_set script (k + 1) ps i p q are.3 found script_is client_is fit)
+
+are_mapped : (script : PlainScript) (clock : Program) (k : ℕ) (ps : List Program) → AreOf script k ps → AreOf script k (map (taught clock) ps)
+are_mapped script clock k [] are = tt
+are_mapped script clock k (p ∷ ps) are = (are.0, are.1, fit_taught clock p are.2, are_mapped script clock (k + 1) ps are.3)
+
+are_taught : (script : PlainScript) (k : ℕ) (ps : List Program) → AreOf script k ps → AreOf script k (all_taught ps)
+are_taught script k [] are = tt
+are_taught script k (clock ∷ others) are = (are.0, are.1, are.2, are_mapped script clock (k + 1) others are.3)
+
+pub are_handed : (script : PlainScript) (before now : List Program) → AreOf script 0 now → AreOf script 0 (handed_on before now)
+are_handed script before now are =
+    elim (is_setting_up before && not (is_setting_up now)) as (λ b. AreOf script 0 (cond b (all_taught now) now)) [ true ↦ are_taught script 0 now are | false ↦ are ]
+
+-- what names do not change is the same of the programs that learned
+module _ {A : Type 0} (f : Program → A) (same : (clock p : Program) → f (taught clock p) ≡ f p) where
+  mapped_same : (clock : Program) (ps : List Program) → map f (map (taught clock) ps) ≡ map f ps
+  mapped_same clock [] = refl
+  mapped_same clock (p ∷ ps) = ap (λ (x : A). x ∷ map f (map (taught clock) ps)) (same clock p) ∙ ap (λ (xs : List A). f p ∷ xs) (mapped_same clock ps)
+
+  taught_same : (ps : List Program) → map f (all_taught ps) ≡ map f ps
+  taught_same [] = refl
+  taught_same (clock ∷ others) = ap (λ (xs : List A). f clock ∷ xs) (mapped_same clock others)
+
+  pub handed_same : (before now : List Program) → map f (handed_on before now) ≡ map f now
+  handed_same before now =
+      elim (is_setting_up before && not (is_setting_up now)) as (λ b. map f (cond b (all_taught now) now) ≡ map f now) [ true ↦ taught_same now | false ↦ refl ]
+
+pub get_map : {A B : Type 0} (f : A → B) (xs : List A) (i : ℕ) (x : A) → slice_get xs i ≡ Some x → slice_get (map f xs) i ≡ Some (f x)
+get_map f [] i x found = absurd cc
+get_map f (y ∷ ys) zero x found = (let same : y ≡ x = cc in ap (λ (z : _). Some (f z)) same)
+get_map f (y ∷ ys) (suc i) x found = get_map f ys i x found
+
+pub map_set : {A B : Type 0} (f : A → B) (xs : List A) (i : ℕ) (x y : A) → slice_get xs i ≡ Some x → f y ≡ f x → map f (set xs i y) ≡ map f xs
+map_set f [] i x y found same = refl
+map_set f (z ∷ xs) zero x y found same = (let is : x ≡ z = cc in ap (λ (w : _). w ∷ map f xs) (same ∙ ap f is))
+map_set f (z ∷ xs) (suc i) x y found same = ap (λ (ws : List _). f z ∷ ws) (map_set f xs i x y found same)
+
+pub get_set : {A : Type 0} (xs : List A) (i : ℕ) (x y : A) → slice_get xs i ≡ Some x → slice_get (set xs i y) i ≡ Some y
+get_set [] i x y found = absurd cc
+get_set (z ∷ xs) zero x y found = refl
+get_set (z ∷ xs) (suc i) x y found = get_set xs i x y found
+
+pub length_map : {A B : Type 0} (f : A → B) (xs ys : List A) → map f xs ≡ map f ys → length xs ≡ length ys
+length_map f [] [] same = refl
+length_map f [] (y ∷ ys) same = absurd cc
+length_map f (x ∷ xs) [] same = absurd cc
+length_map f (x ∷ xs) (y ∷ ys) same = ap suc (length_map f xs ys cc)
+
+sum_map : (ps : List Program) → all_left ps ≡ sum_by (λ (n : ℕ). n) (map left ps)
+sum_map [] = refl
+sum_map (p ∷ ps) = sum_by-cons left p ps ∙ ap (λ (n : ℕ). left p + n) (sum_map ps) ∙ sym (sum_by-cons (λ (n : ℕ). n) (left p) (map left ps))
+
+pub left_handed : (before now : List Program) → all_left (handed_on before now) ≡ all_left now
+left_handed before now = sum_map (handed_on before now) ∙ ap (λ (ns : List ℕ). sum_by (λ (n : ℕ). n) ns) (handed_same left (λ clock p. refl) before now) ∙ sym (sum_map now)
+
+pub left_set : (ps : List Program) (i : ℕ) (p q : Program) → slice_get ps i ≡ Some p → all_left (set ps i q) + left p ≡ all_left ps + left q
+left_set [] i p q found = absurd cc
+left_set (r ∷ ps) zero p q found =
+    let is : r ≡ p = cc in
+    let same : left r ≡ left p = ap left is in
+    omega (arith, same, sum_by-cons left q ps, sum_by-cons left r ps)
+left_set (r ∷ ps) (suc i) p q found = omega (arith, left_set ps i p q found, sum_by-cons left r (set ps i q), sum_by-cons left r ps)
+
+-- where the clock's setup is as it was, nothing is handed on
+pub not_handed : (before now : List Program) → is_setting_up now ≡ is_setting_up before → handed_on before now ≡ now
+not_handed before now same = rw same (elim (is_setting_up before) as (λ b. cond (b && not b) (all_taught now) now ≡ now) [ true ↦ refl | false ↦ refl ])
+
+pub setup_set : (ps : List Program) (i : ℕ) (p q : Program) → slice_get ps i ≡ Some p → in_setup q ≡ in_setup p → is_setting_up (set ps i q) ≡ is_setting_up ps
+setup_set [] i p q found same = refl
+setup_set (r ∷ ps) zero p q found same = (let is : p ≡ r = cc in same ∙ ap in_setup is)
+setup_set (r ∷ ps) (suc i) p q found same = refl
+
+-- the program of a client after names were handed on
+pub handed_get : (P : Program → Type 0) → ((clock p : Program) → P p → P (taught clock p)) → (before now : List Program) (i : ℕ) (q : Program) → slice_get now i ≡ Some q → P q → IfSome (slice_get (handed_on before now) i) P
+handed_get P keeps before now i q found holds =
+    elim (is_setting_up before && not (is_setting_up now)) as (λ b. IfSome (slice_get (cond b (all_taught now) now) i) P) [
+      | true ↦ taught_get now i q found holds
+      | false ↦ rw found holds
+    ]
+  where
+    mapped_get : (clock : Program) (ps : List Program) (j : ℕ) (r : Program) → slice_get ps j ≡ Some r → P r → IfSome (slice_get (map (taught clock) ps) j) P
+    mapped_get clock ps j r found holds = rw (get_map (taught clock) ps j r found) (keeps clock r holds)
+
+    taught_get : (ps : List Program) (j : ℕ) (r : Program) → slice_get ps j ≡ Some r → P r → IfSome (slice_get (all_taught ps) j) P
+    taught_get [] j r found holds = absurd cc
+    taught_get (clock ∷ others) zero r found holds = (let same : r ≡ clock = cc in subst P same holds)
+    taught_get (clock ∷ others) (suc j) r found holds = mapped_get clock others j r found holds
+
+pub shown_handed : (painted : Bool) (before now : List Program) (i : ℕ) (q : Program) → slice_get now i ≡ Some q → shown_by painted (handed_on before now) i ≡ frames_if painted q
+shown_handed painted before now i q found =
+    elim (is_setting_up before && not (is_setting_up now)) as (λ b. shown_by painted (cond b (all_taught now) now) i ≡ frames_if painted q) [
+      | true ↦ taught_shown now i q found
+      | false ↦ rw found refl
+    ]
+  where
+    taught_shown : (ps : List Program) (j : ℕ) (r : Program) → slice_get ps j ≡ Some r → shown_by painted (all_taught ps) j ≡ frames_if painted r
+    taught_shown [] j r found = absurd cc
+    taught_shown (clock ∷ others) zero r found = (let same : clock ≡ r = cc in ap (frames_if painted) same)
+    taught_shown (clock ∷ others) (suc j) r found = rw (get_map (taught clock) others j r found) refl
+
+pub get_within : {A : Type 0} (xs : List A) (i : ℕ) (x : A) → i < length xs → x ≡ get_or xs i x → slice_get xs i ≡ Some x
+get_within xs i x within is = at xs i within ∙ ap (λ (y : _). Some y) (sym is)
+  where
+    at : (ys : List _) (j : ℕ) → j < length ys → slice_get ys j ≡ Some (get_or ys j x)
+    at [] j within = absurd (omega (arith, within))
+    at (y ∷ ys) zero within = refl
+    at (y ∷ ys) (suc j) within = at ys j (omega (arith, within))
+
+-- the program of another client than the clock's
+pub other_is : (clock : Program) (others : List Program) (client : ℕ) (d : Program) → (client ≡ 0 → ⊥) → d ≡ get_or others (client - 1) d → (o : Option Program) → slice_get (clock ∷ others) client ≡ o → IfSome o (λ p. p ≡ d)
+other_is clock others zero d apart is o found = absurd (apart refl)
+other_is clock others (suc k) d apart is None found = tt
+other_is clock others (suc k) d apart is (Some p) found =
+    let at : suc k - 1 ≡ k = omega arith in
+    sym (is ∙ ap (λ (n : ℕ). get_or others n d) at ∙ there others k found)
+  where
+    there : (ps : List Program) (i : ℕ) → slice_get ps i ≡ Some p → get_or ps i d ≡ p
+    there [] i some = absurd cc
+    there (q ∷ ps) zero some = cc
+    there (q ∷ ps) (suc i) some = there ps i some
+
+pub other_set : (clock : Program) (others : List Program) (client : ℕ) (q : Program) → (client ≡ 0 → ⊥) → clock ∷ set others (client - 1) q ≡ set (clock ∷ others) client q
+other_set clock others zero q apart = absurd (apart refl)
+other_set clock others (suc k) q apart = (let at : suc k - 1 ≡ k = omega arith in ap (λ (n : ℕ). clock ∷ set others n q) at)

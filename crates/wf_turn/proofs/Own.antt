@@ -1,0 +1,122 @@
+-- The Job of a frame that begins is that frame's, painted or not.
+use Rattle.std.proofs.Common.{◌≡◌, ◌∙◌, ℕ, ◌+◌, Bool, true, false, not, cond, ◌==◌, ◌&&◌, List, [], ◌∷◌, map, length, Option, Some, None, refl, sym, ap, subst, arith}
+use Rattle.std.specs.Prelude.{filter, find}
+use Rattle.std.specs.List.{list_all}
+use Rattle.std.specs.Option.{option_map}
+use Rattle.std.proofs.lemmas.Bool.{eq-eqb}
+use Rattle.std.proofs.lemmas.Bool.Decides.{nat_tests}
+use Rattle.std.proofs.lemmas.List.{length-map}
+use Rattle.wf_words.specs.Keyed.{is_in, once}
+use Rattle.wf_pixel.specs.declared.Format.{Format}
+use Rattle.wf_pixel.specs.declared.Format.TheVariants as format
+use Rattle.wf_pixel.specs.declared.Size.{Size}
+use Rattle.wf_pixel.specs.Choice.{same_format, same_size}
+use Rattle.wf_image.specs.Bitmap.{Bitmap, drawn}
+use Rattle.wf_image.specs.Contents.{image_of}
+use Rattle.wf_scene.specs.declared.Scene.{Scene}
+use Rattle.wf_stream.specs.Streams.{KeptStream, stream_at}
+use Rattle.wf_calls.specs.declared.call.Job.{Job}
+use Rattle.wf_calls.specs.declared.call.JobKind.{JobKind}
+use Rattle.wf_calls.specs.declared.call.JobKind.TheVariants as kind
+use Rattle.wf_model.specs.declared.Content.{Content}
+use Rattle.wf_model.specs.Frames.{content_shape, has_shape, is_of_frame, job_of, newest_images, newest_of, running_of, same_kind, scene_streams}
+use Rattle.wf_model.specs.Names.{layer_names}
+use Rattle.wf_model.specs.Picture.{Images}
+use Rattle.wf_model.specs.State.{State}
+use Rattle.wf_turn.specs.Program.{painted_job}
+
+-- each number stands once
+abbrev NoneTwice : List ℕ → Type 0
+NoneTwice [] = Unit {0}
+NoneTwice (n ∷ ns) = (is_in n ns ≡ false) × NoneTwice ns
+
+is_in-filter : (x n : ℕ) (ns : List ℕ) → is_in n ns ≡ false → is_in n (filter (λ y. not (y == x)) ns) ≡ false
+is_in-filter x n [] absent = refl
+is_in-filter x n (y ∷ ns) absent =
+    elim (y == n) as (λ b. (y == n) ≡ b → is_in n (cond (not (y == x)) (y ∷ filter (λ z. not (z == x)) ns) (filter (λ z. not (z == x)) ns)) ≡ false) [
+      | true ↦ λ here. absurd (let no : true ≡ false = rw here at absent in cc)
+      | false ↦ λ apart. (
+          let rest = is_in-filter x n ns (rw apart at absent) in
+          elim (y == x) as (λ b. is_in n (cond (not b) (y ∷ filter (λ z. not (z == x)) ns) (filter (λ z. not (z == x)) ns)) ≡ false) [ true ↦ rest | false ↦ rw apart rest ])
+    ] refl
+
+without_itself : (x : ℕ) (ns : List ℕ) → is_in x (filter (λ y. not (y == x)) ns) ≡ false
+without_itself x [] = refl
+without_itself x (y ∷ ns) =
+    elim (y == x) as (λ b. (y == x) ≡ b → is_in x (cond (not b) (y ∷ filter (λ z. not (z == x)) ns) (filter (λ z. not (z == x)) ns)) ≡ false) [
+      | true ↦ λ here. without_itself x ns
+      | false ↦ λ apart. rw apart (without_itself x ns)
+    ] refl
+
+none_filter : (x : ℕ) (ns : List ℕ) → NoneTwice ns → NoneTwice (filter (λ y. not (y == x)) ns)
+none_filter x [] none = tt
+none_filter x (y ∷ ns) none =
+    elim (y == x) as (λ b. NoneTwice (cond (not b) (y ∷ filter (λ z. not (z == x)) ns) (filter (λ z. not (z == x)) ns))) [
+      | true ↦ none_filter x ns none.1
+      | false ↦ (is_in-filter x y ns none.0, none_filter x ns none.1)
+    ]
+
+once_none : (ns : List ℕ) → NoneTwice (once ns)
+once_none [] = tt
+once_none (x ∷ ns) = (without_itself x (once ns), none_filter x (once ns) (once_none ns))
+
+-- no stream has two images
+abbrev Apart : Images → Type 0
+Apart [] = Unit {0}
+Apart (p ∷ xs) = (image_of p.0 xs ≡ None) × Apart xs
+
+no_image : (n : ℕ) (ns : List ℕ) (streams : List KeptStream) → is_in n ns ≡ false → image_of n (newest_images ns streams) ≡ None
+no_image n [] streams absent = refl
+no_image n (k ∷ ns) streams absent =
+    elim (k == n) as (λ b. (k == n) ≡ b → image_of n (newest_images (k ∷ ns) streams) ≡ None) [
+      | true ↦ λ here. absurd (let no : true ≡ false = rw here at absent in cc)
+      | false ↦ λ apart. of_newest apart (no_image n ns streams (rw apart at absent)) (newest_of (stream_at k streams)) refl
+    ] refl
+  where
+    of_newest : (k == n) ≡ false → image_of n (newest_images ns streams) ≡ None → (o : Option Bitmap) → newest_of (stream_at k streams) ≡ o → image_of n (newest_images (k ∷ ns) streams) ≡ None
+    of_newest apart rest None is = rw is rest
+    of_newest apart rest (Some image) is = rw (is, apart) rest
+
+newest_apart : (ns : List ℕ) (streams : List KeptStream) → NoneTwice ns → Apart (newest_images ns streams)
+newest_apart [] streams none = tt
+newest_apart (n ∷ ns) streams none = of_newest (newest_apart ns streams none.1) (newest_of (stream_at n streams)) refl
+  where
+    of_newest : Apart (newest_images ns streams) → (o : Option Bitmap) → newest_of (stream_at n streams) ≡ o → Apart (newest_images (n ∷ ns) streams)
+    of_newest rest None is = rw is rest
+    of_newest rest (Some image) is = rw is (no_image n ns streams none.0, rest)
+
+same_sizes : (s : Size) → same_size s s ≡ true
+same_sizes s = rw (eq-eqb s.w s.w refl, eq-eqb s.h s.h refl) refl
+
+same_formats : (f : Format) → same_format f f ≡ true
+same_formats format.Rgba8 = refl
+same_formats format.Rgba8Pre = refl
+same_formats format.Rgbx8 = refl
+same_formats format.A8 = refl
+
+same_kinds : (k : JobKind) → same_kind k k ≡ true
+same_kinds (kind.Port p) = eq-eqb p p refl
+
+-- of images that stand apart, each has its own shape, among more images too
+all_shaped : (xs : Images) → Apart xs → (whole : Images) → ((n : ℕ) (i : Bitmap) → image_of n xs ≡ Some i → image_of n whole ≡ Some i) → list_all (λ c. has_shape (image_of c.stream whole) c) (map content_shape xs) ≡ true
+all_shaped [] apart whole within = refl
+all_shaped (p ∷ xs) apart whole within =
+    let here : (p.0 == p.0) ≡ true = eq-eqb p.0 p.0 refl in
+    let this : image_of p.0 whole ≡ Some p.1 = within p.0 p.1 (rw here refl) in
+    let rest = all_shaped xs apart.1 whole (λ n i found. within n i (more n i found)) in
+    rw (this, same_sizes p.1.size, same_formats p.1.format) rest
+  where
+    more : (n : ℕ) (i : Bitmap) → image_of n xs ≡ Some i → image_of n (p ∷ xs) ≡ Some i
+    more n i found =
+        elim (p.0 == n) as (λ b. (p.0 == n) ≡ b → image_of n (p ∷ xs) ≡ Some i) [
+          | true ↦ λ here. absurd (let same : p.0 ≡ n = grind (arith, nat_tests, here) in let no : image_of n xs ≡ None = subst (λ (k : ℕ). image_of k xs ≡ None) same apart.0 in cc)
+          | false ↦ λ other. rw other found
+        ] refl
+
+-- the Job of a frame that begins, painted
+pub own_job : (k : JobKind) (scene : Scene) (f : Format) (h : State) → is_of_frame (painted_job (job_of k scene f h)) (running_of (job_of k scene f h)) ≡ true
+unfolding drawn
+own_job k scene f h =
+    let images = newest_images (scene_streams scene) h.streams in
+    let shaped = all_shaped images (newest_apart (scene_streams scene) h.streams (once_none _)) images (λ n i found. found) in
+    rw (eq-eqb (h.begun + 1) (h.begun + 1) refl, same_kinds k, same_sizes scene.size, same_formats f, length-map images content_shape, eq-eqb (length images) (length images) refl) shaped

@@ -1,0 +1,316 @@
+-- One turn of a show that is played serially.
+use Rattle.std.proofs.Common.{◌≡◌, ◌∙◌, ℕ, zero, suc, ◌+◌, ◌-◌, ◌<◌, ◌≤◌, ◌==◌, Bool, true, false, not, cond, ◌&&◌, List, [], ◌∷◌, ◌++◌, map, length, Option, Some, None, refl, sym, ap, subst, arith, set, get_or, IsTrue}
+use Rattle.std.specs.Prelude.{slice_get}
+use Rattle.std.specs.Option.{is_some, IfSome, IsSome, IsSomeAnd}
+use Rattle.wf_calls.specs.declared.order.Turn.{Turn}
+use Rattle.wf_calls.specs.declared.call.Reply.{Reply}
+use Rattle.wf_calls.specs.Codes.{entry}
+use Rattle.wf_film.specs.Film.{Frame}
+use Rattle.wf_machine.specs.Object.{IsPaintable}
+use Rattle.wf_model.specs.State.{Running, State}
+use Rattle.wf_model.specs.Step.{step}
+use Rattle.wf_script.specs.declared.line.Line.{Line}
+use Rattle.wf_script.specs.Script.{PlainScript}
+use Rattle.wf_turn.specs.Play.{first_client, is_marked}
+use Rattle.wf_turn.specs.Playing.{Ends, FirstEnds, HoldsPaintable, IsCast, IsReady, TakesTurn, TakesTurnAt, Turned, TurnsTo, frames_if, may_turn, shown_by, with_frames}
+use Rattle.wf_turn.specs.Program.{Program, first_line, first_of, in_setup, place_of, taught, took, worked}
+use Rattle.wf_turn.specs.Quota.{all_left, left}
+use Rattle.wf_turn.specs.Ready.{AreOf, IsFit}
+use Rattle.wf_turn.specs.Serial.{IsFirst}
+use Rattle.wf_turn.specs.Turns.{Show, answered, frames_of, handed_on, is_setting_up, turn}
+use Rattle.wf_turn.proofs.Begins.{Leaves, ended, turn_leaves}
+use Rattle.wf_turn.proofs.Casts.{IsOf, are_handed, are_set, at_client, get_map, get_set, handed_get, handed_same, left_handed, left_set, length_map, map_set, not_handed, other_is, other_set, setup_set, shown_handed}
+use Rattle.wf_turn.proofs.Clients.{first_place}
+use Rattle.wf_turn.proofs.Fitting.{fit_took}
+use Rattle.wf_turn.proofs.Keeping.{same_client, same_script}
+use Rattle.wf_turn.proofs.Lefts.{left_took}
+use Rattle.wf_turn.proofs.Turnings.{has_line}
+
+abbrev none_running : Option Running
+none_running = None
+
+is_not : (b : Bool) → not b ≡ true → b ≡ false
+is_not true is = absurd cc
+is_not false is = refl
+
+-- the program whose turn it is
+module _ (s : Show) (client : ℕ) (p : Program) (cast : IsCast s) (first : IsFirst s.programs client) (found : slice_get s.programs client ≡ Some p) where
+  pub of : IsOf cast.script (0 + client) p
+  of = at_client cast.script 0 s.programs client p cast.programs found
+
+  -- it is not through
+  pub stands : IsSome (place_of p)
+  stands = of_first (first_client (map place_of s.programs)) refl first
+    where
+      of_first : (o : Option (ℕ × ℕ)) → first_client (map place_of s.programs) ≡ o → IsSomeAnd o (λ c. c.0 ≡ client) → IsSome (place_of p)
+      of_first None is none = absurd none
+      of_first (Some c) is here =
+          let at : slice_get (map place_of s.programs) client ≡ Some (Some c.1) = ap (slice_get (map place_of s.programs)) (sym here) ∙ first_place (map place_of s.programs) c is in
+          let there : Some (place_of p) ≡ Some (Some c.1) = sym (get_map place_of s.programs client p found) ∙ at in
+          let placed_at : place_of p ≡ Some c.1 = cc in
+          rw placed_at refl
+
+  -- it holds the running frame's Job
+  pub ends_running : IfSome s.state.frame (λ f. Ends f p)
+  ends_running = of_frame s.state.frame refl
+    where
+      of_first : (f : Running) (o : Option (ℕ × ℕ)) → IsSomeAnd o (λ c. c.0 ≡ client) → IfSome o (λ c. IfSome (slice_get s.programs c.0) (Ends f)) → Ends f p
+      of_first f None none own = absurd none
+      of_first f (Some c) here own =
+          let at : slice_get s.programs c.0 ≡ Some p = ap (slice_get s.programs) here ∙ found in
+          rw at at own
+
+      of_frame : (o : Option Running) → s.state.frame ≡ o → IfSome o (λ f. Ends f p)
+      of_frame None free = tt
+      of_frame (Some f) runs =
+          let alone : FirstEnds s.programs f = rw runs at cast.alone in
+          of_first f (first_client (map place_of s.programs)) first alone
+
+module _ (s : Show) (client : ℕ) (p q : Program) (left_state : State) (t : Turn) (painted : Bool)
+    (cast : IsCast s) (first : IsFirst s.programs client) (allowed : may_turn s.programs client ≡ true) (found : slice_get s.programs client ≡ Some p) (takes : TakesTurn client s.state left_state p q t painted) where
+  abbrev W : State × Reply
+  W = step s.state client takes.wanted.call (is_marked t)
+
+  abbrev placed : List Program
+  placed = set s.programs client q
+
+  abbrev programs_now : List Program
+  programs_now = handed_on s.programs placed
+
+  abbrev pub show_now : Show
+  show_now = record { state = left_state; programs = programs_now; frames = [] }
+
+  frames_are : frames_of (took p W.1) ≡ shown_by painted programs_now client
+  frames_are = takes.frames ∙ sym (shown_handed painted s.programs placed client q (get_set s.programs client p q found))
+
+  takes_turn : turn (with_frames [] s) client (is_marked t) ≡ Some (answered (with_frames [] s) client p W)
+  unfolding turn
+  takes_turn = rw (is_not (not (client == 0) && is_setting_up s.programs) allowed, found, takes.asks, takes.ready) refl
+
+  pub client_is : t.client ≡ client
+  client_is = ap (λ (x : Turn). x.client) takes.entry_is
+
+  pub turns : TurnsTo s t (shown_by painted programs_now client) show_now
+  turns =
+      let show : State → Program → List Frame → Show = λ h r frames. record { state = h; programs = handed_on s.programs (set s.programs client r); frames = frames } in
+      record {
+        first = subst (λ (n : ℕ). IsFirst s.programs n) (sym client_is) first;
+        taken =
+            ap (λ (n : ℕ). turn (with_frames [] s) n (is_marked t)) client_is
+            ∙ takes_turn
+            ∙ ap (λ (h : State). Some (show h (worked (took p W.1)) (frames_of (took p W.1)), entry client W.1)) (sym takes.state)
+            ∙ ap (λ (r : Program). Some (show left_state r (frames_of (took p W.1)), entry client W.1)) (sym takes.program)
+            ∙ ap (λ (frames : List Frame). Some (show left_state q frames, entry client W.1)) frames_are
+            ∙ ap (λ (x : Turn). Some (show left_state q (shown_by painted programs_now client), x)) (sym takes.entry_is);
+      }
+
+  of_p : IsOf cast.script (0 + client) p
+  of_p = of s client p cast first found
+
+  fit_now : IsFit q
+  fit_now = subst IsFit (sym takes.program) (fit_took p W.1 of_p.fit)
+
+  programs_are : AreOf cast.script 0 programs_now
+  programs_are =
+      are_handed cast.script s.programs placed
+      (are_set cast.script 0 s.programs client p q cast.programs found (ap (λ (x : Program). x.script) takes.program ∙ same_script p W.1) (ap (λ (x : Program). x.client) takes.program ∙ same_client p W.1) fit_now)
+
+  ends_now : (f : Running) → s.state.frame ≡ Some f → Ends f p
+  ends_now f runs = rw runs at (ends_running s client p cast first found)
+
+  leaves : s.state.frame ≡ None → Leaves p (took p W.1) W.0.frame
+  leaves free = turn_leaves p s.state client (is_marked t) takes.wanted free of_p.fit.painted takes.asks
+
+  -- a program whose lines are the same stands where it stood
+  module _ (lines : (took p W.1).lines ≡ p.lines) where
+    q_lines : q.lines ≡ p.lines
+    q_lines = ap (λ (x : Program). x.lines) takes.program ∙ worked_lines (took p W.1) ∙ lines
+      where
+        worked_lines : (r : Program) → (worked r).lines ≡ r.lines
+        worked_lines r = by_bool r.unpainted
+          where
+            by_bool : (b : Bool) → (worked (record r { unpainted = b })).lines ≡ r.lines
+            by_bool true = refl
+            by_bool false = refl
+
+    place_is : place_of q ≡ place_of p
+    place_is = ap (λ (ls : List (ℕ × Line)). place_of (record q { lines = ls })) q_lines
+
+    setup_is : in_setup q ≡ in_setup p
+    setup_is =
+        ap (λ (ls : List (ℕ × Line)). in_setup (record q { lines = ls })) q_lines
+        ∙ ap (λ (x : PlainScript). in_setup (record p { script = x })) (ap (λ (x : Program). x.script) takes.program ∙ same_script p W.1)
+
+    nothing_handed : programs_now ≡ placed
+    nothing_handed = not_handed s.programs placed (setup_set s.programs client p q found setup_is)
+
+    same_places : map place_of programs_now ≡ map place_of s.programs
+    same_places = ap (λ (ps : List Program). map place_of ps) nothing_handed ∙ map_set place_of s.programs client p q found place_is
+
+    same_setup : is_setting_up programs_now ≡ is_setting_up s.programs
+    same_setup = ap is_setting_up nothing_handed ∙ setup_set s.programs client p q found setup_is
+
+    here_now : slice_get programs_now client ≡ Some q
+    here_now = ap (λ (ps : List Program). slice_get ps client) nothing_handed ∙ get_set s.programs client p q found
+
+  -- behind the turn a running frame is the first client's to end
+  pub again : IsSome left_state.frame → IsFirst programs_now client × (may_turn programs_now client ≡ true)
+  again runs = of_frame s.state.frame refl
+    where
+      of_frame : (o : Option Running) → s.state.frame ≡ o → IsFirst programs_now client × (may_turn programs_now client ≡ true)
+      of_frame (Some f) was =
+          let e = ended p s.state client (is_marked t) takes.wanted f was (ends_now f was) takes.asks in
+          absurd (let no : IsSome none_running = subst (λ (o : Option Running). IsSome o) (ap (λ (h : State). h.frame) takes.state ∙ e.free) runs in cc)
+      of_frame None free = of_now W.0.frame refl (leaves free).ends
+        where
+          of_now : (o : Option Running) → W.0.frame ≡ o → IfSome o (λ f. Ends f (worked (took p W.1)) × ((took p W.1).lines ≡ p.lines)) → IsFirst programs_now client × (may_turn programs_now client ≡ true)
+          of_now None is own = absurd (let no : IsSome none_running = subst (λ (o : Option Running). IsSome o) (ap (λ (h : State). h.frame) takes.state ∙ is) runs in cc)
+          of_now (Some f) is own =
+              (subst (λ (ns : List (Option ℕ)). IsSomeAnd (first_client ns) (λ c. c.0 ≡ client)) (sym (same_places own.1)) first,
+              ap (λ (b : Bool). not (not (client == 0) && b)) (same_setup own.1) ∙ allowed)
+
+  alone_now : IfSome left_state.frame (FirstEnds programs_now)
+  alone_now = subst (λ (o : Option Running). IfSome o (FirstEnds programs_now)) (sym (ap (λ (h : State). h.frame) takes.state)) (of_frame s.state.frame refl)
+    where
+      of_frame : (o : Option Running) → s.state.frame ≡ o → IfSome W.0.frame (FirstEnds programs_now)
+      of_frame (Some f) was =
+          let e = ended p s.state client (is_marked t) takes.wanted f was (ends_now f was) takes.asks in
+          rw e.free tt
+      of_frame None free = of_now W.0.frame (leaves free).ends
+        where
+          of_first : (f : Running) → (took p W.1).lines ≡ p.lines → Ends f q → (o : Option (ℕ × ℕ)) → first_client (map place_of s.programs) ≡ o → IsSomeAnd o (λ c. c.0 ≡ client) → IfSome o (λ c. IfSome (slice_get programs_now c.0) (Ends f))
+          of_first f lines ends None is none = absurd none
+          of_first f lines ends (Some c) is here =
+              let at : slice_get programs_now c.0 ≡ Some q = ap (slice_get programs_now) here ∙ here_now lines in
+              rw at ends
+
+          of_now : (o : Option Running) → IfSome o (λ f. Ends f (worked (took p W.1)) × ((took p W.1).lines ≡ p.lines)) → IfSome o (FirstEnds programs_now)
+          of_now None own = tt
+          of_now (Some f) own =
+              subst (λ (ns : List (Option ℕ)). IfSome (first_client ns) (λ c. IfSome (slice_get programs_now c.0) (Ends f))) (sym (same_places own.1))
+              (of_first f own.1 (subst (Ends f) (sym takes.program) own.0) (first_client (map place_of s.programs)) refl first)
+
+  pub cast_now : IsCast show_now
+  cast_now =
+      record {
+        script = cast.script;
+        programs = programs_are;
+        eight = length_map left programs_now placed (handed_same left (λ clock r. refl) s.programs placed) ∙ length_set s.programs client q ∙ cast.eight;
+        alone = alone_now;
+      }
+    where
+      length_set : {A : Type 0} (xs : List A) (i : ℕ) (x : A) → length (set xs i x) ≡ length xs
+      length_set [] i x = refl
+      length_set (y ∷ ys) zero x = refl
+      length_set (y ∷ ys) (suc i) x = ap suc (length_set ys i x)
+
+  pub fewer : all_left programs_now + 1 ≤ all_left s.programs
+  fewer =
+      let line = has_line p (stands s client p cast first found) in
+      let less = left_took p line.0 W.1 of_p.fit line.1 in
+      omega (arith, left_handed s.programs placed, left_set s.programs client p q found, less, ap left takes.program)
+
+  pub paintable : IsTrue painted → HoldsPaintable programs_now client
+  paintable is = handed_get (λ (r : Program). IsSomeAnd r.job IsPaintable) (λ clock r can. can) s.programs placed client q (get_set s.programs client p q found) (takes.paintable is)
+
+  pub begun : left_state.frame ≡ None → shown_by painted programs_now client ≡ []
+  begun free_now = sym frames_are ∙ of_frame s.state.frame refl
+    where
+      of_frame : (o : Option Running) → s.state.frame ≡ o → frames_of (took p W.1) ≡ []
+      of_frame (Some f) was = (ended p s.state client (is_marked t) takes.wanted f was (ends_now f was) takes.asks).shows
+      of_frame None free = (leaves free).shows (sym (ap (λ (h : State). h.frame) takes.state) ∙ free_now)
+
+  pub ended_shows : IsSome s.state.frame → shown_by painted programs_now client ≡ []
+  ended_shows runs = sym frames_are ∙ of_frame s.state.frame refl
+    where
+      of_frame : (o : Option Running) → s.state.frame ≡ o → frames_of (took p W.1) ≡ []
+      of_frame (Some f) was = (ended p s.state client (is_marked t) takes.wanted f was (ends_now f was) takes.asks).shows
+      of_frame None free = absurd (let no : IsSome none_running = subst (λ (o : Option Running). IsSome o) free runs in cc)
+
+-- the program whose turn it is, if the client is one of the eight
+pub ready : (s : Show) (client : ℕ) → IsCast s → IsFirst s.programs client → client < 8 → IsSomeAnd (slice_get s.programs client) (IsReady s.state)
+ready s client cast first within = of_program (slice_get s.programs client) refl
+  where
+    of_program : (o : Option Program) → slice_get s.programs client ≡ o → IsSomeAnd o (IsReady s.state)
+    of_program None none = absurd (omega (arith, past s.programs client none, cast.eight, within))
+      where
+        past : (ps : List Program) (i : ℕ) → slice_get ps i ≡ None → length ps ≤ i
+        past [] i none = omega arith
+        past (q ∷ qs) zero none = absurd cc
+        past (q ∷ qs) (suc i) none = (let rest = past qs i none in omega (arith, rest))
+    of_program (Some p) found = record { fit = (of s client p cast first found).fit; more = stands s client p cast first found; alone = ends_running s client p cast first found }
+
+pub cast_after : (s : Show) (client : ℕ) (h : State) (placed : List Program) (t : Turn) (painted : Bool) → IsCast s → IsFirst s.programs client → may_turn s.programs client ≡ true → client < 8 → TakesTurnAt client s.state h s.programs placed t painted
+    → IsCast (record { state = h; programs = handed_on s.programs placed; frames = [] })
+cast_after s client h placed t painted cast first allowed within takes = of_program (slice_get s.programs client) refl (ready s client cast first within) takes
+  where
+    of_program : (o : Option Program) → slice_get s.programs client ≡ o → IsSomeAnd o (IsReady s.state) → IfSome o (λ p. (q : Program) × ((placed ≡ set s.programs client q) × TakesTurn client s.state h p q t painted))
+        → IsCast (record { state = h; programs = handed_on s.programs placed; frames = [] })
+    of_program None none is took = absurd is
+    of_program (Some p) found is took =
+        subst (λ (ps : List Program). IsCast (record { state = h; programs = handed_on s.programs ps; frames = [] })) (sym took.1.0)
+        (cast_now s client p took.0 h t painted cast first allowed found took.1.1)
+
+pub turned : (s : Show) (client : ℕ) (h : State) (placed : List Program) (t : Turn) (painted : Bool) → IsCast s → IsFirst s.programs client → may_turn s.programs client ≡ true → client < 8 → TakesTurnAt client s.state h s.programs placed t painted
+    → (seen : Show) → s ≡ seen → (now : Show) → now ≡ record { state = h; programs = handed_on s.programs placed; frames = [] } → Turned seen client now t painted
+turned s client h placed t painted cast first allowed within takes seen is now now_is =
+    subst (λ (v : Show). Turned v client now t painted) is (subst (λ (v : Show). Turned s client v t painted) (sym now_is) (of_program (slice_get s.programs client) refl (ready s client cast first within) takes))
+  where
+    of_program : (o : Option Program) → slice_get s.programs client ≡ o → IsSomeAnd o (IsReady s.state) → IfSome o (λ p. (q : Program) × ((placed ≡ set s.programs client q) × TakesTurn client s.state h p q t painted))
+        → Turned s client (record { state = h; programs = handed_on s.programs placed; frames = [] }) t painted
+    of_program None none is took = absurd is
+    of_program (Some p) found is took =
+        let q = took.0 in
+        let one = took.1.1 in
+        let k = again s client p q h t painted cast first allowed found one in
+        subst (λ (ps : List Program). Turned s client (record { state = h; programs = handed_on s.programs ps; frames = [] }) t painted) (sym took.1.0) (record {
+          next = turns s client p q h t painted cast first allowed found one;
+          client_is = client_is s client p q h t painted cast first allowed found one;
+          fewer = fewer s client p q h t painted cast first allowed found one;
+          paintable = paintable s client p q h t painted cast first allowed found one;
+          begun = begun s client p q h t painted cast first allowed found one;
+          ended = ended_shows s client p q h t painted cast first allowed found one;
+          again = λ runs. (k runs).0;
+          still = λ runs. (k runs).1;
+        })
+
+-- the programs after a turn are those of the script
+pub are_after : (s : Show) (client : ℕ) (h : State) (placed : List Program) (t : Turn) (painted : Bool) (cast : IsCast s) → IsFirst s.programs client → client < 8 → TakesTurnAt client s.state h s.programs placed t painted → AreOf cast.script 0 placed
+are_after s client h placed t painted cast first within takes = of_program (slice_get s.programs client) refl (ready s client cast first within) takes
+  where
+    of_program : (o : Option Program) → slice_get s.programs client ≡ o → IsSomeAnd o (IsReady s.state) → IfSome o (λ p. (q : Program) × ((placed ≡ set s.programs client q) × TakesTurn client s.state h p q t painted)) → AreOf cast.script 0 placed
+    of_program None none is took = absurd is
+    of_program (Some p) found is took =
+        let q = took.0 in
+        let one = took.1.1 in
+        let reply = (step s.state client one.wanted.call (is_marked t)).1 in
+        subst (λ (ps : List Program). AreOf cast.script 0 ps) (sym took.1.0)
+        (are_set cast.script 0 s.programs client p q cast.programs found (ap (λ (x : Program). x.script) one.program ∙ same_script p reply) (ap (λ (x : Program). x.client) one.program ∙ same_client p reply)
+        (subst IsFit (sym one.program) (fit_took p reply (of s client p cast first found).fit)))
+
+-- what is handed on, by the clock and the other programs
+pub handed_is : (clock now : Program) (others behind : List Program) (was : Bool) (items : List Program) → was ≡ in_setup clock → items ≡ cond (was && not (in_setup now)) (map (taught now) behind) behind → now ∷ items ≡ handed_on (clock ∷ others) (now ∷ behind)
+handed_is clock now others behind was items was_is items_is =
+    ap (λ (ps : List Program). now ∷ ps) items_is
+    ∙ ap (λ (b : Bool). now ∷ cond (b && not (in_setup now)) (map (taught now) behind) behind) was_is
+    ∙ by_bool (in_setup clock && not (in_setup now))
+  where
+    by_bool : (b : Bool) → now ∷ cond b (map (taught now) behind) behind ≡ cond b (now ∷ map (taught now) behind) (now ∷ behind)
+    by_bool true = refl
+    by_bool false = refl
+
+-- a turn of another client than the clock
+pub other_ready : (clock : Program) (others : List Program) (client : ℕ) (h : State) (d : Program) → (client ≡ 0 → ⊥) → d ≡ get_or others (client - 1) d → IsSomeAnd (slice_get (clock ∷ others) client) (IsReady h) → IsReady h d
+other_ready clock others client h d apart is can = of_program (slice_get (clock ∷ others) client) (other_is clock others client d apart is (slice_get (clock ∷ others) client) refl) can
+  where
+    of_program : (o : Option Program) → IfSome o (λ p. p ≡ d) → IsSomeAnd o (IsReady h) → IsReady h d
+    of_program None same can = absurd can
+    of_program (Some p) same can = subst (IsReady h) same can
+
+pub other_turned : (clock : Program) (others : List Program) (client : ℕ) (h left_state : State) (d q : Program) (t : Turn) (painted : Bool) → (client ≡ 0 → ⊥) → d ≡ get_or others (client - 1) d → TakesTurn client h left_state d q t painted
+    → TakesTurnAt client h left_state (clock ∷ others) (clock ∷ set others (client - 1) q) t painted
+other_turned clock others client h left_state d q t painted apart is takes = of_program (slice_get (clock ∷ others) client) (other_is clock others client d apart is (slice_get (clock ∷ others) client) refl)
+  where
+    of_program : (o : Option Program) → IfSome o (λ p. p ≡ d) → IfSome o (λ p. (r : Program) × ((clock ∷ set others (client - 1) q ≡ set (clock ∷ others) client r) × TakesTurn client h left_state p r t painted))
+    of_program None same = tt
+    of_program (Some p) same = (q, (other_set clock others client q apart, subst (λ (x : Program). TakesTurn client h left_state x q t painted) (sym same) takes))

@@ -1,0 +1,148 @@
+//! Plays a script serially: the events of each line stand together, in the order of the file.
+
+ghost use Rattle.std.specs.Prelude.{◌≡◌, ◌+◌, ◌*◌, ◌<◌, ◌≤◌, ◌^◌, [], map, length, vec_capacity, IfErr, IsTrue, None, OnErr, OnOk};
+ghost use Rattle.wf_io.specs.Causes.{HasCause};
+ghost use Rattle.wf_turn.specs.Play.{first_client};
+ghost use Rattle.wf_turn.specs.Playing.{PlaysTurn, PlaysTurns, StopsTurn, StopsTurns, may_turn, script_of};
+ghost use Rattle.wf_turn.specs.Program.{place_of};
+ghost use Rattle.wf_turn.specs.Quota.{all_left, most_turns};
+ghost use Rattle.wf_turn.specs.Serial.{IsCaused, IsFirst, PlaysFilm};
+ghost use Rattle.wf_turn.specs.Turns.{opening_show};
+
+use crate::quotas::most_turns;
+use crate::show::Show;
+use std::alloc::Global;
+use wf_calls::{Order, Turn};
+use wf_film::Writer;
+use wf_io::{Sink, WriteStop};
+use wf_script::Script;
+use wf_words::NoMemory;
+
+/// Why a film was not played to its end.
+#[derive(Drop)]
+pub enum PlayStop {
+    /// The sink failed when it had taken this many bytes; the order is what was played.
+    WriteFault { written: u64, order: Order },
+    /// Nothing was put.
+    NoMemory,
+}
+
+impl From<NoMemory> for PlayStop {
+    ghost use Rattle.std.specs.Prelude.{◌≡◌};
+    ghost use Rattle.wf_turn.specs.declared.player.PlayStop.TheVariants as stop;
+
+    ghost from_gives = { λ _ e. e ≡ stop.NoMemory };
+
+    fn from(_no_memory: NoMemory) -> PlayStop {
+        PlayStop::NoMemory
+    }
+}
+
+/// Plays the lines of a script in file order, and writes its film. All memory but that of the script's own creations is
+/// taken before the first byte is put. Where the sink fails at a frame, that frame ends, and then play stops.
+pub fn serial<K: Sink>(alloc: Global, script: &Script, k: &mut K) -> Result<Order, PlayStop>
+    ensures plays { PlaysFilm K.took k.old k.new script.now result }
+    ensures caused { IsCaused (K.faults k.old) (K.faults k.new) result }
+{
+    let mut show = Show::open(alloc, script)?;
+    let Ok(played) = Vec::with_capacity(alloc, most_turns(script)) else {
+        return Err(PlayStop::NoMemory);
+    };
+    write_film(&mut show, k, played)
+}
+
+/// Writes the film of a show that is open, into an order that has room for all turns.
+fn write_film<K: Sink>(
+    show: &mut Show,
+    k: &mut K,
+    mut played: Vec<Turn>,
+) -> Result<Order, PlayStop>
+    requires opened { show.old ≡ opening_show (script_of show.old) }
+    requires few { length (script_of show.old).lines ≤ 16384 }
+    requires none { played.items ≡ [] }
+    requires room { most_turns (script_of show.old).lines ≤ vec_capacity played }
+    ensures plays { PlaysFilm K.took k.old k.new (script_of show.old) result }
+    ensures caused { IsCaused (K.faults k.old) (K.faults k.new) result }
+{
+    let mut writer = match Writer::new(k) {
+        Ok(writer) => writer,
+        Err(stop) => return Err(write_fault(stop, Order::new(played))),
+    };
+    if let Err(stop) = play_turns(show, k, &mut writer, &mut played) {
+        return Err(write_fault(stop, Order::new(played)));
+    }
+    let order = Order::new(played);
+    match writer.finish(k, &order) {
+        Ok(()) => Ok(order),
+        Err(stop) => Err(write_fault(stop, order)),
+    }
+}
+
+/// The stop of a film whose sink failed, with what was played.
+fn write_fault(stop: WriteStop, order: Order) -> PlayStop
+    ensures { result ≡ PlayStop.WriteFault stop.written order }
+{
+    PlayStop::WriteFault {
+        written: stop.written as u64,
+        order,
+    }
+}
+
+/// Plays all turns, and puts their frames.
+fn play_turns<K: Sink>(
+    show: &mut Show,
+    k: &mut K,
+    writer: &mut Writer,
+    played: &mut Vec<Turn>,
+) -> Result<(), WriteStop>
+    requires none { played.old.items ≡ [] }
+    requires room { all_left show.old.programs ≤ vec_capacity played.old }
+    requires few { writer.old + all_left show.old.programs * 4194314 < 2 ^ 62 }
+    ensures all { OnOk result (PlaysTurns K.took k.old k.new writer.old writer.new show.old show.new played.new.items) }
+    ensures over { OnOk result (first_client (map place_of show.new.programs) ≡ None) }
+    ensures few { OnOk result (writer.new < 2 ^ 62) }
+    ensures many { length played.new.items ≤ all_left show.old.programs }
+    ensures part { IfErr result (λ stop. StopsTurns K.took k.old k.new writer.old stop.written show.old show.new played.new.items) }
+    ensures cause { HasCause (K.faults k.old) (K.faults k.new) result }
+{
+    while let Some(client) = show.first() {
+        if let Err(stop) = play_turn(show, client, k, writer, played) {
+            return Err(stop);
+        }
+    }
+    Ok(())
+}
+
+/// Plays the next turn, of the client of the first line that is not through, and puts its frame. Where the sink fails,
+/// the frame ends.
+fn play_turn<K: Sink>(
+    show: &mut Show,
+    client: usize,
+    k: &mut K,
+    writer: &mut Writer,
+    played: &mut Vec<Turn>,
+) -> Result<(), WriteStop>
+    requires first { IsFirst show.old.programs client }
+    requires allowed { IsTrue (may_turn show.old.programs client) }
+    requires within { client < 8 }
+    requires room { length played.old.items + all_left show.old.programs ≤ vec_capacity played.old }
+    requires few { writer.old + all_left show.old.programs * 4194314 < 2 ^ 62 }
+    ensures all { OnOk result (PlaysTurn K.took k.old k.new writer.old writer.new show.old show.new played.old.items played.new.items) }
+    ensures fewer { OnOk result (all_left show.new.programs + 1 ≤ all_left show.old.programs) }
+    ensures many { length played.new.items + all_left show.new.programs ≤ length played.old.items + all_left show.old.programs }
+    ensures most { OnOk result (writer.new ≤ writer.old + 4194314) }
+    ensures room { OnOk result (vec_capacity played.old ≤ vec_capacity played.new) }
+    ensures part { IfErr result (λ stop. StopsTurn K.took k.old k.new writer.old stop.written show.old show.new played.old.items played.new.items) }
+    ensures cause { HasCause (K.faults k.old) (K.faults k.new) result }
+{
+    let (turn, painted) = show.turn(client);
+    played.push_reserved(turn);
+    if painted {
+        if let Err(stop) = show.put_frame(client, k, writer) {
+            let (end, _) = show.turn(client);
+            played.push_reserved(end);
+            return Err(stop);
+        }
+    }
+    Ok(())
+}

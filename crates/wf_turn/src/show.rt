@@ -1,0 +1,218 @@
+//! A show: the machine, and the programs of the eight clients.
+
+ghost use Rattle.std.specs.Prelude.{◌≡◌, ◌+◌, ◌*◌, ◌<◌, ◌≤◌, ◌^◌, ◌&&◌, not, if◌then◌else◌, ◌∷◌, map, slice_get, option_map, length, flat_map, Some, IfOk, IfErr, IfSome, IsSomeAnd, IsTrue, OnOk, All, true};
+ghost use Rattle.wf_film.specs.Film.{frame_bytes};
+ghost use Rattle.wf_io.specs.Bytes.{Puts, PutsPart};
+ghost use Rattle.wf_io.specs.Causes.{HasCause};
+ghost use Rattle.wf_machine.specs.Object.{IsPaintable};
+ghost use Rattle.wf_turn.specs.Play.{earlier, first_client};
+ghost use Rattle.wf_turn.specs.Playing.{HoldsPaintable, IsReady, StandsOwn, TakesTurnAt, Turned, may_turn, shown_by};
+ghost use Rattle.wf_turn.specs.Program.{in_setup, place_of, taught};
+ghost use Rattle.wf_turn.specs.Serial.{IsFirst};
+ghost use Rattle.wf_turn.specs.Turns.{opening_show, shown};
+
+use crate::program::Program;
+use crate::turning::take_turn;
+use std::alloc::Global;
+use std::marker::Model;
+use wf_calls::{Job, JobKind, Turn};
+use wf_film::Writer;
+use wf_io::{Sink, WriteStop};
+use wf_machine::Machine;
+use wf_script::Script;
+use wf_words::NoMemory;
+
+/// How many clients there are beside the clock.
+const OTHERS: u8 = 7;
+
+/// The machine, the program of the clock, which is client 0, and those of the other clients of a script.
+#[derive(Drop)]
+pub(crate) struct Show<'a> {
+    machine: Machine,
+    clock: Program<'a>,
+    others: Vec<Program<'a>>,
+}
+
+impl<'a> Model for Show<'a> {
+    ghost use Rattle.wf_turn.specs.Turns.{Show};
+    ghost use Rattle.wf_turn.specs.Playing.{show_of, IsSound};
+
+    ghost Value = { Show };
+
+    ghost view = { show_of };
+
+    ghost invariant = { IsSound };
+}
+
+/// Of the client whose place comes first so far, and another one: the one whose place comes first.
+fn earlier(
+    best: Option<(usize, usize)>,
+    client: usize,
+    place: Option<usize>,
+) -> Option<(usize, usize)>
+    ensures { result ≡ earlier best (client, place) }
+{
+    match (best, place) {
+        (_, None) => best,
+        (None, Some(place)) => Some((client, place)),
+        (Some((_, least)), Some(place)) => {
+            if place < least {
+                Some((client, place))
+            } else {
+                best
+            }
+        }
+    }
+}
+
+/// The client of the first line that is not through, and the place of that line.
+fn first_of(clock: &Program, others: &[Program]) -> Option<(usize, usize)>
+    requires { length others.now < 8 }
+    ensures first { result ≡ first_client (map place_of (clock.now ∷ others.now)) }
+    ensures own { IfSome result (StandsOwn (clock.now ∷ others.now)) }
+{
+    let mut best = earlier(None, 0, clock.place());
+    for (behind, program) in others.iter().enumerate() {
+        best = earlier(best, behind + 1, program.place());
+    }
+    best
+}
+
+/// The other programs learn the values of the names that the setup bound, from the clock's.
+fn teach(clock: &Program, others: &mut [Program])
+    requires script { All (λ p. p.script ≡ clock.now.script) others.old }
+    requires clock { clock.now.client ≡ 0 }
+    ensures { others.new ≡ map (taught clock.now) others.old }
+{
+    for program in others.iter_mut() {
+        program.learn(clock);
+    }
+}
+
+/// Where the setup ended just now, its names are handed on to the other programs.
+fn hand_on(was_setup: bool, clock: &Program, others: &mut Vec<Program>)
+    requires script { All (λ p. p.script ≡ clock.now.script) others.old.items }
+    requires clock { clock.now.client ≡ 0 }
+    ensures { others.new.items ≡ (if was_setup && not (in_setup clock.now) then map (taught clock.now) others.old.items else others.old.items) }
+{
+    if was_setup && !clock.in_setup() {
+        teach(clock, others);
+    }
+}
+
+/// One turn of the program of a client.
+fn take_turn_of(
+    machine: &mut Machine,
+    clock: &mut Program,
+    others: &mut Vec<Program>,
+    client: usize,
+) -> (Turn, bool)
+    requires within { client < 8 }
+    requires ready { IsSomeAnd (slice_get (clock.old ∷ others.old.items) client) (IsReady machine.old) }
+    ensures { TakesTurnAt client machine.old machine.new (clock.old ∷ others.old.items) (clock.new ∷ others.new.items) result.0 result.1 }
+{
+    if client == 0 {
+        take_turn(machine, clock, 0)
+    } else {
+        take_turn(machine, &mut others[client - 1], client as u8)
+    }
+}
+
+impl<'a> Show<'a> {
+    /// The machine before the first call, and the programs before theirs.
+    pub(crate) fn open(alloc: Global, script: &'a Script) -> Result<Show<'a>, NoMemory>
+        ensures { IfOk result (λ show. show ≡ opening_show script.now) }
+    {
+        let machine = Machine::open(alloc, script.ports())?;
+        let clock = Program::new(alloc, script, 0)?;
+        let mut others = Vec::with_capacity(alloc, OTHERS.into())?;
+        for behind in 0..OTHERS {
+            others.push_reserved(Program::new(alloc, script, behind + 1)?);
+        }
+        Ok(Show {
+            machine,
+            clock,
+            others,
+        })
+    }
+
+    /// The client of the first line in the file that is not through, or none where all are.
+    pub(crate) fn first(&self) -> Option<usize>
+        ensures first { option_map (λ c. c.0) (first_client (map place_of self.now.programs)) ≡ result }
+        ensures allowed { IfSome result (λ c. IsTrue (may_turn self.now.programs c)) }
+        ensures within { IfSome result (λ c. c < 8) }
+    {
+        match first_of(&self.clock, &self.others) {
+            Some((client, _)) => Some(client),
+            None => None,
+        }
+    }
+
+    /// The next turn, of the client of the first line that is not through. It gives the entry, and whether a Job was
+    /// painted.
+    pub(crate) fn turn(&mut self, client: usize) -> (Turn, bool)
+        requires first { IsFirst self.old.programs client }
+        requires allowed { IsTrue (may_turn self.old.programs client) }
+        requires within { client < 8 }
+        ensures { Turned self.old client self.new result.0 result.1 }
+    {
+        let was_setup = self.clock.in_setup();
+        let (turn, painted) = take_turn_of(
+            &mut self.machine,
+            &mut self.clock,
+            &mut self.others,
+            client,
+        );
+        hand_on(was_setup, &self.clock, &mut self.others);
+        (turn, painted)
+    }
+
+    /// The program of a client.
+    fn program(&self, client: usize) -> &Program<'a>
+        requires { client < 8 }
+        ensures { slice_get self.now.programs client ≡ Some result.now }
+    {
+        if client == 0 {
+            &self.clock
+        } else {
+            &self.others[client - 1]
+        }
+    }
+
+    /// Puts the frame of the Job that a client's program holds, if it is a port's.
+    pub(crate) fn put_frame<K: Sink>(
+        &self,
+        client: usize,
+        k: &mut K,
+        writer: &mut Writer,
+    ) -> Result<(), WriteStop>
+        requires within { client < 8 }
+        requires paintable { HoldsPaintable self.now.programs client }
+        requires few { writer.old < 2 ^ 62 }
+        ensures all { OnOk result (Puts K.took k.old k.new (flat_map frame_bytes (shown_by true self.now.programs client))) }
+        ensures written { OnOk result (writer.new ≡ writer.old + length (flat_map frame_bytes (shown_by true self.now.programs client))) }
+        ensures most { OnOk result (writer.new ≤ writer.old + 10 + 4 * 1024 * 1024) }
+        ensures part { IfErr result (λ stop. PutsPart K.took k.old k.new writer.old (flat_map frame_bytes (shown_by true self.now.programs client)) stop.written) }
+        ensures cause { HasCause (K.faults k.old) (K.faults k.new) result }
+    {
+        let program = self.program(client);
+        match program.job() {
+            Some(job) => put_job(k, writer, program.tick(), job),
+            None => Ok(()),
+        }
+    }
+}
+
+/// Puts the frame that a painted Job shows in a tick, if it is a port's.
+fn put_job<K: Sink>(k: &mut K, writer: &mut Writer, tick: u32, job: &Job) -> Result<(), WriteStop>
+    requires paintable { IsPaintable job.now }
+    requires few { writer.old < 2 ^ 62 }
+    ensures all { OnOk result (Puts K.took k.old k.new (flat_map frame_bytes (shown job.now.kind tick job.now))) }
+    ensures written { OnOk result (writer.new ≡ writer.old + length (flat_map frame_bytes (shown job.now.kind tick job.now))) }
+    ensures most { OnOk result (writer.new ≤ writer.old + 10 + 4 * 1024 * 1024) }
+    ensures part { IfErr result (λ stop. PutsPart K.took k.old k.new writer.old (flat_map frame_bytes (shown job.now.kind tick job.now)) stop.written) }
+    ensures cause { HasCause (K.faults k.old) (K.faults k.new) result }
+{
+    let JobKind::Port { port } = job.kind;
+    writer.frame(k, port as u8, tick, &job.image)
+}
