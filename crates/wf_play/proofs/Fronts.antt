@@ -1,9 +1,13 @@
--- What a cut film says of the bytes that were put.
-use Rattle.std.proofs.Common.{◌≡◌, ℕ, ◌-◌, ◌<◌, ◌≤◌, ◌⊎◌, inl, inr, List, length, take, arith, length-take}
+-- What was put where a sink failed.
+use Rattle.std.proofs.Common.{◌≡◌, ℕ, ◌-◌, inl, inr, List, length, take, Result, Ok, Err, arith, length-take}
+use Rattle.std.specs.Result.{IfErr, OnOk}
+use Rattle.wf_io.specs.declared.writing.WriteStop.{WriteStop}
 use Rattle.wf_io.specs.Bytes.{Puts, PutsPart}
+use Rattle.wf_io.specs.Causes.{HasCause}
 use Rattle.wf_calls.specs.declared.order.Turn.{Turn}
 use Rattle.wf_script.specs.Script.{PlainScript}
 use Rattle.wf_turn.specs.Serial.{IsCutFilm}
+use Rattle.wf_play.specs.Notes.{PutsOrFront}
 
 -- as many bytes were put as are told
 as_many : {S : Type 0} (took : S → List ℕ → Type 0) (a b : S) (bytes : List ℕ) (written : ℕ) → PutsPart took a b 0 bytes written → (front : List ℕ) × (length front ≡ written) × Puts took a b front
@@ -15,3 +19,9 @@ cut_many took a b script order written cut =
       | inl magic ↦ as_many took a b _ written magic.put
       | inr later ↦ elim later [ inl frame ↦ as_many took a b _ written frame.put | inr journal ↦ as_many took a b _ written journal.put ]
     ]
+
+-- a line was put, or a front of it
+pub put_front : {N : Type 0} (took : N → List ℕ → Type 0) (old new : N) (before now : ℕ) (bytes : List ℕ) (r : Result (Unit {0}) WriteStop) → OnOk r (Puts took old new bytes) → IfErr r (λ stop. PutsPart took old new 0 bytes stop.written) → HasCause before now r
+    → PutsOrFront took old new before now bytes
+put_front took old new before now bytes (Ok _) all part cause = inl all
+put_front took old new before now bytes (Err stop) all part cause = inr (cause.failed, (stop.written - 0, (omega (arith, part.short), part.front)))

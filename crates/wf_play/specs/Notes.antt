@@ -1,5 +1,5 @@
 -- The line that goes into the notes.
-use Rattle.std.specs.Prelude.{ℕ, ◌<◌, ◌⊎◌, List, [], ◌∷◌, ◌++◌, length, take, codes, decimal}
+use Rattle.std.specs.Prelude.{ℕ, ◌<◌, ◌⊎◌, List, [], ◌++◌, length, take, codes, decimal}
 use Rattle.wf_io.specs.Bytes.{Puts}
 use Rattle.wf_io.specs.Causes.{Rose}
 use Rattle.wf_play.specs.declared.report.Status.{Status}

@@ -1,8 +1,6 @@
 //! The line that a play puts into the notes.
 
-ghost use Rattle.std.specs.Prelude.{◌≡◌, ◌≤◌, ◌++◌, [], flat_map, codes, decimal, length};
-ghost use Rattle.wf_io.specs.Bytes.{Puts, PutsPart};
-ghost use Rattle.wf_io.specs.Causes.{HasCause};
+ghost use Rattle.std.specs.Prelude.{◌≡◌, ◌+◌, ◌≤◌, ◌++◌, codes, decimal, length};
 ghost use Rattle.wf_play.specs.Notes.{PutsOrFront, note_of};
 
 use crate::report::Status;

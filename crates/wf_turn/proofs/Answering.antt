@@ -1,23 +1,18 @@
 -- The answer of the machine and that of the plain machine come to the same, once the Job is painted.
-use Rattle.std.proofs.Common.{◌≡◌, ◌∙◌, ℕ, ◌+◌, Bool, true, false, cond, List, [], ◌∷◌, ◌++◌, Option, Some, None, refl, sym, ap, subst, arith, IsTrue}
-use Rattle.std.specs.Option.{is_some, option_map, IfSome, IsSome}
+use Rattle.std.proofs.Common.{◌≡◌, ◌∙◌, ℕ, ◌+◌, Bool, true, false, List, Option, Some, None, refl, ap}
 use Rattle.wf_image.specs.declared.canvas.Canvas.{Canvas}
-use Rattle.wf_image.specs.declared.paint.Paint.{Paint}
 use Rattle.wf_image.specs.Bitmap.{Bitmap}
-use Rattle.wf_pixel.specs.declared.Size.{Size}
 use Rattle.wf_pixel.specs.declared.Format.{Format}
 use Rattle.wf_scene.specs.declared.Scene.{Scene}
-use Rattle.wf_calls.specs.declared.code.Code.{Code}
 use Rattle.wf_calls.specs.declared.call.Job.{Job}
 use Rattle.wf_calls.specs.declared.call.JobKind.{JobKind}
 use Rattle.wf_calls.specs.declared.call.JobKind.TheVariants as kind
 use Rattle.wf_calls.specs.declared.call.Payload.{Payload}
 use Rattle.wf_calls.specs.declared.call.Payload.TheVariants as payload
 use Rattle.wf_calls.specs.declared.call.Reply.{Reply}
-use Rattle.wf_calls.specs.declared.order.Turn.{Turn}
-use Rattle.wf_calls.specs.Codes.{entry, is_ok_code}
+use Rattle.wf_calls.specs.Codes.{is_ok_code}
 use Rattle.wf_film.specs.Film.{Frame}
-use Rattle.wf_machine.specs.Object.{IsAnswer, SameImage, SameJob, SamePayload}
+use Rattle.wf_machine.specs.Object.{SameImage, SameJob, SamePayload}
 use Rattle.wf_model.specs.Picture.{Images, picture}
 use Rattle.wf_script.specs.declared.line.Line.{Line}
 use Rattle.wf_script.specs.declared.line.Verb.{Verb}

@@ -1,7 +1,7 @@
 -- A turn and the running frame: a frame that begins is held by the program that began it, to be ended next.
-use Rattle.std.proofs.Common.{◌≡◌, ◌∙◌, ℕ, ◌+◌, Bool, true, false, not, cond, ◌==◌, ◌||◌, ◌&&◌, List, [], ◌∷◌, Option, Some, None, refl, sym, ap, subst, IsTrue}
+use Rattle.std.proofs.Common.{◌≡◌, ◌∙◌, ℕ, ◌+◌, Bool, true, false, not, cond, ◌||◌, [], Option, Some, None, refl, sym, ap, subst}
 use Rattle.std.specs.Prelude.{ℤ, pos, Result, Ok, Err}
-use Rattle.std.specs.Option.{is_some, option_map, IfSome, IsSome}
+use Rattle.std.specs.Option.{is_some, option_map, IfSome}
 use Rattle.wf_words.specs.Whole.{count_of}
 use Rattle.wf_pixel.specs.declared.Format.{Format}
 use Rattle.wf_pixel.specs.declared.Format.TheVariants.{Rgba8Pre}
@@ -15,15 +15,11 @@ use Rattle.wf_calls.specs.declared.call.Call.{Call}
 use Rattle.wf_calls.specs.declared.call.Call.TheVariants as call
 use Rattle.wf_calls.specs.declared.call.Job.{Job}
 use Rattle.wf_calls.specs.declared.call.JobKind.TheVariants as kind
-use Rattle.wf_calls.specs.declared.call.Payload.{Payload}
-use Rattle.wf_calls.specs.declared.call.Payload.TheVariants as payload
 use Rattle.wf_calls.specs.declared.call.Reply.{Reply}
 use Rattle.wf_calls.specs.declared.call.StatWord.{StatWord}
 use Rattle.wf_calls.specs.declared.code.Refusal.{Refusal}
-use Rattle.wf_film.specs.Film.{Frame}
 use Rattle.wf_model.specs.Display.{port_scene}
-use Rattle.wf_model.specs.Frames.{all_begun, begin_next, begin_port, end, is_of_frame, is_running, job_of, running_of}
-use Rattle.wf_model.specs.Outcome.{Outcome}
+use Rattle.wf_model.specs.Frames.{all_begun, begin_next, begin_port, is_running, job_of}
 use Rattle.wf_model.specs.State.{Running, State}
 use Rattle.wf_model.specs.Step.{step}
 use Rattle.wf_model.specs.Streams.{acquirable, acquire_step, canvas_back, is_out_at_client, is_stream, new_buffers, stream_new, stream_step}
@@ -36,7 +32,7 @@ use Rattle.wf_turn.specs.declared.stage.Stage.{Stage}
 use Rattle.wf_turn.specs.declared.stage.Stage.TheVariants as stage
 use Rattle.wf_turn.specs.declared.stage.Wanted.{Wanted}
 use Rattle.wf_turn.specs.Playing.{Ends, EndsAt}
-use Rattle.wf_turn.specs.Program.{Program, asked_for, first_call, first_line, given_canvas, go_on, handle, line_done, next, plain, ticking, took, took_at, took_canvas, took_first, took_frame, took_job, took_leg, waiting, wanted_at, worked}
+use Rattle.wf_turn.specs.Program.{Program, first_call, first_line, given_canvas, go_on, handle, line_done, next, plain, ticking, took, took_at, took_canvas, took_first, took_frame, took_job, waiting, wanted_at, worked}
 use Rattle.wf_turn.specs.Turns.{frames_of}
 use Rattle.wf_turn.proofs.Own.{own_job}
 use Rattle.wf_turn.proofs.Painting.{done_painted, on_painted}

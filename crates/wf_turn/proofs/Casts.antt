@@ -1,12 +1,11 @@
 -- The eight programs of a show: one of them changed, and names handed on.
-use Rattle.std.proofs.Common.{◌≡◌, ◌∙◌, ℕ, zero, suc, ◌+◌, ◌-◌, ◌<◌, ◌≤◌, Bool, true, false, not, cond, ◌&&◌, List, [], ◌∷◌, map, length, Option, Some, None, refl, sym, ap, subst, arith, set, get_or}
+use Rattle.std.proofs.Common.{◌≡◌, ◌∙◌, ℕ, zero, suc, ◌+◌, ◌-◌, ◌<◌, Bool, true, false, not, cond, ◌&&◌, List, [], ◌∷◌, map, length, Option, Some, None, refl, sym, ap, subst, arith, set, get_or}
 use Rattle.std.specs.Prelude.{slice_get, sum_by}
-use Rattle.std.specs.Option.{IfSome, is_some}
+use Rattle.std.specs.Option.{IfSome}
 use Rattle.std.proofs.lemmas.List.Sums.{sum_by-cons}
 use Rattle.wf_script.specs.Script.{PlainScript}
-use Rattle.wf_film.specs.Film.{Frame}
 use Rattle.wf_turn.specs.Playing.{frames_if, shown_by}
-use Rattle.wf_turn.specs.Program.{Program, in_setup, place_of, taught}
+use Rattle.wf_turn.specs.Program.{Program, in_setup, taught}
 use Rattle.wf_turn.specs.Quota.{all_left, left}
 use Rattle.wf_turn.specs.Ready.{AreOf, IsFit}
 use Rattle.wf_turn.specs.Turns.{all_taught, handed_on, is_setting_up}

@@ -1,8 +1,8 @@
 -- The client of the first line that is not through.
-use Rattle.std.proofs.Common.{◌≡◌, ◌∙◌, ℕ, zero, suc, ◌+◌, ◌<◌, ◌≤◌, ◌==◌, Bool, true, false, not, cond, ◌&&◌, ◌⊎◌, inl, inr, List, [], ◌∷◌, map, length, take, get_or, Option, Some, None, refl, sym, ap, subst, arith, add-one, IsTrue}
+use Rattle.std.proofs.Common.{◌≡◌, ◌∙◌, ℕ, zero, suc, ◌+◌, ◌<◌, ◌≤◌, ◌==◌, Bool, true, false, not, cond, ◌&&◌, ◌⊎◌, inl, inr, List, [], ◌∷◌, map, length, take, get_or, Option, Some, None, refl, sym, ap, subst, arith, add-one}
 use Rattle.std.specs.Prelude.{slice_get, nat_lt, fold}
 use Rattle.std.specs.List.{enumerate_from, list_all}
-use Rattle.std.specs.Option.{IfSome, IsSome, IsSomeAnd, is_none}
+use Rattle.std.specs.Option.{IfSome, IsSomeAnd, is_none}
 use Rattle.std.proofs.lemmas.Bool.{ltb-true}
 use Rattle.std.proofs.lemmas.List.{length-map}
 use Rattle.std.proofs.lemmas.Option.{slice_get_within}
@@ -11,8 +11,8 @@ use Rattle.wf_script.specs.declared.line.Line.{Line}
 use Rattle.wf_turn.specs.Play.{earlier, first_client}
 use Rattle.wf_script.specs.Script.{PlainScript}
 use Rattle.wf_turn.specs.Playing.{IsCast, StandsOwn, may_turn}
-use Rattle.wf_turn.specs.Program.{Program, in_setup, place_of, setup_lines}
-use Rattle.wf_turn.specs.Turns.{Show, is_setting_up}
+use Rattle.wf_turn.specs.Program.{Program, place_of, setup_lines}
+use Rattle.wf_turn.specs.Turns.{Show}
 use Rattle.wf_turn.proofs.Casts.{at_client, get_within}
 
 abbrev Best : Type 0

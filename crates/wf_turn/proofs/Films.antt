@@ -1,9 +1,8 @@
 -- The film that serial play puts, whole or cut.
-use Rattle.std.proofs.Common.{◌≡◌, ◌∙◌, ℕ, zero, suc, ◌+◌, ◌*◌, ◌<◌, ◌≤◌, ◌==◌, Bool, true, false, cond, List, [], ◌∷◌, ◌++◌, map, length, take, Option, Some, None, Ok, Err, inl, inr, refl, sym, ap, subst, arith, append_assoc, append-nil}
+use Rattle.std.proofs.Common.{◌≡◌, ◌∙◌, ℕ, ◌+◌, ◌*◌, ◌≤◌, ◌==◌, Bool, true, false, cond, List, [], ◌∷◌, ◌++◌, map, length, None, Ok, Err, inl, inr, refl, sym, ap, subst, arith, append_assoc, append-nil}
 use Rattle.std.specs.Prelude.{flat_map, filter, sum_by}
 use Rattle.std.specs.List.{enumerate_from, range_with_len}
 use Rattle.std.proofs.lemmas.List.{length-append}
-use Rattle.std.proofs.lemmas.Grind.{flat_map-append}
 use Rattle.std.proofs.lemmas.List.Sums.{sum_by-cons}
 use Rattle.wf_calls.specs.declared.order.Turn.{Turn}
 use Rattle.wf_film.specs.Film.{Frame, frame_bytes, head_bytes, magic, tail_bytes}
@@ -14,11 +13,11 @@ use Rattle.wf_script.specs.Script.{PlainScript}
 use Rattle.wf_turn.specs.declared.player.PlayStop.{PlayStop}
 use Rattle.wf_turn.specs.declared.player.PlayStop.TheVariants as stop
 use Rattle.wf_turn.specs.declared.stage.Stage.TheVariants as stage
-use Rattle.wf_turn.specs.Play.{first_client, film, frames_after, head, replay}
+use Rattle.wf_turn.specs.Play.{first_client, frames_after, replay}
 use Rattle.wf_turn.specs.Playing.{PlaysTurns, StopsTurns, with_frames}
 use Rattle.wf_turn.specs.Program.{Program, lines_from, place_of, program}
 use Rattle.wf_turn.specs.Quota.{all_left, left, line_quota, lines_left, most_turns, quota, quota_of}
-use Rattle.wf_turn.specs.Serial.{CutsFrame, IsCutFilm, IsRun, PlaysFilm}
+use Rattle.wf_turn.specs.Serial.{IsRun, PlaysFilm}
 use Rattle.wf_turn.specs.Turns.{Show, opening_show}
 use Rattle.wf_turn.proofs.Framing.{next_behind}
 use Rattle.wf_turn.proofs.Lefts.{left_before}
@@ -33,11 +32,11 @@ quota_from client at (l ∷ lines) =
     let rest = quota_from client (at + 1) lines in
     elim (l.client == client) as (λ b. (l.client == client) ≡ b → lines_left (cond b ((at, l) ∷ filter (λ (m : ℕ × Line). m.1.client == client) (enumerate_from (at + 1) lines)) (filter (λ (m : ℕ × Line). m.1.client == client) (enumerate_from (at + 1) lines))) ≡ quota (l ∷ lines) client) [
       | true ↦ λ here. (
-        let this : quota_of client l ≡ line_quota l.verb = ap (λ (b : Bool). cond b (line_quota l.verb) 0) here in
-        omega (arith, rest, this, sum_by-cons (quota_of client) l lines, sum_by-cons (λ (m : ℕ × Line). line_quota m.1.verb) (at, l) (filter (λ (m : ℕ × Line). m.1.client == client) (enumerate_from (at + 1) lines))))
+          let this : quota_of client l ≡ line_quota l.verb = ap (λ (b : Bool). cond b (line_quota l.verb) 0) here in
+          omega (arith, rest, this, sum_by-cons (quota_of client) l lines, sum_by-cons (λ (m : ℕ × Line). line_quota m.1.verb) (at, l) (filter (λ (m : ℕ × Line). m.1.client == client) (enumerate_from (at + 1) lines))))
       | false ↦ λ other. (
-        let this : quota_of client l ≡ 0 = ap (λ (b : Bool). cond b (line_quota l.verb) 0) other in
-        omega (arith, rest, this, sum_by-cons (quota_of client) l lines))
+          let this : quota_of client l ≡ 0 = ap (λ (b : Bool). cond b (line_quota l.verb) 0) other in
+          omega (arith, rest, this, sum_by-cons (quota_of client) l lines))
     ] refl
 
 left_opening : (script : PlainScript) (client : ℕ) → left (program script client) ≤ quota script.lines client
@@ -70,8 +69,7 @@ module _ {K : Type 0} (took : K → List ℕ → Type 0) (script : PlainScript) 
       → Puts took b c (tail_bytes order) → PlaysFilm took k c script (Ok order)
   whole k a b c written now order first plays over many tail =
       let few : length order ≤ 40 * length script.lines = omega (arith, many, left_few script) in
-      let frames = head_is now order plays.frames plays.run few in
-      (
+      let frames = head_is now order plays.frames plays.run few in (
         subst (λ (fs : List Frame). Puts took k c (head_bytes fs ++ tail_bytes order)) (sym frames) (puts_both took k b c (head_bytes plays.frames) (tail_bytes order) (head_put k a b written now order first plays) tail),
         is_serial script (with_frames plays.frames now) order plays.run few over,
       )
@@ -100,12 +98,12 @@ module _ {K : Type 0} (took : K → List ℕ → Type 0) (script : PlainScript) 
       let few : length order ≤ 40 * length script.lines = omega (arith, many, left_few script) in
       let fs = stops.frames ++ stops.frame ∷ [] in
       let begun : IsRun start (stops.before ++ stops.begins ∷ []) (with_frames fs stops.middle) =
-          run_more start (with_frames stops.frames stops.last) (with_frames fs stops.middle) stops.before stops.begins stops.run (next_behind stops.frames (stops.frame ∷ []) stops.last stops.middle stops.begins stops.begun) in
+      run_more start (with_frames stops.frames stops.last) (with_frames fs stops.middle) stops.before stops.begins stops.run (next_behind stops.frames (stops.frame ∷ []) stops.last stops.middle stops.begins stops.begun) in
       let ended : IsRun start ((stops.before ++ stops.begins ∷ []) ++ stops.ends ∷ []) (with_frames (fs ++ []) now) =
-          run_more start (with_frames fs stops.middle) (with_frames (fs ++ []) now) (stops.before ++ stops.begins ∷ []) stops.ends begun (next_behind fs [] stops.middle now stops.ends stops.ended) in
+      run_more start (with_frames fs stops.middle) (with_frames (fs ++ []) now) (stops.before ++ stops.begins ∷ []) stops.ends begun (next_behind fs [] stops.middle now stops.ends stops.ended) in
       let order_is : (stops.before ++ stops.begins ∷ []) ++ stops.ends ∷ [] ≡ order = append_assoc stops.before (stops.begins ∷ []) (stops.ends ∷ []) ∙ sym stops.played_is in
       let run : IsRun start order (with_frames fs now) =
-          subst (λ (gs : List Frame). IsRun start order (with_frames gs now)) (append-nil fs) (subst (λ (ts : List Turn). IsRun start ts (with_frames (fs ++ []) now)) order_is ended) in
+      subst (λ (gs : List Frame). IsRun start order (with_frames gs now)) (append-nil fs) (subst (λ (ts : List Turn). IsRun start ts (with_frames (fs ++ []) now)) order_is ended) in
       let longer : length order ≡ length stops.before + 2 = ap length stops.played_is ∙ length-append stops.before (stops.begins ∷ stops.ends ∷ []) in
       let before_frames = head_is stops.last stops.before stops.frames stops.run (omega (arith, few, longer)) in
       let begun_frames = head_is stops.middle (stops.before ++ stops.begins ∷ []) fs begun (omega (arith, few, longer, length-append stops.before (stops.begins ∷ []))) in

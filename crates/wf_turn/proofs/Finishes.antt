@@ -1,21 +1,20 @@
 -- A program whose first line is through.
-use Rattle.std.proofs.Common.{◌≡◌, ◌∙◌, ℕ, zero, suc, ◌+◌, ◌<◌, ◌≤◌, ◌==◌, Bool, true, false, cond, List, [], ◌∷◌, ◌++◌, length, take, drop, get_or, Option, Some, None, refl, sym, ap, subst, arith, append_assoc, append-nil, IsTrue}
+use Rattle.std.proofs.Common.{◌≡◌, ◌∙◌, ℕ, ◌+◌, ◌<◌, ◌≤◌, ◌==◌, Bool, true, cond, List, [], ◌∷◌, ◌++◌, length, take, drop, get_or, Option, Some, None, refl, sym, ap, subst, arith, append-nil, IsTrue}
 use Rattle.std.proofs.lemmas.Bool.{eq-eqb}
 use Rattle.std.proofs.lemmas.List.{drop_more, length-append, take-append-drop}
 use Rattle.std.proofs.lemmas.List.Elements.{filter_map-append}
-use Rattle.std.specs.Prelude.{slice_get, zip, option_to_list}
-use Rattle.std.specs.Option.{is_some, IfSome}
+use Rattle.std.specs.Prelude.{zip, option_to_list}
+use Rattle.std.specs.Option.{is_some}
 use Rattle.wf_image.specs.declared.canvas.Canvas.{Canvas}
 use Rattle.wf_script.specs.declared.line.Line.{Line}
 use Rattle.wf_script.specs.declared.name.Name.{Name}
 use Rattle.wf_turn.specs.declared.program.Program.TheInside.{Inside}
-use Rattle.wf_turn.specs.declared.stage.Leg.TheVariants as leg
 use Rattle.wf_turn.specs.declared.stage.Stage.{Stage}
 use Rattle.wf_turn.specs.declared.stage.Stage.TheVariants as stage
 use Rattle.wf_turn.specs.Inside.{IsProgram, IsStage, program_of}
 use Rattle.wf_turn.specs.Names.{Table, bound_by, bound_name, bound_names, bound_value, known}
 use Rattle.wf_turn.specs.Passing.{IsPlace}
-use Rattle.wf_turn.specs.Program.{Program, before, bound, line_done, lines_from, skipped}
+use Rattle.wf_turn.specs.Program.{Program, bound, line_done, lines_from, skipped}
 use Rattle.wf_turn.proofs.Handles.{known_none}
 use Rattle.wf_turn.proofs.Skips.{get_within, lines_at}
 use Rattle.wf_turn.proofs.Values.{names_more}

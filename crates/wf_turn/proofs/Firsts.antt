@@ -1,9 +1,9 @@
 -- The first line of a program, and what the setup hands on.
-use Rattle.std.proofs.Common.{◌≡◌, ◌∙◌, ℕ, zero, suc, ◌+◌, ◌<◌, ◌≤◌, ◌==◌, Bool, true, false, cond, List, [], ◌∷◌, ◌++◌, length, take, drop, get_or, Option, Some, None, refl, sym, ap, subst, arith}
-use Rattle.std.proofs.lemmas.Bool.{eq-eqb, lt-ltb, leb-true}
+use Rattle.std.proofs.Common.{◌≡◌, ◌∙◌, ℕ, zero, suc, ◌+◌, ◌<◌, ◌≤◌, Bool, cond, List, [], ◌∷◌, ◌++◌, length, take, drop, get_or, Option, Some, None, refl, sym, ap, subst, arith}
+use Rattle.std.proofs.lemmas.Bool.{eq-eqb}
 use Rattle.std.proofs.lemmas.List.Elements.{filter_map-append}
 use Rattle.std.proofs.lemmas.List.{take-append-drop}
-use Rattle.std.specs.Prelude.{slice_get, zip, nat_le, nat_lt}
+use Rattle.std.specs.Prelude.{slice_get, zip}
 use Rattle.std.specs.Option.{IfSome, IsSomeAnd}
 use Rattle.wf_script.specs.declared.line.Line.{Line}
 use Rattle.wf_script.specs.declared.name.Name.{Name}
@@ -12,7 +12,7 @@ use Rattle.wf_turn.specs.declared.program.Program.TheInside.{Inside}
 use Rattle.wf_turn.specs.Inside.{IsProgram, program_of}
 use Rattle.wf_turn.specs.Names.{bound_by, bound_names}
 use Rattle.wf_turn.specs.Passing.{IsPlace}
-use Rattle.wf_turn.specs.Program.{Program, first_line, first_of, in_setup, lines_from, place_of, setup_lines, setup_names, taught}
+use Rattle.wf_turn.specs.Program.{Program, first_line, first_of, lines_from, place_of, setup_lines, setup_names, taught}
 use Rattle.wf_turn.proofs.Skips.{get_within, lines_at, lines_end}
 
 abbrev pub from_line : ℕ → ℕ → List Line → Option Line → List (ℕ × Line)

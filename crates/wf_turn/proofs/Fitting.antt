@@ -1,5 +1,5 @@
 -- A program that took an answer can make its next call.
-use Rattle.std.proofs.Common.{◌≡◌, ◌∙◌, ℕ, zero, suc, ◌+◌, ◌*◌, ◌-◌, ◌<◌, ◌≤◌, ◌==◌, Bool, true, false, not, cond, ◌||◌, List, [], ◌∷◌, length, Option, Some, None, refl, sym, ap, subst, arith, IsTrue}
+use Rattle.std.proofs.Common.{◌≡◌, ℕ, ◌+◌, ◌≤◌, ◌==◌, Bool, true, false, not, cond, ◌||◌, List, [], ◌∷◌, Option, Some, None, refl, sym, ap, subst, arith, IsTrue}
 use Rattle.std.specs.Prelude.{nat_lt}
 use Rattle.std.specs.Option.{is_some, option_map, IfSome, IsSome}
 use Rattle.std.proofs.lemmas.Bool.{ltb-false, ltb-true, or_parts}
@@ -18,7 +18,7 @@ use Rattle.wf_turn.specs.declared.stage.Stage.{Stage}
 use Rattle.wf_turn.specs.declared.stage.Stage.TheVariants as stage
 use Rattle.wf_turn.specs.declared.stage.Wanted.{Wanted}
 use Rattle.wf_turn.specs.Names.{bound_name}
-use Rattle.wf_turn.specs.Program.{Program, asked_next, at_port, before, bound, first_call, first_line, first_of, given_canvas, go_on, is_event, line_done, next, painted_canvas, painted_job, port_count, silent, skipped, taught, ticking, took, took_at, took_canvas, took_first, took_frame, took_job, took_leg, wanted_at, worked}
+use Rattle.wf_turn.specs.Program.{Program, asked_next, at_port, before, bound, first_call, first_line, first_of, given_canvas, go_on, is_event, line_done, next, painted_job, port_count, silent, skipped, taught, ticking, took, took_at, took_first, took_frame, took_job, took_leg, wanted_at, worked}
 use Rattle.wf_turn.specs.Ready.{IsAnswered, IsAsking, IsAt, IsFit}
 
 -- where lines are skipped, an event stands first

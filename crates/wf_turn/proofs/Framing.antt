@@ -1,16 +1,14 @@
 -- A turn with frames behind those that are there already.
-use Rattle.std.proofs.Common.{◌≡◌, ◌∙◌, ℕ, Bool, true, false, not, cond, ◌==◌, ◌&&◌, List, [], ◌∷◌, ◌++◌, Option, Some, None, refl, sym, ap, subst, append_assoc}
-use Rattle.std.specs.Prelude.{slice_get}
+use Rattle.std.proofs.Common.{◌≡◌, ◌∙◌, ℕ, Bool, true, false, ◌&&◌, List, [], ◌++◌, Option, Some, None, refl, ap}
 use Rattle.wf_calls.specs.declared.order.Turn.{Turn}
 use Rattle.wf_film.specs.Film.{Frame}
 use Rattle.wf_model.specs.Frames.{is_running}
-use Rattle.wf_model.specs.Step.{step}
 use Rattle.wf_turn.specs.declared.stage.Wanted.{Wanted}
 use Rattle.wf_turn.specs.Play.{is_marked}
 use Rattle.wf_turn.specs.Playing.{TurnsTo, with_frames}
 use Rattle.wf_turn.specs.Program.{Program, next}
 use Rattle.wf_turn.specs.Serial.{IsNextTurn}
-use Rattle.wf_turn.specs.Turns.{Show, answered, is_setting_up, program_at, turn}
+use Rattle.wf_turn.specs.Turns.{Show, program_at, turn}
 
 -- frames before all those of a show
 abbrev behind : List Frame → Option (Show × Turn) → Option (Show × Turn)

@@ -1,7 +1,7 @@
 -- What an answer leaves of a program: all but its lines, its names, what it holds, its stage and its tick.
 use Rattle.std.proofs.Common.{◌≡◌, ℕ, ◌+◌, Bool, true, false, not, cond, ◌==◌, ◌||◌, List, [], ◌∷◌, Option, Some, None, refl, sym, ap, subst}
 use Rattle.std.specs.Prelude.{nat_lt}
-use Rattle.std.specs.Option.{is_some, option_map}
+use Rattle.std.specs.Option.{option_map}
 use Rattle.wf_image.specs.declared.canvas.Canvas.{Canvas}
 use Rattle.wf_image.specs.declared.paint.Paint.{Paint}
 use Rattle.wf_calls.specs.declared.call.Job.{Job}
@@ -17,7 +17,7 @@ use Rattle.wf_turn.specs.declared.stage.Leg.TheVariants as leg
 use Rattle.wf_turn.specs.declared.stage.Stage.{Stage}
 use Rattle.wf_turn.specs.declared.stage.Stage.TheVariants as stage
 use Rattle.wf_turn.specs.Names.{bound_name}
-use Rattle.wf_turn.specs.Program.{Program, asked_next, at_port, before, bound, first_line, given_canvas, go_on, line_done, painted_canvas, painted_job, port_count, skipped, ticking, took, took_at, took_first, took_frame, took_job, took_leg, worked}
+use Rattle.wf_turn.specs.Program.{Program, at_port, before, bound, first_line, given_canvas, go_on, line_done, painted_canvas, painted_job, port_count, skipped, ticking, took, took_at, took_first, took_frame, took_job, took_leg, worked}
 
 -- a program whose changing parts are these
 abbrev pub changed : Program → List (ℕ × Line) → List (Name × ℕ) → Option Canvas → Option Job → Bool → Stage → ℕ → Program

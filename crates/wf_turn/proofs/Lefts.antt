@@ -1,12 +1,10 @@
 -- Each answer leaves a program with fewer events to make.
-use Rattle.std.proofs.Common.{◌≡◌, ◌∙◌, ℕ, zero, suc, ◌+◌, ◌*◌, ◌-◌, ◌<◌, ◌≤◌, ◌==◌, Bool, true, false, not, cond, ◌||◌, List, [], ◌∷◌, length, Option, Some, None, refl, sym, ap, subst, arith, IsTrue}
-use Rattle.std.specs.Prelude.{nat_lt, sum_by}
-use Rattle.std.specs.Option.{is_some, option_map, IfSome, IsSome}
-use Rattle.std.proofs.lemmas.Bool.{ltb-false, ltb-true, or_parts}
+use Rattle.std.proofs.Common.{◌≡◌, ◌∙◌, ℕ, ◌+◌, ◌*◌, ◌-◌, ◌≤◌, ◌==◌, true, false, not, cond, ◌||◌, List, [], ◌∷◌, Option, Some, None, refl, sym, ap, subst, arith, IsTrue}
+use Rattle.std.specs.Prelude.{nat_lt}
+use Rattle.std.specs.Option.{is_some, option_map, IfSome}
 use Rattle.std.proofs.lemmas.List.Sums.{sum_by-cons}
 use Rattle.wf_image.specs.declared.canvas.Canvas.{Canvas}
 use Rattle.wf_image.specs.declared.paint.Paint.{Paint}
-use Rattle.wf_calls.specs.declared.call.Job.{Job}
 use Rattle.wf_calls.specs.declared.call.Payload.{Payload}
 use Rattle.wf_calls.specs.declared.call.Payload.TheVariants as payload
 use Rattle.wf_calls.specs.declared.call.Reply.{Reply}
@@ -18,7 +16,7 @@ use Rattle.wf_turn.specs.declared.stage.Leg.TheVariants as leg
 use Rattle.wf_turn.specs.declared.stage.Stage.{Stage}
 use Rattle.wf_turn.specs.declared.stage.Stage.TheVariants as stage
 use Rattle.wf_turn.specs.Names.{bound_name}
-use Rattle.wf_turn.specs.Program.{Program, asked_next, at_port, before, bound, first_line, first_of, given_canvas, go_on, is_event, line_done, painted_job, port_count, silent, skipped, taught, ticking, took, took_at, took_canvas, took_first, took_frame, took_job, took_leg, worked}
+use Rattle.wf_turn.specs.Program.{Program, asked_next, at_port, before, bound, first_line, first_of, given_canvas, go_on, is_event, line_done, painted_job, port_count, silent, skipped, ticking, took, took_at, took_first, took_frame, took_job, took_leg, worked}
 use Rattle.wf_turn.specs.Quota.{left, leg_left, line_quota, lines_left, stage_left}
 use Rattle.wf_turn.specs.Ready.{IsAsking, IsAt, IsFit}
 

@@ -1,8 +1,7 @@
 -- The Job of a frame that begins is that frame's, painted or not.
-use Rattle.std.proofs.Common.{◌≡◌, ◌∙◌, ℕ, ◌+◌, Bool, true, false, not, cond, ◌==◌, ◌&&◌, List, [], ◌∷◌, map, length, Option, Some, None, refl, sym, ap, subst, arith}
-use Rattle.std.specs.Prelude.{filter, find}
+use Rattle.std.proofs.Common.{◌≡◌, ℕ, ◌+◌, true, false, not, cond, ◌==◌, List, [], ◌∷◌, map, length, Option, Some, None, refl, subst, arith}
+use Rattle.std.specs.Prelude.{filter}
 use Rattle.std.specs.List.{list_all}
-use Rattle.std.specs.Option.{option_map}
 use Rattle.std.proofs.lemmas.Bool.{eq-eqb}
 use Rattle.std.proofs.lemmas.Bool.Decides.{nat_tests}
 use Rattle.std.proofs.lemmas.List.{length-map}
@@ -15,12 +14,9 @@ use Rattle.wf_image.specs.Bitmap.{Bitmap, drawn}
 use Rattle.wf_image.specs.Contents.{image_of}
 use Rattle.wf_scene.specs.declared.Scene.{Scene}
 use Rattle.wf_stream.specs.Streams.{KeptStream, stream_at}
-use Rattle.wf_calls.specs.declared.call.Job.{Job}
 use Rattle.wf_calls.specs.declared.call.JobKind.{JobKind}
 use Rattle.wf_calls.specs.declared.call.JobKind.TheVariants as kind
-use Rattle.wf_model.specs.declared.Content.{Content}
 use Rattle.wf_model.specs.Frames.{content_shape, has_shape, is_of_frame, job_of, newest_images, newest_of, running_of, same_kind, scene_streams}
-use Rattle.wf_model.specs.Names.{layer_names}
 use Rattle.wf_model.specs.Picture.{Images}
 use Rattle.wf_model.specs.State.{State}
 use Rattle.wf_turn.specs.Program.{painted_job}

@@ -1,10 +1,8 @@
 -- The Job that a program takes can be painted.
-use Rattle.std.proofs.Common.{◌≡◌, ◌∙◌, ℕ, ◌+◌, Bool, true, false, not, cond, ◌==◌, ◌||◌, List, [], ◌∷◌, Option, Some, None, refl, sym, ap, subst, arith, IsTrue}
-use Rattle.std.specs.Prelude.{nat_lt, ℤ, pos}
-use Rattle.std.specs.Option.{is_some, option_map, IfSome}
+use Rattle.std.proofs.Common.{◌≡◌, ◌∙◌, ℕ, ◌+◌, Bool, true, false, not, cond, ◌==◌, ◌||◌, List, [], ◌∷◌, Option, Some, None, refl, sym, ap, subst}
+use Rattle.std.specs.Prelude.{nat_lt, ℤ}
 use Rattle.wf_words.specs.Whole.{count_of}
 use Rattle.wf_image.specs.declared.canvas.Canvas.{Canvas}
-use Rattle.wf_image.specs.declared.paint.Paint.{Paint}
 use Rattle.wf_scene.specs.declared.Scene.{Scene}
 use Rattle.wf_calls.specs.declared.call.Call.{Call}
 use Rattle.wf_calls.specs.declared.call.Call.TheVariants as call
@@ -12,9 +10,8 @@ use Rattle.wf_calls.specs.declared.call.Job.{Job}
 use Rattle.wf_calls.specs.declared.call.Payload.{Payload}
 use Rattle.wf_calls.specs.declared.call.Payload.TheVariants as payload
 use Rattle.wf_calls.specs.declared.call.Reply.{Reply}
-use Rattle.wf_calls.specs.declared.code.Code.{Code}
 use Rattle.wf_calls.specs.declared.code.Code.TheVariants as code
-use Rattle.wf_calls.specs.Codes.{is_ok_code, is_out_of_memory}
+use Rattle.wf_calls.specs.Codes.{is_ok_code}
 use Rattle.wf_machine.specs.Object.{CarriesPaintable, IsAnswer, IsPaintable, MayAnswer, SamePayload, is_begin}
 use Rattle.wf_model.specs.Display.{port_scene}
 use Rattle.wf_model.specs.Frames.{all_begun, begin_next, begin_port, is_running}
@@ -28,9 +25,8 @@ use Rattle.wf_turn.specs.declared.stage.Leg.TheVariants as leg
 use Rattle.wf_turn.specs.declared.stage.Stage.{Stage}
 use Rattle.wf_turn.specs.declared.stage.Stage.TheVariants as stage
 use Rattle.wf_turn.specs.declared.stage.Wanted.{Wanted}
-use Rattle.wf_turn.specs.Names.{bound_name}
-use Rattle.wf_turn.specs.Program.{Program, asked_for, asked_next, at_port, before, bound, first_call, first_line, given_canvas, go_on, line_done, next, port_count, ticking, took, took_at, took_first, took_frame, took_job, took_leg, wanted_at, waiting}
-use Rattle.wf_turn.specs.Ready.{IsFit, IsWork}
+use Rattle.wf_turn.specs.Program.{Program, asked_for, at_port, first_call, first_line, given_canvas, go_on, line_done, next, port_count, ticking, took, took_at, took_first, took_frame, took_job, took_leg, wanted_at, waiting}
+use Rattle.wf_turn.specs.Ready.{IsWork}
 
 -- an answer that may carry a Job carries one only with Ok
 abbrev JobIsOk : Reply → Type 0

@@ -1,5 +1,5 @@
 -- Turns that are played one after another, and their frames.
-use Rattle.std.proofs.Common.{◌≡◌, ◌∙◌, ℕ, zero, suc, ◌+◌, ◌-◌, ◌*◌, ◌<◌, ◌≤◌, ◌^◌, Bool, true, false, ◌⊎◌, inl, inr, List, [], ◌∷◌, ◌++◌, map, length, take, Option, Some, None, refl, sym, ap, subst, arith, append_assoc, append-nil}
+use Rattle.std.proofs.Common.{◌≡◌, ◌∙◌, ℕ, ◌+◌, ◌*◌, ◌<◌, ◌≤◌, ◌^◌, Bool, true, false, ◌⊎◌, inl, inr, List, [], ◌∷◌, ◌++◌, length, Option, Some, None, refl, sym, ap, subst, arith, append_assoc, append-nil}
 use Rattle.std.specs.Prelude.{flat_map, slice_get}
 use Rattle.std.specs.Option.{IsSome}
 use Rattle.std.proofs.lemmas.List.{length-append}
@@ -11,13 +11,12 @@ use Rattle.wf_calls.specs.declared.call.JobKind.TheVariants as kind
 use Rattle.wf_film.specs.Film.{Frame, frame_bytes, frame_of}
 use Rattle.wf_io.specs.Bytes.{Puts, PutsPart}
 use Rattle.wf_io.specs.Parts.{puts_both, stops_late}
-use Rattle.wf_model.specs.State.{Running, State}
-use Rattle.wf_turn.specs.Play.{is_marked}
+use Rattle.wf_model.specs.State.{Running}
 use Rattle.wf_turn.specs.Playing.{PlaysTurn, PlaysTurns, StopsTurn, StopsTurns, Turned, TurnsTo, frames_if, job_frames, shown_by, with_frames}
 use Rattle.wf_turn.specs.Program.{Program}
 use Rattle.wf_turn.specs.Quota.{all_left}
-use Rattle.wf_turn.specs.Serial.{IsNextTurn, IsRun}
-use Rattle.wf_turn.specs.Turns.{Show, shown, turn}
+use Rattle.wf_turn.specs.Serial.{IsRun}
+use Rattle.wf_turn.specs.Turns.{Show, shown}
 use Rattle.wf_turn.proofs.Serials.{run_more}
 use Rattle.wf_turn.proofs.Framing.{next_behind}
 

@@ -1,20 +1,17 @@
 -- Serial play: a run of turns is a replay, and the beginning of the serial order.
-use Rattle.std.proofs.Common.{◌≡◌, ◌∙◌, ℕ, zero, suc, ◌+◌, ◌*◌, ◌-◌, ◌<◌, ◌≤◌, ◌==◌, Bool, true, false, cond, ◌&&◌, List, [], ◌∷◌, ◌++◌, map, length, Option, Some, None, refl, sym, ap, subst, arith, append_assoc, append-nil, IsTrue}
-use Rattle.std.specs.Prelude.{filter, flat_map}
+use Rattle.std.proofs.Common.{◌≡◌, ◌∙◌, ℕ, zero, suc, ◌+◌, ◌*◌, ◌-◌, ◌<◌, ◌≤◌, ◌==◌, true, false, cond, List, [], ◌∷◌, ◌++◌, map, length, Option, Some, None, refl, sym, ap, subst, arith, append-nil}
+use Rattle.std.specs.Prelude.{filter}
 use Rattle.std.specs.List.{enumerate_from}
-use Rattle.std.specs.Option.{IsSomeAnd, IsSome}
+use Rattle.std.specs.Option.{IsSomeAnd}
 use Rattle.std.proofs.lemmas.Bool.{eq-eqb}
 use Rattle.std.proofs.lemmas.Bool.Decides.{nat_tests}
 use Rattle.wf_words.specs.Keyed.{is_in}
 use Rattle.wf_calls.specs.declared.order.Turn.{Turn}
-use Rattle.wf_film.specs.Film.{Frame}
 use Rattle.wf_script.specs.Script.{PlainScript}
-use Rattle.wf_turn.specs.Play.{IsComplete, IsLegal, first_client, frames_after, is_marked, marks, over_after, replay, replay_from, replay_turn, same_turn, serial_from, serial_order}
-use Rattle.wf_turn.specs.Playing.{TurnsTo, with_frames}
+use Rattle.wf_turn.specs.Play.{IsComplete, first_client, is_marked, marks, replay, replay_from, replay_turn, same_turn, serial_from, serial_order}
 use Rattle.wf_turn.specs.Program.{place_of}
-use Rattle.wf_turn.specs.Quota.{all_left, most_turns}
 use Rattle.wf_turn.specs.Serial.{BeginsSerial, IsNextTurn, IsRun, IsSerial}
-use Rattle.wf_turn.specs.Turns.{Show, answered, opening_show, turn}
+use Rattle.wf_turn.specs.Turns.{Show, opening_show, turn}
 use Rattle.wf_turn.proofs.Clients.{all_through}
 
 same_self : (t : Turn) → same_turn t t ≡ true

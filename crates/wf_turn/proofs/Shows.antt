@@ -1,7 +1,7 @@
 -- One turn of a show that is played serially.
-use Rattle.std.proofs.Common.{◌≡◌, ◌∙◌, ℕ, zero, suc, ◌+◌, ◌-◌, ◌<◌, ◌≤◌, ◌==◌, Bool, true, false, not, cond, ◌&&◌, List, [], ◌∷◌, ◌++◌, map, length, Option, Some, None, refl, sym, ap, subst, arith, set, get_or, IsTrue}
+use Rattle.std.proofs.Common.{◌≡◌, ◌∙◌, ℕ, zero, suc, ◌+◌, ◌-◌, ◌<◌, ◌≤◌, ◌==◌, Bool, true, false, not, cond, ◌&&◌, List, [], ◌∷◌, map, length, Option, Some, None, refl, sym, ap, subst, arith, set, get_or, IsTrue}
 use Rattle.std.specs.Prelude.{slice_get}
-use Rattle.std.specs.Option.{is_some, IfSome, IsSome, IsSomeAnd}
+use Rattle.std.specs.Option.{IfSome, IsSome, IsSomeAnd}
 use Rattle.wf_calls.specs.declared.order.Turn.{Turn}
 use Rattle.wf_calls.specs.declared.call.Reply.{Reply}
 use Rattle.wf_calls.specs.Codes.{entry}
@@ -12,8 +12,8 @@ use Rattle.wf_model.specs.Step.{step}
 use Rattle.wf_script.specs.declared.line.Line.{Line}
 use Rattle.wf_script.specs.Script.{PlainScript}
 use Rattle.wf_turn.specs.Play.{first_client, is_marked}
-use Rattle.wf_turn.specs.Playing.{Ends, FirstEnds, HoldsPaintable, IsCast, IsReady, TakesTurn, TakesTurnAt, Turned, TurnsTo, frames_if, may_turn, shown_by, with_frames}
-use Rattle.wf_turn.specs.Program.{Program, first_line, first_of, in_setup, place_of, taught, took, worked}
+use Rattle.wf_turn.specs.Playing.{Ends, FirstEnds, HoldsPaintable, IsCast, IsReady, TakesTurn, TakesTurnAt, Turned, TurnsTo, may_turn, shown_by, with_frames}
+use Rattle.wf_turn.specs.Program.{Program, in_setup, place_of, taught, took, worked}
 use Rattle.wf_turn.specs.Quota.{all_left, left}
 use Rattle.wf_turn.specs.Ready.{AreOf, IsFit}
 use Rattle.wf_turn.specs.Serial.{IsFirst}
@@ -165,9 +165,10 @@ module _ (s : Show) (client : ℕ) (p q : Program) (left_state : State) (t : Tur
         where
           of_now : (o : Option Running) → W.0.frame ≡ o → IfSome o (λ f. Ends f (worked (took p W.1)) × ((took p W.1).lines ≡ p.lines)) → IsFirst programs_now client × (may_turn programs_now client ≡ true)
           of_now None is own = absurd (let no : IsSome none_running = subst (λ (o : Option Running). IsSome o) (ap (λ (h : State). h.frame) takes.state ∙ is) runs in cc)
-          of_now (Some f) is own =
-              (subst (λ (ns : List (Option ℕ)). IsSomeAnd (first_client ns) (λ c. c.0 ≡ client)) (sym (same_places own.1)) first,
-              ap (λ (b : Bool). not (not (client == 0) && b)) (same_setup own.1) ∙ allowed)
+          of_now (Some f) is own = (
+            subst (λ (ns : List (Option ℕ)). IsSomeAnd (first_client ns) (λ c. c.0 ≡ client)) (sym (same_places own.1)) first,
+            ap (λ (b : Bool). not (not (client == 0) && b)) (same_setup own.1) ∙ allowed,
+          )
 
   alone_now : IfSome left_state.frame (FirstEnds programs_now)
   alone_now = subst (λ (o : Option Running). IfSome o (FirstEnds programs_now)) (sym (ap (λ (h : State). h.frame) takes.state)) (of_frame s.state.frame refl)

@@ -1,17 +1,17 @@
 -- One line more that makes no event.
-use Rattle.std.proofs.Common.{◌≡◌, ◌∙◌, ℕ, zero, suc, ◌+◌, ◌<◌, ◌≤◌, ◌==◌, Bool, true, false, not, cond, List, [], ◌∷◌, ◌++◌, length, take, drop, get_or, Option, Some, None, refl, sym, ap, subst, arith, append-nil, ◌&&◌, IsTrue}
+use Rattle.std.proofs.Common.{◌≡◌, ◌∙◌, ℕ, zero, suc, ◌+◌, ◌<◌, ◌≤◌, ◌==◌, Bool, true, false, cond, List, [], ◌∷◌, ◌++◌, length, take, drop, get_or, Option, Some, None, refl, sym, ap, arith, append-nil, ◌&&◌}
 use Rattle.std.proofs.lemmas.Bool.{and_parts, eqb-true}
 use Rattle.std.proofs.lemmas.List.{drop_more}
 use Rattle.std.proofs.lemmas.Option.{slice_get_past}
 use Rattle.std.specs.Prelude.{slice_get, filter, option_to_list}
 use Rattle.std.specs.List.{enumerate_from, list_all}
-use Rattle.std.specs.Option.{is_some, IfSome}
+use Rattle.std.specs.Option.{is_some}
 use Rattle.wf_image.specs.declared.canvas.Canvas.{Canvas}
 use Rattle.wf_script.specs.declared.line.Line.{Line}
 use Rattle.wf_script.specs.declared.line.Verb.{Verb}
 use Rattle.wf_script.specs.declared.line.Verb.TheVariants as verb
 use Rattle.wf_script.specs.declared.name.Name.{Name}
-use Rattle.wf_script.specs.Script.{is_line, may_paint}
+use Rattle.wf_script.specs.Script.{is_line}
 use Rattle.wf_turn.specs.Passing.{IsPlace, is_event_of, passed}
 use Rattle.wf_turn.specs.Names.{bound_by, bound_name, bound_names, is_creation}
 use Rattle.wf_turn.specs.Program.{is_event, lines_from, silent, skipped}

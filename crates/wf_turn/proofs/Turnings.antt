@@ -1,6 +1,6 @@
 -- One turn of a program.
-use Rattle.std.proofs.Common.{◌≡◌, ◌∙◌, ℕ, ◌+◌, Bool, true, false, not, cond, ◌==◌, ◌&&◌, List, [], ◌∷◌, Option, Some, None, refl, sym, ap, subst, IsTrue}
-use Rattle.std.specs.Option.{is_some, option_map, IfSome, IsSome, IsSomeAnd}
+use Rattle.std.proofs.Common.{◌≡◌, ◌∙◌, ℕ, Bool, true, false, ◌==◌, ◌&&◌, List, [], ◌∷◌, Option, Some, None, refl, sym, ap, subst, IsTrue}
+use Rattle.std.specs.Option.{is_some, IfSome, IsSome, IsSomeAnd}
 use Rattle.wf_image.specs.Bitmap.{drawn}
 use Rattle.wf_calls.specs.declared.call.Job.{Job}
 use Rattle.wf_calls.specs.declared.call.Reply.{Reply}
@@ -20,7 +20,7 @@ use Rattle.wf_turn.specs.Playing.{Ends, TakesTurn, frames_if}
 use Rattle.wf_turn.specs.Program.{Program, first_line, handed, is_work, next, painted_job, place_of, took, worked}
 use Rattle.wf_turn.specs.Ready.{IsFit, IsWork}
 use Rattle.wf_turn.specs.Turns.{frames_of}
-use Rattle.wf_turn.proofs.Answering.{IsSame, outcome, same_outcome, took_handed}
+use Rattle.wf_turn.proofs.Answering.{IsSame, same_outcome, took_handed}
 use Rattle.wf_turn.proofs.Begins.{ended}
 use Rattle.wf_turn.proofs.Painting.{took_work}
 

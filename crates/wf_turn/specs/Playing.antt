@@ -1,5 +1,5 @@
 -- A show while it is played serially: how it is kept, and what holds of it.
-use Rattle.std.specs.Prelude.{◌≡◌, ℕ, ◌+◌, ◌≤◌, Bool, true, false, ◌&&◌, List, [], ◌∷◌, ◌++◌, map, length, slice_get, slice_set, flat_map, Option, Some, None, IfSome, IsSome, IsSomeAnd, IsTrue, not, ◌==◌, if◌then◌else◌}
+use Rattle.std.specs.Prelude.{◌≡◌, ℕ, ◌+◌, ◌≤◌, Bool, false, ◌&&◌, List, [], ◌∷◌, ◌++◌, map, length, slice_get, slice_set, flat_map, Option, Some, None, IfSome, IsSome, IsSomeAnd, IsTrue, not, ◌==◌, if◌then◌else◌}
 use Rattle.wf_calls.specs.declared.call.Job.{Job}
 use Rattle.wf_calls.specs.declared.order.Turn.{Turn}
 use Rattle.wf_calls.specs.Codes.{entry}
@@ -9,7 +9,6 @@ use Rattle.wf_machine.specs.Object.{IsPaintable}
 use Rattle.wf_model.specs.Frames.{is_of_frame, is_running}
 use Rattle.wf_model.specs.State.{Running, State}
 use Rattle.wf_model.specs.Step.{step}
-use Rattle.wf_script.specs.declared.line.Line.{Line}
 use Rattle.wf_script.specs.Script.{PlainScript}
 use Rattle.wf_turn.specs.declared.show.Show.TheInside.{Inside}
 use Rattle.wf_turn.specs.declared.stage.Stage.{Stage}
@@ -17,7 +16,7 @@ use Rattle.wf_turn.specs.declared.stage.Stage.TheVariants as stage
 use Rattle.wf_turn.specs.declared.stage.Wanted.{Wanted}
 use Rattle.wf_turn.specs.Program.{Program, next, place_of, took, worked}
 use Rattle.wf_turn.specs.Ready.{AreOf, IsFit}
-use Rattle.wf_turn.specs.Turns.{Show, frames_of, is_setting_up, opening_show, shown}
+use Rattle.wf_turn.specs.Turns.{Show, frames_of, is_setting_up, shown}
 use Rattle.wf_turn.specs.Play.{first_client, is_marked}
 use Rattle.wf_turn.specs.Quota.{all_left}
 use Rattle.wf_turn.specs.Serial.{IsFirst, IsNextTurn, IsRun}

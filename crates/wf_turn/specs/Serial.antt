@@ -1,7 +1,7 @@
 -- Serial play: each turn is that of the client of the first line in the file that is not through.
 use Rattle.std.specs.Prelude.{◌≡◌, ℕ, ◌≤◌, ◌⊎◌, List, [], ◌∷◌, ◌++◌, map, length, Some, Result, Ok, Err, IsSomeAnd}
 use Rattle.wf_calls.specs.declared.order.Turn.{Turn}
-use Rattle.wf_film.specs.Film.{Frame, frame_bytes, magic}
+use Rattle.wf_film.specs.Film.{Frame, magic}
 use Rattle.wf_io.specs.Bytes.{Puts, PutsNothing, PutsPart}
 use Rattle.wf_io.specs.Causes.{Rose}
 use Rattle.wf_script.specs.Script.{PlainScript}

@@ -13,7 +13,7 @@ mod stage;
 mod taking;
 mod turning;
 
+pub use player::{PlayStop, serial};
 pub use program::Program;
 pub use quotas::quota;
-pub use player::{PlayStop, serial};
 pub use stage::{Leg, Stage, Wanted};

@@ -52,11 +52,7 @@ pub fn serial<K: Sink>(alloc: Global, script: &Script, k: &mut K) -> Result<Orde
 }
 
 /// Writes the film of a show that is open, into an order that has room for all turns.
-fn write_film<K: Sink>(
-    show: &mut Show,
-    k: &mut K,
-    mut played: Vec<Turn>,
-) -> Result<Order, PlayStop>
+fn write_film<K: Sink>(show: &mut Show, k: &mut K, mut played: Vec<Turn>) -> Result<Order, PlayStop>
     requires opened { show.old ≡ opening_show (script_of show.old) }
     requires few { length (script_of show.old).lines ≤ 16384 }
     requires none { played.items ≡ [] }

@@ -1,7 +1,7 @@
 use Rattle.std.proofs.Common.{[], ◌∷◌, map, ap, sym, ◌∙◌}
 use Rattle.std.specs.Prelude.{String, string_bytes}
 use Rattle.std.specs.Global.{Global}
-use Rattle.wf_play.proofs.Accepted.{single}
+use Rattle.wf_play.proofs.Single.{single}
 use Rattle.wf_play.proofs.words.are_accepted.Goals as goal
 
 pub returns-then-words-eq1 : goal.returns-then-words-eq1

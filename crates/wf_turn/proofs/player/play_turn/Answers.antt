@@ -1,4 +1,3 @@
-use Rattle.std.proofs.Common.{refl}
 use Rattle.wf_turn.proofs.Playings.{stopped}
 use Rattle.wf_turn.proofs.player.play_turn.Goals as goal
 

@@ -1,4 +1,4 @@
-use Rattle.std.proofs.Common.{◌≡◌, ◌∙◌, ap, sym, get_or, List}
+use Rattle.std.proofs.Common.{◌∙◌, ap, sym, get_or, List}
 use Rattle.wf_turn.specs.Program.{Program, taught}
 use Rattle.wf_turn.proofs.Teaching.{map_all, map_step, next_is, script_at}
 use Rattle.wf_turn.proofs.show.teach.Goals as goal

@@ -1,6 +1,4 @@
-use Rattle.std.proofs.Common.{◌≡◌, ◌∙◌, ◌+◌, ◌-◌, ◌≤◌, List, Option, ap, sym, subst, arith, length, take, false}
-use Rattle.std.specs.Option.{is_some}
-use Rattle.std.proofs.lemmas.Bool.{ltb-false}
+use Rattle.std.proofs.Common.{◌∙◌, ◌+◌, Option, ap, sym, arith}
 use Rattle.wf_image.specs.declared.canvas.Canvas.{Canvas}
 use Rattle.wf_turn.specs.Passing.{is_event_of}
 use Rattle.wf_turn.specs.Program.{lines_from, skipped}

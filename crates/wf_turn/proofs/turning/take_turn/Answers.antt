@@ -1,12 +1,9 @@
-use Rattle.std.proofs.Common.{◌≡◌, ◌∙◌, Some, None, sym, ap, refl, subst}
-use Rattle.std.specs.Option.{IsSome}
-use Rattle.wf_calls.specs.declared.order.Turn.{Turn}
+use Rattle.std.proofs.Common.{◌≡◌, ◌∙◌, Some, sym, ap, subst}
 use Rattle.wf_turn.specs.Program.{Program, is_work, next, took, worked}
 use Rattle.wf_turn.specs.Ready.{IsWork}
 use Rattle.wf_turn.proofs.Answering.{took_handed}
-use Rattle.wf_turn.proofs.Fitting.{wants}
 use Rattle.wf_turn.proofs.Painting.{took_work}
-use Rattle.wf_turn.proofs.Turnings.{has_line, turn_taken}
+use Rattle.wf_turn.proofs.Turnings.{turn_taken}
 use Rattle.wf_turn.proofs.turning.take_turn.Goals as goal
 
 pub paint-painted-requires : goal.paint-painted-requires

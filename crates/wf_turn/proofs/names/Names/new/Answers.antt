@@ -1,7 +1,5 @@
-use Rattle.std.proofs.Common.{◌≡◌, ◌≤◌, ap, arith, length}
-use Rattle.std.specs.Prelude.{vec_capacity}
+use Rattle.std.proofs.Common.{ap, arith, length}
 use Rattle.std.proofs.lemmas.List.{length-map}
-use Rattle.wf_turn.specs.Index.{names_of}
 use Rattle.wf_turn.proofs.Values.{few_names}
 use Rattle.wf_turn.proofs.names.Names.new.Goals as goal
 

@@ -1,4 +1,4 @@
-use Rattle.std.proofs.Common.{◌≡◌, ◌∙◌, List, Option, ℕ, ap, sym}
+use Rattle.std.proofs.Common.{◌∙◌, List, ℕ, ap, sym}
 use Rattle.std.specs.Prelude.{slice_get}
 use Rattle.wf_turn.specs.Index.{names_of}
 use Rattle.wf_turn.specs.Names.{Table, known, value_of}

@@ -1,4 +1,4 @@
-use Rattle.std.proofs.Common.{◌≡◌, ◌∙◌, Option, Some, None, ap, sym}
+use Rattle.std.proofs.Common.{◌∙◌, Option, Some, ap, sym}
 use Rattle.std.specs.Option.{unwrap_or}
 use Rattle.wf_script.specs.declared.name.Name.{Name}
 use Rattle.wf_turn.specs.Inside.{program_of}

@@ -1,4 +1,4 @@
-use Rattle.std.proofs.Common.{◌≡◌, ap}
+use Rattle.std.proofs.Common.{ap}
 use Rattle.wf_turn.specs.Names.{Table}
 use Rattle.wf_turn.proofs.Firsts.{learns}
 use Rattle.wf_turn.proofs.program.Program.learn.Goals as goal

@@ -1,7 +1,5 @@
-use Rattle.std.proofs.Common.{◌≡◌, ◌∙◌, List, Option, None, ap, sym}
-use Rattle.wf_script.specs.declared.line.Line.{Line}
+use Rattle.std.proofs.Common.{ap}
 use Rattle.wf_turn.specs.Names.{Table, known}
-use Rattle.wf_turn.specs.Program.{lines_from, skipped}
 use Rattle.wf_turn.proofs.Handles.{known_none, opened}
 use Rattle.wf_turn.proofs.program.Program.new.Goals as goal
 

@@ -1,4 +1,4 @@
-use Rattle.std.proofs.Common.{◌≡◌, ◌∙◌, ◌<◌, ◌∷◌, ap, sym, subst, Some, List, ℕ, map}
+use Rattle.std.proofs.Common.{◌≡◌, ◌<◌, ◌∷◌, sym, subst, Some, List, ℕ, map}
 use Rattle.std.specs.Bool.{IsTrue}
 use Rattle.wf_turn.specs.Play.{first_client}
 use Rattle.wf_turn.specs.Playing.{StandsOwn, may_turn, show_of}

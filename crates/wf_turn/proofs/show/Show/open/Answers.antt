@@ -14,13 +14,12 @@ use Rattle.wf_turn.proofs.show.Show.open.Goals as goal
 pub loop-behind-preserved : goal.loop-behind-preserved
 loop-behind-preserved c =
     let made = program c.args.script.now in
-    let n = c.loop-behind.behind in
-    (
+    let n = c.loop-behind.behind in (
       c.push_reserved.ensures.items
-      ∙ ap (λ (ps : List Program). ps ++ c.in_ok-new.field-0 ∷ []) c.loop-behind.invariant.0
-      ∙ ap (λ (p : Program). map made (range_with_len 1 n) ++ p ∷ []) c.in_ok-new.ensures
-      ∙ sym (map-append made (range_with_len 1 n) ((n + 1) ∷ []))
-      ∙ ap (λ (ns : List ℕ). map made ns) (sym (range_more n)),
+          ∙ ap (λ (ps : List Program). ps ++ c.in_ok-new.field-0 ∷ []) c.loop-behind.invariant.0
+          ∙ ap (λ (p : Program). map made (range_with_len 1 n) ++ p ∷ []) c.in_ok-new.ensures
+          ∙ sym (map-append made (range_with_len 1 n) ((n + 1) ∷ []))
+          ∙ ap (λ (ns : List ℕ). map made ns) (sym (range_more n)),
       omega (arith, c.push_reserved.ensures.capacity, c.loop-behind.invariant.1),
       omega (arith, c.push_reserved.ensures.len, c.loop-behind.invariant.2),
     )

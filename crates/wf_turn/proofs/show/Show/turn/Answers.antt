@@ -1,4 +1,4 @@
-use Rattle.std.proofs.Common.{◌≡◌, ◌∙◌, ◌∷◌, ap, sym, subst, List, [], ℕ}
+use Rattle.std.proofs.Common.{◌≡◌, ◌∷◌, ap, sym, subst, List, []}
 use Rattle.std.specs.Bool.{IsTrue}
 use Rattle.wf_turn.specs.Playing.{IsCast, may_turn, show_of}
 use Rattle.wf_turn.specs.Program.{Program}
