@@ -1,21 +1,20 @@
 -- What the last state of a table shows.
-use Rattle.std.proofs.Common.{◌≡◌, ℕ, ◌+◌, ◌<◌, ◌≤◌, List, [], ◌∷◌, length, sym, ap, ◌∙◌, subst, arith, Some, None, le_trans, ◌⊎◌}
+use Rattle.std.proofs.Common.{◌≡◌, ℕ, List, length, sym, ap, ◌∙◌, subst, arith, Some, None, le_trans}
 use mathlib.Core.Option.{some, some-injective}
 use lib.ListN.{get_elem?}
 use Rattle.std.proofs.lemmas.Option.{none-some}
 use Rattle.atomic_table.specs.Table.{State, Final, Seen}
 use Rattle.atomic_table.specs.Seated.{TableId}
-use Rattle.wf_desk.specs.declared.event.Event.{Event}
 use Rattle.wf_desk.specs.declared.view.Stage.TheVariants.{Idle}
 use Rattle.wf_desk.specs.declared.view.Hand.{Hand}
 use Rattle.wf_desk.specs.declared.view.View.{View}
 use Rattle.wf_desk.specs.declared.view.Home.{Home}
 use Rattle.wf_desk.specs.declared.view.Key.{Key}
-use Rattle.wf_desk.specs.History.{IsLegal, IsPrefix, events_of, replay, entries}
+use Rattle.wf_desk.specs.History.{IsPrefix, events_of}
 use Rattle.wf_desk.specs.Pass.{Known}
-use Rattle.wf_desk.specs.Desk.{Opened, AreAll, IsClosing}
-use Rattle.wf_desk.specs.Rule.{HasObject, Slot, Kept, Fits, NoneHas}
-use Rattle.wf_desk.specs.Ending.{AllKnown, AllOwn, Covers, Ends, hands_of}
+use Rattle.wf_desk.specs.Desk.{AreAll, IsClosing}
+use Rattle.wf_desk.specs.Rule.{HasObject, Slot, Kept, NoneHas}
+use Rattle.wf_desk.specs.Ending.{AllOwn, Covers, Ends, hands_of}
 use Rattle.wf_desk.proofs.Whole.{any_read, read_all, each_pass, whole}
 
 module _ {O C R E : Type 0} (after : O → ℕ → C → R → O) (may : O → ℕ → C → R → Type 0) (entry : ℕ → R → E) (key : Key O) where

@@ -5,7 +5,7 @@ use Rattle.wf_desk.specs.declared.event.Event.{Event}
 use Rattle.wf_desk.specs.declared.view.View.{View}
 use Rattle.wf_desk.specs.declared.view.Home.{Home}
 use Rattle.wf_desk.specs.declared.view.Key.{Key}
-use Rattle.wf_desk.specs.History.{replay, IsLegal, entries}
+use Rattle.wf_desk.specs.History.{replay, IsLegal}
 use Rattle.wf_desk.specs.Rule.{Slot, Fits}
 use Rattle.wf_desk.specs.Plays.{grown, Finds}
 use Rattle.wf_desk.proofs.Logs.{replay_snoc, legal_snoc}

@@ -1,5 +1,5 @@
 -- The steps on the word that is the history's length keep the rule: an event, and a look at the history so far.
-use Rattle.std.proofs.Common.{◌≡◌, ◌≢◌, ℕ, ◌+◌, ◌%◌, ◌<◌, List, [], ◌∷◌, ◌++◌, length, get_or, set, sum, sym, refl, ap, ◌∙◌, subst, arith, Some, zero, suc}
+use Rattle.std.proofs.Common.{◌≡◌, ℕ, ◌+◌, ◌%◌, ◌<◌, List, [], ◌∷◌, ◌++◌, length, get_or, set, sym, refl, ap, ◌∙◌, subst, arith, Some, zero, suc}
 use Rattle.std.proofs.lemmas.List.{append-nil}
 use mathlib.Core.Option.{some, none, some-injective, some-ne-none}
 use lib.ListN.{get_elem?}
@@ -10,7 +10,7 @@ use Rattle.wf_desk.specs.declared.view.Stage.TheVariants.{Idle, Waits, Has}
 use Rattle.wf_desk.specs.declared.view.Hand.{Hand}
 use Rattle.wf_desk.specs.declared.view.View.{View}
 use Rattle.wf_desk.specs.declared.view.Key.{Key}
-use Rattle.wf_desk.specs.History.{events_of, replay, IsLegal}
+use Rattle.wf_desk.specs.History.{replay, IsLegal}
 use Rattle.wf_desk.specs.Rule.{HasObject, Stands, IsHand, Knows, Slot, Kept}
 use Rattle.wf_desk.specs.Plays.{with_event, at_stage, grown, grew, caught}
 use Rattle.wf_desk.proofs.Logs.{queue_set, set_at, weights_at, prefix_all, prefix_more, events_of-own, events_of-other, legal_snoc, weights_set, length_snoc}

@@ -1,11 +1,11 @@
 -- Lists, histories that grow by one event, and sums over seats.
-use Rattle.std.proofs.Common.{◌≡◌, ◌≢◌, ℕ, ◌+◌, ◌<◌, ◌≤◌, Bool, true, false, cond, List, [], ◌∷◌, ◌++◌, map, length, set, sum, append_assoc, refl, sym, ap, ◌∙◌, arith, eq-eqb, ne_eqb, eqb, zero, suc, inl, inr, ◌⊎◌, ⊎_elim}
+use Rattle.std.proofs.Common.{◌≡◌, ◌≢◌, ℕ, ◌+◌, ◌≤◌, Bool, true, false, cond, List, [], ◌∷◌, ◌++◌, map, length, set, append_assoc, refl, sym, ap, ◌∙◌, arith, eq-eqb, ne_eqb, eqb, zero, suc, inl, inr, ◌⊎◌}
 use Rattle.std.proofs.lemmas.List.{append-nil, length-append}
 use mathlib.Core.Option.{some, some-ne-none, some-injective}
 use lib.ListN.{get_elem?}
 use Rattle.wf_desk.specs.declared.event.Event.{Event}
 use Rattle.wf_desk.specs.declared.view.View.{View}
-use Rattle.wf_desk.specs.History.{IsPrefix, IsLastAt, event, events_of, replay, IsLegal}
+use Rattle.wf_desk.specs.History.{IsPrefix, IsLastAt, events_of, replay, IsLegal}
 use Rattle.wf_desk.specs.Rule.{weight, weights, ticket_count, queue}
 
 module _ {A : Type 0} where

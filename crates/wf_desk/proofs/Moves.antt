@@ -1,5 +1,5 @@
 -- A step after which the history is the same.
-use Rattle.std.proofs.Common.{◌≡◌, ◌≢◌, ℕ, ◌+◌, ◌<◌, ◌≤◌, List, [], ◌∷◌, length, get_or, set, sym, refl, ap, ◌∙◌, subst, ⊎_elim, arith, Some, sum}
+use Rattle.std.proofs.Common.{◌≡◌, ◌≢◌, ℕ, ◌+◌, ◌<◌, ◌≤◌, List, [], ◌∷◌, length, get_or, set, sym, refl, ap, ◌∙◌, subst, ⊎_elim, arith, Some}
 use mathlib.Core.Logic.{dite}
 use mathlib.Core.Option.{some, some-injective}
 use native.Mathlib.Decide.{ℕ_discrete}
@@ -8,11 +8,11 @@ use Rattle.atomic_table.specs.Table.{State}
 use Rattle.atomic_table.proofs.Lists.{at_set, set_else}
 use Rattle.wf_desk.specs.declared.event.Event.{Event}
 use Rattle.wf_desk.specs.declared.view.Stage.{Stage}
-use Rattle.wf_desk.specs.declared.view.Stage.TheVariants.{Idle, Waits, Has}
+use Rattle.wf_desk.specs.declared.view.Stage.TheVariants.{Idle}
 use Rattle.wf_desk.specs.declared.view.View.{View}
 use Rattle.wf_desk.specs.declared.view.Home.{Home}
 use Rattle.wf_desk.specs.declared.view.Key.{Key}
-use Rattle.wf_desk.specs.Rule.{ticket_count, queue, HasObject, Stands, weight, weights, Knows, NoneHas, Slot, Fits, Kept}
+use Rattle.wf_desk.specs.Rule.{ticket_count, HasObject, Stands, weight, Knows, NoneHas, Slot, Fits, Kept}
 use Rattle.wf_desk.proofs.Logs.{queue_set, weights_set}
 
 -- a seat that is idle has not the object

@@ -1,5 +1,5 @@
 -- A pass when it is new, after an event, after it was told, and when it shows what it has seen.
-use Rattle.std.proofs.Common.{◌≡◌, ℕ, ◌+◌, ◌-◌, ◌<◌, List, [], ◌∷◌, ◌++◌, length, refl, sym, ap, ◌∙◌, subst, arith, Option, Some, None}
+use Rattle.std.proofs.Common.{◌≡◌, ℕ, ◌-◌, ◌<◌, List, [], ◌∷◌, ◌++◌, length, refl, sym, ap, ◌∙◌, subst, arith, Option, Some, None}
 use Rattle.std.proofs.lemmas.Option.{none-some}
 use lib.ListN.{get_elem?}
 use Rattle.atomic_table.specs.declared.shared.Seat.{Seat}
@@ -8,7 +8,7 @@ use Rattle.wf_desk.specs.declared.view.Hand.{Hand}
 use Rattle.wf_desk.specs.declared.view.View.{View}
 use Rattle.wf_desk.specs.declared.view.Key.{Key}
 use Rattle.wf_desk.specs.History.{IsLegal, IsPrefix, IsLastAt, events_of, replay, event}
-use Rattle.wf_desk.specs.Pass.{Known, IsOwn, Made}
+use Rattle.wf_desk.specs.Pass.{IsOwn, Made}
 use Rattle.wf_desk.specs.Rule.{Slot}
 use Rattle.wf_desk.specs.Plays.{Sat, Makes, at_stage, with_event, AllMine, pass_of, head_of, noting}
 use Rattle.wf_desk.specs.Inside.{opening_of, known, Sits}

@@ -1,5 +1,5 @@
 -- Seats that are cut in two and made one keep the rule, and so does a new table.
-use Rattle.std.proofs.Common.{◌≡◌, ◌≢◌, ℕ, ◌+◌, ◌<◌, ◌≤◌, eqb, Bool, true, false, List, [], ◌∷◌, ◌++◌, length, set, sum, sym, refl, ap, ◌∙◌, subst, ◌⊎◌, ⊎_elim, arith, Option, Some, None, vec_capacity, cond, inl, inr, le_refl, le_of_eq, length-set, eq-eqb, ne_eqb, le_trans, zero, suc}
+use Rattle.std.proofs.Common.{◌≡◌, ◌≢◌, ℕ, ◌+◌, ◌<◌, ◌≤◌, eqb, Bool, true, List, [], ◌∷◌, ◌++◌, length, set, sum, sym, refl, ap, ◌∙◌, subst, ◌⊎◌, ⊎_elim, arith, Option, Some, None, vec_capacity, cond, inl, inr, le_refl, le_of_eq, length-set, eq-eqb, ne_eqb, le_trans, zero, suc}
 use Rattle.std.proofs.lemmas.Bool.{false≢true}
 use Rattle.std.proofs.lemmas.Option.{none-some}
 use Rattle.std.proofs.lemmas.List.Sums.{sum_by-cons}

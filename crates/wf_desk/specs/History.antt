@@ -1,5 +1,5 @@
 -- Histories: lists of events, and what one thread alone would make of them.
-use Rattle.std.specs.Prelude.{◌≡◌, ℕ, ◌+◌, ◌==◌, if◌then◌else◌, List, [], ◌∷◌, ◌++◌, length, map, ⊤}
+use Rattle.std.specs.Prelude.{◌≡◌, ℕ, ◌==◌, if◌then◌else◌, List, [], ◌∷◌, ◌++◌, length, map, ⊤}
 use Rattle.wf_desk.specs.declared.event.Event.{Event}
 
 module _ {C R : Type 0} where

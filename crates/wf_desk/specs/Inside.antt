@@ -1,5 +1,5 @@
 -- What a pass is made of.
-use Rattle.std.specs.Prelude.{◌≡◌, ℕ, ◌<◌, false, Option, Some, None, List, [], ◌∷◌, length}
+use Rattle.std.specs.Prelude.{◌≡◌, ℕ, ◌<◌, false, Option, Some, None, [], ◌∷◌, length}
 use Rattle.atomic_table.specs.declared.shared.Seat.{Seat}
 use Rattle.wf_desk.specs.declared.view.Stage.TheVariants.{Idle}
 use Rattle.wf_desk.specs.declared.view.Hand.{Hand}

@@ -1,4 +1,4 @@
-use Rattle.std.proofs.Common.{sym, ap, ◌∙◌, subst, []}
+use Rattle.std.proofs.Common.{ap, ◌∙◌, subst, []}
 use Rattle.wf_desk.specs.declared.view.Stage.TheVariants.{Idle}
 use Rattle.wf_desk.specs.Plays.{at_stage, grown}
 use Rattle.wf_desk.specs.History.{event}

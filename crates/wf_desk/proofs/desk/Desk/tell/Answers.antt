@@ -1,4 +1,4 @@
-use Rattle.std.proofs.Common.{rules, sym, ap, ◌∙◌, subst, [], ◌≡◌, Some}
+use Rattle.std.proofs.Common.{rules, sym, ap, ◌∙◌, subst, ◌≡◌, Some}
 use Rattle.wf_desk.specs.Inside.{known}
 use Rattle.wf_desk.specs.Plays.{at_stage, noting, AllMine}
 use Rattle.wf_desk.specs.History.{IsLegal, IsPrefix}

@@ -1,4 +1,4 @@
-use Rattle.std.proofs.Common.{◌<◌, ◌≡◌, length, subst}
+use Rattle.std.proofs.Common.{◌<◌, length, subst}
 use Rattle.wf_desk.specs.History.{IsLastAt}
 use Rattle.wf_desk.proofs.pass.Pass.place.Goals as goal
 
