@@ -157,7 +157,10 @@ impl<O: Object> Board<O> {
         ensures place { (seat.new.table_id ≡ seat.old.table_id) × (seat.new.id ≡ seat.old.id) }
         ensures idle { seat.new.me ≡ (at_stage seat.old.me.0 Idle seat.old.me.0.seen, []) }
     {
-        self.table.shared.fetch_add::<Rest>(seat, SPENT, 1);
-        self.table.shared.wake_all(SPENT);
+        let spent = self.table.shared.fetch_add::<Rest>(seat, SPENT, 1);
+        // Whoever draws a ticket after this look finds the new number of tickets spent by itself.
+        if self.table.shared.peek(DRAWN) > spent.wrapping_add(1) {
+            self.table.shared.wake_all(SPENT);
+        }
     }
 }

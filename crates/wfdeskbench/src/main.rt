@@ -5,7 +5,6 @@
 mod counter;
 
 ghost use Rattle.std.specs.Prelude.{◌≡◌, ◌<◌, ◌≤◌, ◌^◌, All, length, sum};
-ghost use Rattle.wf_desk.specs.Pass.{Known};
 
 use counter::Counter;
 use std::alloc::Global;
@@ -38,7 +37,8 @@ fn call_lock<R: Wait>(rt: &R, counter: &Mutex<Counter>, calls: u32) {
 
 /// All calls on a desk, a thread for each pass.
 fn call_all<R: Threads + Wait + Sync>(rt: &R, desk: &Desk<Counter>, passes: &mut [Pass<Counter>])
-    requires { All (λ pass. pass.desk ≡ desk.now.id) passes.old }
+    requires any { 1 ≤ length passes.old }
+    requires desk { All (λ pass. pass.desk ≡ desk.now.id) passes.old }
 {
     let threads = passes.len();
     thread::for_each_mut(
@@ -75,7 +75,9 @@ fn lock_time<R: Threads + Wait + Sync + Clock>(
     rt: &R,
     alloc: Global,
     quotas: &[u32],
-) -> io::Result<Duration> {
+) -> io::Result<Duration>
+    requires { 1 ≤ length quotas.now }
+{
     let mut calls = Vec::new(alloc);
     calls.extend_from_slice(quotas)?;
     let counter = Mutex::new(Counter { sum: 0 });
@@ -98,7 +100,7 @@ fn print_times<R: Print + Threads + Wait + Sync + Clock + AllocGlobal>(
     let lock = lock_time(rt, rt.alloc(), quotas)?;
     println!(
         rt;
-        "{} threads: {} calls a second behind a desk, {} in a lock",
+        "threads {}: {} calls a second behind a desk, {} in a lock",
         quotas.len(),
         per_second(desk),
         per_second(lock)
@@ -107,13 +109,13 @@ fn print_times<R: Print + Threads + Wait + Sync + Clock + AllocGlobal>(
 
 /// How many calls a second the time of all is.
 fn per_second(time: Duration) -> u64 {
-    let microseconds = time.as_micros() as u64;
+    let microseconds = u64::try_from(time.as_micros()).unwrap_or(u64::MAX);
     CALLS as u64 * 1_000_000 / microseconds.max(1)
 }
 
 fn print_all<R: Print + Threads + Wait + Sync + Clock + AllocGlobal>(rt: &R) -> io::Result<()> {
     print_times(rt, &[CALLS])?;
-    print_times(rt, &[CALLS / 2, CALLS / 2])?;
+    print_times(rt, &[CALLS / 2; 2])?;
     print_times(rt, &[CALLS / 4, CALLS / 4, CALLS / 4, CALLS / 4])
 }
 
