@@ -4,7 +4,7 @@ use Rattle.std.proofs.Common.{arith, refl, zero, suc}
 use Rattle.atomic_table.specs.Seated.{TableId}
 use Rattle.wf_desk.specs.declared.event.Event.{Event}
 use Rattle.wf_desk.specs.History.{IsLegal, IsPrefix, events_of, replay, entries}
-use Rattle.wf_desk.specs.Pass.{Known}
+use Rattle.wf_desk.specs.Pass.{Known, fresh}
 
 -- which desk it is, the object that it opened with, and how many calls each client has
 pub record Opened (O : Type 0) : Type 0 where
@@ -23,11 +23,12 @@ module _ {O C R : Type 0} where
   AreInOrder desk client [] = ⊤
   AreInOrder desk client (k ∷ ks) = (k.desk ≡ desk) × (k.client ≡ client) × AreInOrder desk (client + 1) ks
 
-  all_of_desk : (desk : TableId) (first : ℕ) (ks : List (Known O C R)) → AreInOrder desk first ks → All (λ (k : Known O C R). k.desk ≡ desk) ks
-  all_of_desk desk first [] order i d lt = absurd (omega arith)
-  all_of_desk desk first (k ∷ ks) order zero d lt = order.0
-  all_of_desk desk first (k ∷ ks) order (suc i) d lt = all_of_desk desk (first + 1) ks order.2 i d (omega arith)
+  pub AreInOrder-all : (desk : TableId) (first : ℕ) (ks : List (Known O C R)) → AreInOrder desk first ks → All (λ (k : Known O C R). k.desk ≡ desk) ks
+  AreInOrder-all desk first [] order i d lt = absurd (omega arith)
+  AreInOrder-all desk first (k ∷ ks) order zero d lt = order.0
+  AreInOrder-all desk first (k ∷ ks) order (suc i) d lt = AreInOrder-all desk (first + 1) ks order.2 i d (omega arith)
 
+  -- the pass of a client stands at the client's place
   each_in_order : (desk : TableId) (first : ℕ) (ks : List (Known O C R)) → AreInOrder desk first ks → (i : ℕ) → i < length ks
       → (k : Known O C R) × (slice_index_or ks i k ≡ k) × (k.client ≡ first + i)
   each_in_order desk first [] order i lt = absurd (omega arith)
@@ -38,9 +39,19 @@ module _ {O C R : Type 0} where
   -- passes in the order of their clients, as many as there are clients, are all
   pub AreAll-in_order : (desk : TableId) (count : ℕ) (ks : List (Known O C R)) → length ks ≡ count → AreInOrder desk 0 ks → AreAll desk count ks
   AreAll-in_order desk count ks counted order = record {
-    of_desk = all_of_desk desk 0 ks order;
+    of_desk = AreInOrder-all desk 0 ks order;
     each = λ client lt. let at = each_in_order desk 0 ks order client (omega arith) in let own = at.2 in (client, at.0, omega arith, at.1, omega arith);
   }
+
+-- a new desk has a pass for each quota, in order
+module _ {O : Type 0} (C R : Type 0) where
+  pub length-fresh : (desk : TableId) (opening : O) (client : ℕ) (quotas : List ℕ) → length (fresh {O = O} {C = C} {R = R} desk opening client quotas) ≡ length quotas
+  length-fresh desk opening client [] = refl
+  length-fresh desk opening client (quota ∷ quotas) = let h = length-fresh desk opening (client + 1) quotas in omega arith
+
+  pub AreInOrder-fresh : (desk : TableId) (opening : O) (client : ℕ) (quotas : List ℕ) → AreInOrder desk client (fresh {O = O} {C = C} {R = R} desk opening client quotas)
+  AreInOrder-fresh desk opening client [] = tt
+  AreInOrder-fresh desk opening client (quota ∷ quotas) = (refl, refl, AreInOrder-fresh desk opening (client + 1) quotas)
 
 module _ {O C R E : Type 0} (after : O → ℕ → C → R → O) (may : O → ℕ → C → R → Type 0) (entry : ℕ → R → E) where
   -- One history is behind all passes: it begins with what each has seen, and each pass knows all its client's events.

@@ -58,7 +58,8 @@ impl<O: Object> Board<O> {
         requires journal { (journal.items ≡ []) × (sum key.now.quotas.items ≤ vec_capacity journal) }
         requires sum { sum key.now.quotas.items < 2 ^ 32 }
         ensures key { IfOk result (λ r. r.0.table.shared.key ≡ key.now) }
-        ensures seat { IfOk result (λ r. (r.1.table_id ≡ r.0.table.shared.table_id) × (r.1.me ≡ (starting key.now, []))) }
+        ensures table { IfOk result (λ r. r.1.table_id ≡ r.0.table.shared.table_id) }
+        ensures seat { IfOk result (λ r. r.1.me ≡ (starting key.now, [])) }
     {
         let mut slots = Vec::with_capacity(alloc, 1)?;
         slots.push_reserved(Some(Home { object, journal }));
@@ -99,7 +100,8 @@ impl<O: Object> Board<O> {
         requires key { (k : Key O) × (seat.old.me.0.key ≡ Some k) }
         requires hand { (hand : Hand O.Call O.Reply) × (seat.old.me.0.hands ≡ hand ∷ []) }
         ensures place { (seat.new.table_id ≡ seat.old.table_id) × (seat.new.id ≡ seat.old.id) }
-        ensures taken { (ticket : ℕ) × (seat.new.me ≡ (at_stage seat.old.me.0 (Has ticket) seat.new.me.0.seen, (0, None) ∷ [])) }
+        ensures taken { (ticket : ℕ)
+            × (seat.new.me ≡ (at_stage seat.old.me.0 (Has ticket) seat.new.me.0.seen, (0, None) ∷ [])) }
         ensures seen { IsPrefix seat.old.me.0.seen seat.new.me.0.seen }
         ensures mine { AllMine seat.new.me.0.seen seat.old.me.0.hands }
         ensures finds { Finds O.after O.may O.entry_of seat.new.me.0 seat.new.me.0.seen result }
@@ -128,11 +130,14 @@ impl<O: Object> Board<O> {
         requires place { seat.old.table_id ≡ self.now.table.shared.table_id }
         requires turn { (ticket : ℕ) × (seat.old.me.0.stage ≡ Has ticket) }
         requires event { H.event ≡ event client call.now.value reply.now ∷ [] }
-        requires hand { (hand : Hand O.Call O.Reply) × (seat.old.me.0.hands ≡ hand ∷ []) × (hand.client ≡ client) }
+        requires hand { (hand : Hand O.Call O.Reply) × (seat.old.me.0.hands ≡ hand ∷ [])
+            × (hand.client ≡ client) }
         requires left { 0 < seat.old.me.0.left }
-        requires may { (k : Key O) × (seat.old.me.0.key ≡ Some k) × O.may (replay O.after k.opening.value seat.old.me.0.seen) client call.now.value reply.now }
+        requires may { (k : Key O) × (seat.old.me.0.key ≡ Some k)
+            × O.may (replay O.after k.opening.value seat.old.me.0.seen) client call.now.value reply.now }
         ensures place { (seat.new.table_id ≡ seat.old.table_id) × (seat.new.id ≡ seat.old.id) }
-        ensures grown { seat.new.me ≡ (grown seat.old.me.0 (event client call.now.value reply.now), seat.old.me.1) }
+        ensures grown { seat.new.me
+            ≡ (grown seat.old.me.0 (event client call.now.value reply.now), seat.old.me.1) }
         ensures at { result ≡ length seat.old.me.0.seen }
     {
         self.table.shared.fetch_add::<Grow<H>>(seat, HISTORY, 1) as u32
@@ -153,7 +158,8 @@ impl<O: Object> Board<O> {
     pub(crate) fn leave(&self, seat: &mut Place<O>)
         requires place { seat.old.table_id ≡ self.now.table.shared.table_id }
         requires turn { (ticket : ℕ) × (seat.old.me.0.stage ≡ Has ticket) }
-        requires home { (home : Home O O.Entry) × (seat.old.me.1 ≡ (0, Some home) ∷ []) × (k : Key O) × (seat.old.me.0.key ≡ Some k) × Fits O.after O.entry_of k seat.old.me.0.seen home }
+        requires home { (home : Home O O.Entry) × (seat.old.me.1 ≡ (0, Some home) ∷ [])
+            × (k : Key O) × (seat.old.me.0.key ≡ Some k) × Fits O.after O.entry_of k seat.old.me.0.seen home }
         ensures place { (seat.new.table_id ≡ seat.old.table_id) × (seat.new.id ≡ seat.old.id) }
         ensures idle { seat.new.me ≡ (at_stage seat.old.me.0 Idle seat.old.me.0.seen, []) }
     {

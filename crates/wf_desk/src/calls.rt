@@ -39,15 +39,20 @@ impl<O: Object> Board<O> {
         call: O::Call,
     ) -> (O::Reply, u32)
         requires place { seat.old.table_id ≡ self.now.table.shared.table_id }
-        requires turn { ((ticket : ℕ) × (seat.old.me.0.stage ≡ Has ticket)) × (seat.old.me.1 ≡ (0, None) ∷ []) }
+        requires turn { (ticket : ℕ) × (seat.old.me.0.stage ≡ Has ticket) }
+        requires empty { seat.old.me.1 ≡ (0, None) ∷ [] }
         requires finds { Finds O.after O.may O.entry_of seat.old.me.0 seat.old.me.0.seen home }
-        requires hand { (hand : Hand O.Call O.Reply) × (seat.old.me.0.hands ≡ hand ∷ []) × (hand.client ≡ client) }
+        requires hand { (hand : Hand O.Call O.Reply) × (seat.old.me.0.hands ≡ hand ∷ [])
+            × (hand.client ≡ client) }
         requires left { 0 < seat.old.me.0.left }
         ensures place { (seat.new.table_id ≡ seat.old.table_id) × (seat.new.id ≡ seat.old.id) }
-        ensures made { seat.new.me ≡ (at_stage (grown seat.old.me.0 (event client call result.0)) Idle (seat.old.me.0.seen ++ event client call result.0 ∷ []), []) }
+        ensures made { seat.new.me
+            ≡ (at_stage (grown seat.old.me.0 (event client call result.0)) Idle (seat.old.me.0.seen ++ event client call result.0 ∷ []), []) }
         ensures at { result.1 ≡ length seat.old.me.0.seen }
-        ensures legal { (k : Key O) → seat.old.me.0.key ≡ Some k → IsLegal O.after O.may k.opening.value (seat.old.me.0.seen ++ event client call result.0 ∷ []) }
-        ensures may { (k : Key O) → seat.old.me.0.key ≡ Some k → O.may (replay O.after k.opening.value seat.old.me.0.seen) client call result.0 }
+        ensures legal { (k : Key O) → seat.old.me.0.key ≡ Some k
+            → IsLegal O.after O.may k.opening.value (seat.old.me.0.seen ++ event client call result.0 ∷ []) }
+        ensures may { (k : Key O) → seat.old.me.0.key ≡ Some k
+            → O.may (replay O.after k.opening.value seat.old.me.0.seen) client call result.0 }
     {
         let asked = Snapshot::of(&call);
         let reply = home.answer(client, call);
@@ -67,7 +72,8 @@ impl<O: Object> Board<O> {
     ) -> (O::Reply, u32)
         requires place { seat.old.table_id ≡ self.now.table.shared.table_id }
         requires idle { (seat.old.me.0.stage ≡ Idle) × (seat.old.me.1 ≡ []) }
-        requires hand { (hand : Hand O.Call O.Reply) × (seat.old.me.0.hands ≡ hand ∷ []) × (hand.client ≡ client) }
+        requires hand { (hand : Hand O.Call O.Reply) × (seat.old.me.0.hands ≡ hand ∷ [])
+            × (hand.client ≡ client) }
         requires left { 0 < seat.old.me.0.left }
         requires key { (k : Key O) × (seat.old.me.0.key ≡ Some k) }
         ensures place { (seat.new.table_id ≡ seat.old.table_id) × (seat.new.id ≡ seat.old.id) }
@@ -87,11 +93,13 @@ impl<O: Object> Board<O> {
     ) -> (O::Reply, u32)
         requires place { seat.old.table_id ≡ self.now.table.shared.table_id }
         requires idle { (seat.old.me.0.stage ≡ Idle) × (seat.old.me.1 ≡ []) }
-        requires hand { (hand : Hand O.Call O.Reply) × (seat.old.me.0.hands ≡ hand ∷ []) × (hand.client ≡ client) }
+        requires hand { (hand : Hand O.Call O.Reply) × (seat.old.me.0.hands ≡ hand ∷ [])
+            × (hand.client ≡ client) }
         requires left { 0 < seat.old.me.0.left }
         requires key { (k : Key O) × (seat.old.me.0.key ≡ Some k) }
         ensures place { (seat.new.table_id ≡ seat.old.table_id) × (seat.new.id ≡ seat.old.id) }
-        ensures made { Makes O.after O.may (λ object. IsTrue (O.is_ready object call)) seat.old.me.0 client call result.0 result.1 seat.new.me }
+        ensures made { Makes O.after O.may (λ object. IsTrue (O.is_ready object call))
+            seat.old.me.0 client call result.0 result.1 seat.new.me }
     {
         for _ in rt.forever() {
             let home = self.enter(rt, seat);

@@ -34,7 +34,11 @@ impl<O: Object> Model for Desk<O> {
 
     ghost Value = { Opened O };
 
-    ghost view = { λ d. record { id = d.board.table.shared.table_id; opening = d.board.table.shared.key.opening.value; quotas = d.board.table.shared.key.quotas.items } };
+    ghost view = { λ d. record {
+      id = d.board.table.shared.table_id;
+      opening = d.board.table.shared.key.opening.value;
+      quotas = d.board.table.shared.key.quotas.items;
+    } };
 
     ghost invariant = { λ d. 1 ≤ length d.board.table.shared.key.quotas.items };
 }
@@ -86,7 +90,8 @@ impl<O: Object> Desk<O> {
     pub fn call_when<R: Wait>(&self, rt: &R, pass: &mut Pass<O>, call: O::Call) -> O::Reply
         requires desk { pass.old.desk ≡ self.now.id }
         requires left { 0 < pass.old.left }
-        ensures made { Made O.after O.may (λ object. IsTrue (O.is_ready object call)) pass.old call result pass.new }
+        ensures made { Made O.after O.may (λ object. IsTrue (O.is_ready object call))
+            pass.old call result pass.new }
         ensures own { IsOwn O.after O.may pass.new }
     {
         let client = pass.client;
