@@ -11,6 +11,8 @@ mod show;
 mod skipping;
 mod stage;
 mod taking;
+#[cfg(test)]
+mod tests;
 mod turning;
 
 pub use player::{PlayStop, serial};
