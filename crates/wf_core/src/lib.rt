@@ -1,0 +1,9 @@
+//! The calls of composition: devices, their contexts with elements, sources and masks, commits and error registers.
+#![tactic(auto)]
+
+mod answers;
+mod composition;
+mod registers;
+
+pub use composition::Core;
+pub use wf_words::NoMemory;
