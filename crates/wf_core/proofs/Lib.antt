@@ -2,3 +2,4 @@ pub mod Steps
 pub mod Lists
 pub mod Rises
 pub mod Fitting
+pub mod Lookups

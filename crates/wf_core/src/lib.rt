@@ -3,6 +3,7 @@
 
 mod answers;
 mod composition;
+mod finding;
 mod registers;
 
 pub use composition::Core;
