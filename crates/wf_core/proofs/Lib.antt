@@ -3,3 +3,4 @@ pub mod Lists
 pub mod Rises
 pub mod Fitting
 pub mod Lookups
+pub mod Scenes

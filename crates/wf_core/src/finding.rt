@@ -24,7 +24,8 @@ pub(crate) fn key_of(store: &Store, handle: u32, kind: Kind) -> Option<u32>
 
 /// The place of the context that has the handle.
 fn place_of(contexts: &[Context], handle: u32) -> Option<usize>
-    ensures { result ≡ position (λ c. c.handle == handle) contexts.now }
+    ensures place { result ≡ position (λ c. c.handle == handle) contexts.now }
+    ensures within { IfSome result (λ place. place < length contexts.now) }
 {
     contexts.iter().position(|context| context.handle == handle)
 }
@@ -33,7 +34,8 @@ impl Core {
     /// The place of a device's context.
     fn place_in_device(&self, store: &Store, device: u32, context: u32) -> Option<usize>
         requires { Fits self.now store.now }
-        ensures { option_and_then (slice_get self.now.contexts) result ≡ of_device device context self.now.contexts }
+        ensures found { option_and_then (slice_get self.now.contexts) result ≡ of_device device context self.now.contexts }
+        ensures within { IfSome result (λ place. place < length self.now.contexts) }
     {
         match key_of(store, context, Kind::Context) {
             Some(owner) if owner == device => place_of(&self.contexts, context),
@@ -49,7 +51,8 @@ impl Core {
         context: u32,
     ) -> Result<usize, Refusal>
         requires { Fits self.now store.now }
-        ensures { at_place result self.now.contexts ≡ owned_context device context (side_of self.now store.now) }
+        ensures found { at_place result self.now.contexts ≡ owned_context device context (side_of self.now store.now) }
+        ensures within { IfOk result (λ place. place < length self.now.contexts) }
     {
         let Some(_) = key_of(store, device, Kind::Device) else {
             return Err(refusal(Code::BadDevice));
@@ -68,7 +71,8 @@ impl Core {
         element: u32,
     ) -> Result<usize, Refusal>
         requires { Fits self.now store.now }
-        ensures { at_place result self.now.contexts ≡ owning_context device element (side_of self.now store.now) }
+        ensures found { at_place result self.now.contexts ≡ owning_context device element (side_of self.now store.now) }
+        ensures within { IfOk result (λ place. place < length self.now.contexts) }
     {
         let Some(_) = key_of(store, device, Kind::Device) else {
             return Err(refusal(Code::BadDevice));

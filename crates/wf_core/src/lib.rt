@@ -3,6 +3,7 @@
 
 mod answers;
 mod composition;
+mod contexts;
 mod finding;
 mod registers;
 
