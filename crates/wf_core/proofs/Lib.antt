@@ -4,3 +4,4 @@ pub mod Rises
 pub mod Fitting
 pub mod Lookups
 pub mod Scenes
+pub mod Makings

@@ -17,7 +17,7 @@ use Rattle.wf_model.specs.Outcome.{refusal, found}
 use Rattle.wf_model.specs.Composition.{CoreState}
 use Rattle.wf_core.specs.Sides.{side_of}
 use Rattle.wf_core.specs.Fits.{Fits, HandlesFit, HasElements, of_kind, elements_of, device_live, context_live, element_live}
-use Rattle.wf_core.specs.Owners.{of_device, owned_context, owning_context}
+use Rattle.wf_core.specs.Owners.{of_device, of_element, owned_context, owning_context}
 use Rattle.wf_core.proofs.Lists.{find_filtered, find_mapped, any_found, any_mapped, each_other}
 use Rattle.wf_core.proofs.Rises.{Rises, get_position, rises_live, rises_filter, rises_map, find_tested}
 
@@ -115,14 +115,14 @@ module _ (core : CoreState) (store : StoreView) (fits : HandlesFit core store) w
           ]
 
   -- the contexts in which an element lives, by the table
-  pub owner_is : (d e : ℕ) → find (λ (c : Context). (c.device == d) && has_element e c.cached) core.contexts ≡ option_and_then (λ owner. of_device d owner core.contexts) (key_of e kind.Element store.others)
+  pub owner_is : (d e : ℕ) → of_element d e core.contexts ≡ option_and_then (λ owner. of_device d owner core.contexts) (key_of e kind.Element store.others)
   owner_is d e = of_contexts core.contexts fits.elements (key_of e kind.Element store.others) refl
     where
       swapped : (b : Bool) (m n : ℕ) → (b && (m == n)) ≡ ((n == m) && b)
       swapped true m n = grind (arith, nat_tests)
       swapped false m n = elim (n == m) as (λ b. false ≡ (b && false)) [ true ↦ refl | false ↦ refl ]
 
-      of_contexts : (cs : List Context) → AllByRecursion (HasElements store.others) cs → (o : Option ℕ) → key_of e kind.Element store.others ≡ o → find (λ (c : Context). (c.device == d) && has_element e c.cached) cs ≡ option_and_then (λ owner. of_device d owner cs) o
+      of_contexts : (cs : List Context) → AllByRecursion (HasElements store.others) cs → (o : Option ℕ) → key_of e kind.Element store.others ≡ o → of_element d e cs ≡ option_and_then (λ owner. of_device d owner cs) o
       of_contexts [] all None is = refl
       of_contexts [] all (Some owner) is = refl
       of_contexts (c ∷ cs) all None is =
@@ -143,5 +143,5 @@ module _ (core : CoreState) (store : StoreView) (fits : HandlesFit core store) w
   pub refused_owner : (d e : ℕ) → key_of d kind.Device store.others ≡ None → owning_context d e (side_of core store) ≡ Err (refusal code.BadDevice)
   refused_owner d e none = rw (no_device d none) refl
 
-  pub named_owner : (d e key : ℕ) → key_of d kind.Device store.others ≡ Some key → owning_context d e (side_of core store) ≡ found code.BadHandle (option_and_then (λ owner. of_device d owner core.contexts) (key_of e kind.Element store.others))
-  named_owner d e key some = let x = a_device d key some in rw x.1 (ap (found code.BadHandle) (owner_is d e))
+  pub named_owner : (d e key : ℕ) → key_of d kind.Device store.others ≡ Some key → owning_context d e (side_of core store) ≡ found code.BadHandle (of_element d e core.contexts)
+  named_owner d e key some = let x = a_device d key some in rw x.1 refl

@@ -2,11 +2,13 @@
 use Rattle.std.specs.Prelude.{◌≡◌, ℕ, Bool, true, false, not, List, filter, Result, Ok, Err}
 use Rattle.wf_life.specs.declared.Kind.{Kind}
 use Rattle.wf_life.specs.declared.Kind.TheVariants as kind
-use Rattle.wf_life.specs.Handles.{Live, live_count}
+use Rattle.wf_life.specs.Handles.{Live, is_full, live_count}
+use Rattle.wf_words.specs.Refusals.{◌>>=◌}
 use Rattle.wf_stream.specs.Streams.{StoreView}
+use Rattle.wf_calls.specs.declared.code.Code.TheVariants as code
 use Rattle.wf_calls.specs.declared.code.Refusal.{Refusal}
 use Rattle.wf_calls.specs.Codes.{is_out_of_memory}
-use Rattle.wf_model.specs.Outcome.{Outcome}
+use Rattle.wf_model.specs.Outcome.{Outcome, refuse}
 use Rattle.wf_model.specs.Composition.{CoreSide, CoreState}
 
 -- what a call sees of these objects and this store
@@ -28,6 +30,17 @@ done_by (Err r) w = Err r
 abbrev pub lacks_memory : {A : Type 0} → Result A Refusal → Bool
 lacks_memory (Ok _) = false
 lacks_memory (Err r) = is_out_of_memory r.code
+
+-- only whether it was refused
+abbrev pub without_value : {A : Type 0} → Result A Refusal → Result (Unit {0}) Refusal
+without_value (Ok _) = Ok tt
+without_value (Err r) = Err r
+
+-- a new handle is refused: all were given, or there is no memory
+abbrev pub refused_handle : ℕ → Bool → Result (Unit {0}) Refusal
+refused_handle made memory_refused = do
+  _ ← refuse code.Limit (is_full made)
+  refuse code.OutOfMemory memory_refused
 
 -- the kinds of objects that composition makes
 abbrev pub is_of_composition : Kind → Bool

@@ -6,7 +6,7 @@ ghost use Rattle.wf_stream.specs.Streams.{is_stream};
 ghost use Rattle.wf_scene.specs.Cached.{has_element};
 ghost use Rattle.wf_core.specs.Sides.{side_of};
 ghost use Rattle.wf_core.specs.Fits.{Fits};
-ghost use Rattle.wf_core.specs.Owners.{of_device, owned_context, owning_context, at_place};
+ghost use Rattle.wf_core.specs.Owners.{of_device, of_element, owned_context, owning_context, at_place};
 
 use crate::answers::refusal;
 use crate::composition::Core;
@@ -63,6 +63,23 @@ impl Core {
         }
     }
 
+    /// The place of a device's context in which an element lives.
+    pub(crate) fn element_in_device(
+        &self,
+        store: &Store,
+        device: u32,
+        element: u32,
+    ) -> Option<usize>
+        requires { Fits self.now store.now }
+        ensures found { option_and_then (slice_get self.now.contexts) result ≡ of_element device element self.now.contexts }
+        ensures within { IfSome result (λ place. place < length self.now.contexts) }
+    {
+        match key_of(store, element, Kind::Element) {
+            Some(owner) => self.place_in_device(store, device, owner),
+            None => None,
+        }
+    }
+
     /// The place of the context in which an element lives, or the refusal.
     pub(crate) fn element_place(
         &self,
@@ -77,10 +94,7 @@ impl Core {
         let Some(_) = key_of(store, device, Kind::Device) else {
             return Err(refusal(Code::BadDevice));
         };
-        let Some(owner) = key_of(store, element, Kind::Element) else {
-            return Err(refusal(Code::BadHandle));
-        };
-        match self.place_in_device(store, device, owner) {
+        match self.element_in_device(store, device, element) {
             Some(place) => Ok(place),
             None => Err(refusal(Code::BadHandle)),
         }

@@ -4,7 +4,9 @@
 mod answers;
 mod composition;
 mod contexts;
+mod devices;
 mod finding;
+mod making;
 mod registers;
 
 pub use composition::Core;

@@ -1,0 +1,120 @@
+-- A new object fits with the handle that was made for it.
+use Rattle.std.proofs.Common.{◌≡◌, ◌≢◌, ℕ, zero, suc, ◌+◌, ◌<◌, ◌≤◌, Bool, true, false, cond, not, ◌==◌, ◌&&◌, ◌||◌, List, [], ◌∷◌, ◌++◌, map, filter, set, slice_get, Option, Some, None, IsTrue, IsSomeAnd, refl, sym, ap, subst, ◌∙◌, arith}
+use Rattle.std.specs.List.{list_all, list_any, AllByRecursion}
+use Rattle.std.proofs.lemmas.Bool.{and_parts, and_from, or_parts, eqb-true, eq-eqb, ne_eqb}
+use Rattle.std.proofs.lemmas.Bool.Decides.{nat_tests}
+use Rattle.std.proofs.lemmas.List.{append-nil, map-append}
+use Rattle.std.proofs.lemmas.List.Elements.{filter-append}
+use Rattle.wf_words.specs.Keyed.{is_in}
+use Rattle.wf_pixel.specs.Choice.{is_a8}
+use Rattle.wf_life.specs.declared.Kind.{Kind}
+use Rattle.wf_life.specs.declared.Kind.TheVariants as kind
+use Rattle.wf_life.specs.Handles.{Live, IsRising, same_kind}
+use Rattle.wf_stream.specs.Streams.{KeptStream, StoreView, buffers_at, with_other}
+use Rattle.wf_scene.specs.Cached as cached
+use Rattle.wf_scene.specs.Cached.{handle_of, handles}
+use Rattle.wf_scene.specs.Elements.{new_element}
+use Rattle.wf_model.specs.declared.Device.{Device}
+use Rattle.wf_model.specs.declared.Context.{Context}
+use Rattle.wf_model.specs.declared.Source.{Source}
+use Rattle.wf_model.specs.Composition.{CoreState, with_cached}
+use Rattle.wf_core.specs.Fits.{ContextFits, Fits, HandlesFit, HasElements, Shows, StreamsFit, context_live, device_live, element_live, elements_of, has_owner, live, mask_live, of_kind, source_live}
+use Rattle.wf_core.proofs.Lists.{each_at, each_more, each_other, map_set}
+use Rattle.wf_core.proofs.Lookups.{rises_contexts}
+use Rattle.wf_core.proofs.Rises.{Rises, above_low}
+
+rising_more : (low high : ℕ) (others : List Live) (k : Kind) (key : ℕ) → IsRising low others high → IsRising low (others ++ live k (high + 1) key ∷ []) (high + 1)
+rising_more low high [] k key rising = (omega (arith, rising), omega arith)
+rising_more low high (l ∷ others) k key rising = (rising.0, rising_more l.handle high others k key rising.1)
+
+all_more : {A : Type 0} (p : A → Bool) (xs : List A) (y : A) → list_all p xs ≡ true → p y ≡ true → list_all p (xs ++ y ∷ []) ≡ true
+all_more p [] y all passes = rw passes refl
+all_more p (x ∷ xs) y all passes =
+    let parts = and_parts (p x) (list_all p xs) all in
+    and_from (p x) (list_all p (xs ++ y ∷ [])) parts.0 (all_more p xs y parts.1 passes)
+
+all_other : {A : Type 0} (p q : A → Bool) → ((x : A) → p x ≡ true → q x ≡ true) → (xs : List A) → list_all p xs ≡ true → list_all q xs ≡ true
+all_other p q from [] all = refl
+all_other p q from (x ∷ xs) all =
+    let parts = and_parts (p x) (list_all p xs) all in
+    and_from (q x) (list_all q xs) (from x parts.0) (all_other p q from xs parts.1)
+
+-- one more live handle passes a test or not
+more_passed : {A : Type 0} (p : A → Bool) (xs : List A) (y : A) → p y ≡ true → filter p (xs ++ y ∷ []) ≡ filter p xs ++ y ∷ []
+more_passed p xs y passes = filter-append p xs (y ∷ []) ∙ ap (λ b. filter p xs ++ cond b (y ∷ []) []) passes
+
+more_left : {A : Type 0} (p : A → Bool) (xs : List A) (y : A) → p y ≡ false → filter p (xs ++ y ∷ []) ≡ filter p xs
+more_left p xs y fails = filter-append p xs (y ∷ []) ∙ ap (λ b. filter p xs ++ cond b (y ∷ []) []) fails ∙ append-nil (filter p xs)
+
+module _ (core : CoreState) (store : StoreView) (fits : Fits core store) where
+  -- the handle that comes next
+  abbrev next : ℕ
+  next = store.made + 1
+
+  -- other kinds are as they were
+
+  other_kind : (k l : Kind) (key : ℕ) → same_kind k l ≡ false → of_kind l (with_other k key store).others ≡ of_kind l store.others
+  other_kind k l key other = more_left (λ (x : Live). same_kind x.kind l) store.others (live k next key) other
+
+  elements_stay : (k : Kind) (key : ℕ) → same_kind k kind.Element ≡ false → AllByRecursion (HasElements (with_other k key store).others) core.contexts
+  elements_stay k key other =
+      each_other (HasElements store.others) (HasElements (with_other k key store).others)
+      (λ c has. more_left (λ (x : Live). same_kind x.kind kind.Element && (x.key == c.handle)) store.others (live k next key) (rw other refl) ∙ has) core.contexts fits.handles.elements
+
+  owned_stay : (k : Kind) (key : ℕ) → same_kind k kind.Element ≡ false → list_all (has_owner core.contexts) (with_other k key store).others ≡ true
+  owned_stay k key other = all_more (has_owner core.contexts) store.others (live k next key) fits.handles.owned (rw other refl)
+
+  pub device_fits : Fits (record core { devices = core.devices ++ record { handle = next; register = None } ∷ [] }) (with_other kind.Device 0 store)
+  device_fits =
+      let new : Device = record { handle = next; register = None } in
+      record {
+        handles =
+            record {
+              rising = rising_more 0 store.made store.others kind.Device 0 fits.handles.rising;
+              devices = more_passed (λ (x : Live). same_kind x.kind kind.Device) store.others (device_live new) refl ∙ ap (λ (ls : List Live). ls ++ device_live new ∷ []) fits.handles.devices ∙ sym (map-append device_live core.devices (new ∷ []));
+              contexts = other_kind kind.Device kind.Context 0 refl ∙ fits.handles.contexts;
+              sources = other_kind kind.Device kind.Source 0 refl ∙ fits.handles.sources;
+              masks = other_kind kind.Device kind.Mask 0 refl ∙ fits.handles.masks;
+              elements = elements_stay kind.Device 0 refl;
+              owned = owned_stay kind.Device 0 refl;
+            };
+        streams = record { sources = fits.streams.sources; masks = fits.streams.masks; contexts = fits.streams.contexts };
+      }
+
+  pub source_fits : (s : Source) → s.handle ≡ next → Shows false store.streams s → Fits (record core { sources = core.sources ++ s ∷ [] }) (with_other kind.Source s.stream store)
+  source_fits s handle shows =
+      let new : source_live s ≡ live kind.Source next s.stream = ap (λ n. live kind.Source n s.stream) handle in
+      record {
+        handles =
+            record {
+              rising = rising_more 0 store.made store.others kind.Source s.stream fits.handles.rising;
+              devices = other_kind kind.Source kind.Device s.stream refl ∙ fits.handles.devices;
+              contexts = other_kind kind.Source kind.Context s.stream refl ∙ fits.handles.contexts;
+              sources =
+                  more_passed (λ (x : Live). same_kind x.kind kind.Source) store.others (live kind.Source next s.stream) refl
+                  ∙ ap (λ (ls : List Live). ls ++ live kind.Source next s.stream ∷ []) fits.handles.sources ∙ ap (λ (l : Live). map source_live core.sources ++ l ∷ []) (sym new) ∙ sym (map-append source_live core.sources (s ∷ []));
+              masks = other_kind kind.Source kind.Mask s.stream refl ∙ fits.handles.masks;
+              elements = elements_stay kind.Source s.stream refl;
+              owned = owned_stay kind.Source s.stream refl;
+            };
+        streams = record { sources = each_more (Shows false store.streams) core.sources s fits.streams.sources shows; masks = fits.streams.masks; contexts = fits.streams.contexts };
+      }
+
+  pub mask_fits : (s : Source) → s.handle ≡ next → Shows true store.streams s → Fits (record core { masks = core.masks ++ s ∷ [] }) (with_other kind.Mask s.stream store)
+  mask_fits s handle shows =
+      let new : mask_live s ≡ live kind.Mask next s.stream = ap (λ n. live kind.Mask n s.stream) handle in
+      record {
+        handles =
+            record {
+              rising = rising_more 0 store.made store.others kind.Mask s.stream fits.handles.rising;
+              devices = other_kind kind.Mask kind.Device s.stream refl ∙ fits.handles.devices;
+              contexts = other_kind kind.Mask kind.Context s.stream refl ∙ fits.handles.contexts;
+              sources = other_kind kind.Mask kind.Source s.stream refl ∙ fits.handles.sources;
+              masks =
+                  more_passed (λ (x : Live). same_kind x.kind kind.Mask) store.others (live kind.Mask next s.stream) refl
+                  ∙ ap (λ (ls : List Live). ls ++ live kind.Mask next s.stream ∷ []) fits.handles.masks ∙ ap (λ (l : Live). map mask_live core.masks ++ l ∷ []) (sym new) ∙ sym (map-append mask_live core.masks (s ∷ []));
+              elements = elements_stay kind.Mask s.stream refl;
+              owned = owned_stay kind.Mask s.stream refl;
+            };
+        streams = record { sources = fits.streams.sources; masks = each_more (Shows true store.streams) core.masks s fits.streams.masks shows; contexts = fits.streams.contexts };
+      }
