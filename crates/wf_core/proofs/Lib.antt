@@ -3,5 +3,9 @@ pub mod Lists
 pub mod Rises
 pub mod Fitting
 pub mod Lookups
+pub mod Owners
 pub mod Scenes
+pub mod Seeing
 pub mod Makings
+pub mod ElementCalls
+pub mod Keeping

@@ -1,6 +1,7 @@
 -- Lists that are mapped, filtered, appended to or changed in one place.
-use Rattle.std.proofs.Common.{◌≡◌, ℕ, zero, suc, Bool, true, false, cond, ◌==◌, ◌&&◌, ◌||◌, List, [], ◌∷◌, ◌++◌, map, filter, find, set, slice_get, option_map, Option, Some, None, is_some, refl, sym, ap, subst, ◌∙◌, arith}
+use Rattle.std.proofs.Common.{◌≡◌, ℕ, ◌+◌, add-zero, count_by, zero, suc, Bool, true, false, cond, ◌==◌, ◌&&◌, ◌||◌, List, [], ◌∷◌, ◌++◌, map, filter, find, set, slice_get, option_map, Option, Some, None, is_some, refl, sym, ap, subst, ◌∙◌, arith}
 use Rattle.std.specs.List.{list_any, AllByRecursion}
+use Rattle.std.proofs.lemmas.List.Sums.{sum_by-append}
 use Rattle.wf_words.specs.Keyed.{change}
 
 -- a change that keeps g of each element keeps g of all
@@ -63,3 +64,16 @@ each_more P (z ∷ xs) y all holds = (all.0, each_more P xs y all.1 holds)
 pub each_other : {A : Type 0} (P Q : A → Type 0) → ((x : A) → P x → Q x) → (xs : List A) → AllByRecursion P xs → AllByRecursion Q xs
 each_other P Q from [] all = tt
 each_other P Q from (z ∷ xs) all = (from z all.0, each_other P Q from xs all.1)
+
+-- what is found passes its test
+pub passes : {A : Type 0} (p : A → Bool) (xs : List A) (x : A) → find p xs ≡ Some x → p x ≡ true
+passes p [] x found = absurd cc
+passes p (y ∷ xs) x found = by_test (passes p xs x) (p y) refl found
+  where
+    by_test : (find p xs ≡ Some x → p x ≡ true) → (b : Bool) → p y ≡ b → cond b (Some y) (find p xs) ≡ Some x → p x ≡ true
+    by_test later true is at = let same : y ≡ x = cc in subst (λ (z : _). p z ≡ true) same is
+    by_test later false is at = later at
+
+-- one more that does not pass is not counted
+pub count_left : {A : Type 0} (p : A → Bool) (xs : List A) (y : A) → p y ≡ false → count_by p (xs ++ y ∷ []) ≡ count_by p xs
+count_left p xs y fails = sum_by-append (λ x. cond (p x) 1 0) xs (y ∷ []) ∙ rw fails (add-zero (count_by p xs))

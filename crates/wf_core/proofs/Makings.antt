@@ -1,5 +1,5 @@
 -- A new object fits with the handle that was made for it.
-use Rattle.std.proofs.Common.{◌≡◌, ◌≢◌, ℕ, zero, suc, ◌+◌, ◌<◌, ◌≤◌, Bool, true, false, cond, not, ◌==◌, ◌&&◌, ◌||◌, List, [], ◌∷◌, ◌++◌, map, filter, set, slice_get, Option, Some, None, IsTrue, IsSomeAnd, refl, sym, ap, subst, ◌∙◌, arith}
+use Rattle.std.proofs.Common.{◌≡◌, ◌≢◌, ℕ, zero, suc, ◌+◌, ◌<◌, ◌≤◌, Bool, true, false, cond, not, ◌==◌, ◌&&◌, ◌||◌, List, [], ◌∷◌, ◌++◌, map, filter, set, slice_get, Option, Some, None, IsTrue, IsSomeAnd, option_map, refl, sym, ap, subst, ◌∙◌, arith}
 use Rattle.std.specs.List.{list_all, list_any, AllByRecursion}
 use Rattle.std.proofs.lemmas.Bool.{and_parts, and_from, or_parts, eqb-true, eq-eqb, ne_eqb}
 use Rattle.std.proofs.lemmas.Bool.Decides.{nat_tests}
@@ -19,9 +19,9 @@ use Rattle.wf_model.specs.declared.Context.{Context}
 use Rattle.wf_model.specs.declared.Source.{Source}
 use Rattle.wf_model.specs.Composition.{CoreState, with_cached}
 use Rattle.wf_core.specs.Fits.{ContextFits, Fits, HandlesFit, HasElements, Shows, StreamsFit, context_live, device_live, element_live, elements_of, has_owner, live, mask_live, of_kind, source_live}
-use Rattle.wf_core.proofs.Lists.{each_at, each_more, each_other, map_set}
-use Rattle.wf_core.proofs.Lookups.{rises_contexts}
-use Rattle.wf_core.proofs.Rises.{Rises, above_low}
+use Rattle.wf_core.proofs.Lists.{each_at, each_more, each_other, each_set, map_set}
+use Rattle.wf_core.proofs.Lookups.{has_by_key, is_named, rises_contexts}
+use Rattle.wf_core.proofs.Rises.{each_replaced, none_over}
 
 rising_more : (low high : ℕ) (others : List Live) (k : Kind) (key : ℕ) → IsRising low others high → IsRising low (others ++ live k (high + 1) key ∷ []) (high + 1)
 rising_more low high [] k key rising = (omega (arith, rising), omega arith)
@@ -118,3 +118,48 @@ module _ (core : CoreState) (store : StoreView) (fits : Fits core store) where
             };
         streams = record { sources = fits.streams.sources; masks = each_more (Shows true store.streams) core.masks s fits.streams.masks shows; contexts = fits.streams.contexts };
       }
+
+  -- the next handle is that of no element
+  pub fresh : (c : Context) → HasElements store.others c → cached.has_element next c.cached ≡ false
+  fresh c has =
+      has_by_key core store fits.handles next c has
+      ∙ ap (λ (o : Option ℕ). is_named o c.handle) (ap (option_map (λ (l : Live). l.key)) (none_over (λ (l : Live). same_kind l.kind kind.Element) 0 store.made next store.others fits.handles.rising (omega arith)))
+
+  -- another element in the context at a place
+  pub element_fits : (place : ℕ) (c : Context) → slice_get core.contexts place ≡ Some c → Fits (record core { contexts = set core.contexts place (record c { cached = cached.add next c.cached }) }) (with_other kind.Element c.handle store)
+  element_fits place c at =
+      let grown : Context = record c { cached = cached.add next c.cached } in
+      let new : Live = live kind.Element next c.handle in
+      let has = each_at (HasElements store.others) core.contexts place c fits.handles.elements at in
+      let more = map-append handle_of c.cached.elements (new_element next ∷ []) in
+      let fit = each_at (ContextFits store.streams) core.contexts place c fits.streams.contexts at in
+      let named : map (λ (y : Context). y.handle) (set core.contexts place grown) ≡ map (λ (y : Context). y.handle) core.contexts = map_set (λ (y : Context). y.handle) core.contexts place c grown at refl in
+      record {
+        handles =
+            record {
+              rising = rising_more 0 store.made store.others kind.Element c.handle fits.handles.rising;
+              devices = other_kind kind.Element kind.Device c.handle refl ∙ fits.handles.devices;
+              contexts = other_kind kind.Element kind.Context c.handle refl ∙ fits.handles.contexts ∙ sym (map_set context_live core.contexts place c grown at refl);
+              sources = other_kind kind.Element kind.Source c.handle refl ∙ fits.handles.sources;
+              masks = other_kind kind.Element kind.Mask c.handle refl ∙ fits.handles.masks;
+              elements =
+                  each_replaced (λ (y : Context). y.handle) (HasElements store.others) (HasElements (with_other kind.Element c.handle store).others) 0 core.contexts place c grown (rises_contexts core store fits.handles) at
+                  (λ z other held. more_left (λ (l : Live). same_kind l.kind kind.Element && (l.key == z.handle)) store.others new (ne_eqb c.handle z.handle (λ same. other (sym same))) ∙ held) fits.handles.elements
+                  (more_passed (λ (l : Live). same_kind l.kind kind.Element && (l.key == c.handle)) store.others new (eq-eqb c.handle c.handle refl)
+                  ∙ ap (λ (ls : List Live). ls ++ new ∷ []) has ∙ sym (ap (map (element_live c.handle)) more ∙ map-append (element_live c.handle) (handles c.cached.elements) (next ∷ [])));
+              owned =
+                  subst (λ (hs : List ℕ). list_all (λ (l : Live). not (same_kind l.kind kind.Element) || is_in l.key hs) (with_other kind.Element c.handle store).others ≡ true) (sym named)
+                  (all_more (has_owner core.contexts) store.others new fits.handles.owned (stands core.contexts place at));
+            };
+        streams =
+            record {
+              sources = fits.streams.sources;
+              masks = fits.streams.masks;
+              contexts = each_set (ContextFits store.streams) core.contexts place grown fits.streams.contexts (record { target = fit.target; size = fit.size; layers = fit.layers });
+            };
+      }
+    where
+      stands : (cs : List Context) (i : ℕ) → slice_get cs i ≡ Some c → is_in c.handle (map (λ (y : Context). y.handle) cs) ≡ true
+      stands [] i here = absurd cc
+      stands (y ∷ cs) zero here = (let same : y ≡ c = cc in rw (eq-eqb y.handle c.handle (ap (λ (z : Context). z.handle) same)) refl)
+      stands (y ∷ cs) (suc i) here = (let later = stands cs i here in elim (y.handle == c.handle) as (λ b. (b || is_in c.handle (map (λ (z : Context). z.handle) cs)) ≡ true) [ true ↦ refl | false ↦ later ])

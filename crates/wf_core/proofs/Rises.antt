@@ -1,11 +1,12 @@
 -- Lists in which a number of each element rises, so that no two elements have one: what is found, and what a change leaves.
-use Rattle.std.proofs.Common.{length, nat_lt, not, ◌≡◌, ℕ, zero, suc, ◌+◌, ◌<◌, ◌≤◌, Bool, true, false, cond, ◌==◌, ◌&&◌, List, [], ◌∷◌, ◌++◌, map, filter, find, set, slice_get, option_map, option_and_then, position, Option, Some, None, refl, sym, ap, ◌∙◌, arith, subst}
-use Rattle.std.specs.List.{position_or_len}
+use Rattle.std.proofs.Common.{◌≢◌, length, nat_lt, not, ◌≡◌, ℕ, zero, suc, ◌+◌, ◌<◌, ◌≤◌, Bool, true, false, cond, ◌==◌, ◌&&◌, List, [], ◌∷◌, ◌++◌, map, filter, find, set, slice_get, option_map, option_and_then, position, Option, Some, None, refl, sym, ap, ◌∙◌, arith, subst}
+use Rattle.std.specs.List.{AllByRecursion, position_or_len}
 use Rattle.std.proofs.Math.Numerals.{one-add}
 use Rattle.std.proofs.lemmas.Bool.{eq-eqb, eqb-true, ltb-true, ltb-false}
 use Rattle.std.proofs.lemmas.Bool.Decides.{nat_tests}
 use Rattle.wf_words.specs.Keyed.{at_key, change}
 use Rattle.wf_life.specs.Handles.{Live, IsRising}
+use Rattle.wf_stream.specs.Streams.{KeptStream, IsNumbered}
 
 -- the numbers rise from above `low`
 abbrev pub Rises : {A : Type 0} → (A → ℕ) → ℕ → List A → Type 0
@@ -68,6 +69,21 @@ found_at f low (y ∷ xs) (suc i) x rises at =
     let apart : (f y == f x) ≡ false = grind (arith, nat_tests, over) in
     rw apart (found_at f (f y) xs i x rises.1 at)
 
+-- what is found has a number above the lowest one, and is found by its number too
+pub found_above : {A : Type 0} (f : A → ℕ) (p : A → Bool) (low : ℕ) (xs : List A) (x : A) → Rises f low xs → find p xs ≡ Some x → (low < f x) × (at_key f (f x) xs ≡ Some x)
+found_above f p low [] x rises found = absurd cc
+found_above f p low (y ∷ xs) x rises found = by_test (found_above f p (f y) xs x rises.1) (p y) found
+  where
+    by_test : (find p xs ≡ Some x → (f y < f x) × (at_key f (f x) xs ≡ Some x)) → (b : Bool) → cond b (Some y) (find p xs) ≡ Some x → (low < f x) × (at_key f (f x) (y ∷ xs) ≡ Some x)
+    by_test later true at =
+        let same : y ≡ x = cc in
+        let here : (f y == f x) ≡ true = eq-eqb (f y) (f x) (ap f same) in
+        (subst (λ (z : _). low < f z) same rises.0, rw here at)
+    by_test later false at =
+        let there = later at in
+        let apart : (f y == f x) ≡ false = grind (arith, nat_tests, there.0) in
+        (omega (arith, rises.0, there.0), rw apart there.1)
+
 -- nothing is changed at a number up to the lowest one
 pub change_below : {A : Type 0} (f : A → ℕ) (h : A → A) (low n : ℕ) (xs : List A) → Rises f low xs → n ≤ low → change f n h xs ≡ xs
 change_below f h low n [] rises le = refl
@@ -117,3 +133,33 @@ get_position p xs = by_test (nat_lt (position_or_len p xs) (length xs)) refl
 pub rises_live : (low high : ℕ) (live : List Live) → IsRising low live high → Rises (λ l. l.handle) low live
 rises_live low high [] rising = tt
 rises_live low high (l ∷ live) rising = (rising.0, rises_live l.handle high live rising.1)
+
+pub rises_streams : (low high : ℕ) (streams : List KeptStream) → IsNumbered low streams high → Rises (λ s. s.number) low streams
+rises_streams low high [] rising = tt
+rises_streams low high (s ∷ streams) rising = (rising.0, rises_streams s.number high streams rising.1)
+
+-- no handle is above the highest
+pub none_over : (q : Live → Bool) (low high n : ℕ) (live : List Live) → IsRising low live high → high < n → find (λ l. (l.handle == n) && q l) live ≡ None
+none_over q low high n [] rising over = refl
+none_over q low high n (l ∷ live) rising over =
+    let under : l.handle ≤ high = at_most l.handle high live rising.1 in
+    let apart : (l.handle == n) ≡ false = grind (arith, nat_tests, under, over) in
+    rw apart (none_over q l.handle high n live rising.1 over)
+  where
+    at_most : (low high : ℕ) (live : List Live) → IsRising low live high → low ≤ high
+    at_most low high [] rising = rising
+    at_most low high (l ∷ live) rising = omega (arith, rising.0, at_most l.handle high live rising.1)
+
+-- what holds of all still holds where the one at a place is replaced, and what is changed is told by its number
+pub each_replaced : {A : Type 0} (f : A → ℕ) (P Q : A → Type 0) (low : ℕ) (xs : List A) (i : ℕ) (x y : A) → Rises f low xs → slice_get xs i ≡ Some x → ((z : A) → f z ≢ f x → P z → Q z) → AllByRecursion P xs → Q y → AllByRecursion Q (set xs i y)
+each_replaced f P Q low [] i x y rises at from all holds = tt
+each_replaced f P Q low (z ∷ xs) zero x y rises at from all holds =
+    let same : z ≡ x = cc in
+    (holds, each_over (f z) xs rises.1 (λ w over. from w (λ equal. absurd (omega (arith, over, equal, ap f same)))) all.1)
+  where
+    each_over : (low : ℕ) (ws : List _) → Rises f low ws → ((w : _) → low < f w → P w → Q w) → AllByRecursion P ws → AllByRecursion Q ws
+    each_over low [] up each ps = tt
+    each_over low (w ∷ ws) up each ps = (each w up.0 ps.0, each_over (f w) ws up.1 (λ v over. each v (omega (arith, over, up.0))) ps.1)
+each_replaced f P Q low (z ∷ xs) (suc i) x y rises at from all holds =
+    let over : f z < f x = above_low f (f z) xs i x rises.1 at in
+    (from z (λ equal. absurd (omega (arith, over, equal))) all.0, each_replaced f P Q (f z) xs i x y rises.1 at from all.1 holds)

@@ -3,7 +3,7 @@ use Rattle.std.proofs.Common.{◌≡◌, ℕ, ◌+◌, Bool, true, false, cond, 
 use Rattle.std.specs.List.{list_all, AllByRecursion}
 use Rattle.std.proofs.lemmas.Bool.{and_parts, eqb-true}
 use Rattle.wf_words.specs.Keyed.{change, is_in}
-use Rattle.wf_words.specs.Refusals.{◌>>=◌, found_or, left_by}
+use Rattle.wf_words.specs.Refusals.{◌>>=◌, found_or, left_by, refuse_if}
 use Rattle.wf_life.specs.declared.Kind.TheVariants as kind
 use Rattle.wf_life.specs.Handles.{Live, same_kind}
 use Rattle.wf_stream.specs.Streams.{StoreView}
@@ -12,7 +12,12 @@ use Rattle.wf_scene.specs.declared.attributes.Refused.TheVariants as refused
 use Rattle.wf_scene.specs.declared.attributes.ContextAttr.{ContextAttr}
 use Rattle.wf_scene.specs.declared.attributes.ContextAttr.TheVariants as context_attr
 use Rattle.wf_scene.specs.Values.{component, colour_of, turn_of}
-use Rattle.wf_scene.specs.Cached.{CachedScene, handles, has_element}
+use Rattle.wf_scene.specs.declared.attributes.ElementAttr.{ElementAttr}
+use Rattle.wf_scene.specs.declared.attributes.ElementAttr.TheVariants as attr
+use Rattle.wf_scene.specs.declared.element.Element.{Element}
+use Rattle.wf_scene.specs.Elements.{change_of}
+use Rattle.wf_scene.specs.Order.{has_no_room, inserted, is_base, without}
+use Rattle.wf_scene.specs.Cached.{CachedScene, handle_of, handles, has_element}
 use Rattle.wf_scene.specs.Cached as cached
 use Rattle.wf_calls.specs.declared.code.Refusal.{Refusal}
 use Rattle.wf_calls.specs.declared.code.Code.TheVariants as code
@@ -23,61 +28,10 @@ use Rattle.wf_model.specs.Core.{by_scene, context_set}
 use Rattle.wf_core.specs.Sides.{side_of}
 use Rattle.wf_core.specs.Fits.{ContextFits, Fits, HandlesFit, HasElements, StreamsFit, context_live, has_owner}
 use Rattle.wf_core.specs.Owners.{at_place, owned_context, owning_context}
-use Rattle.wf_core.proofs.Lists.{each_at, each_set, map_set}
+use Rattle.wf_core.proofs.Owners.{joined, owned_parts}
+use Rattle.wf_core.proofs.Lists.{each_at, each_set, map_change, map_set, passes}
 use Rattle.wf_core.proofs.Lookups.{rises_contexts}
 use Rattle.wf_core.proofs.Rises.{change_at}
-
--- steps one after another, joined otherwise
-joined : {A B C E : Type 0} (m : Result A E) (f : A → Result B E) (k : B → Result C E) → (m >>= (λ x. f x >>= k)) ≡ ((m >>= f) >>= k)
-joined (Ok x) f k = refl
-joined (Err e) f k = refl
-
--- what is found passes its test
-passes : {A : Type 0} (p : A → Bool) (xs : List A) (x : A) → find p xs ≡ Some x → p x ≡ true
-passes p [] x found = absurd cc
-passes p (y ∷ xs) x found = by_test (passes p xs x) (p y) refl found
-  where
-    by_test : (find p xs ≡ Some x → p x ≡ true) → (b : Bool) → p y ≡ b → cond b (Some y) (find p xs) ≡ Some x → p x ≡ true
-    by_test later true is at = let same : y ≡ x = cc in subst (λ (z : _). p z ≡ true) same is
-    by_test later false is at = later at
-
--- a call on a cached scene that was carried out
-pub carried : {m : Result CachedScene Refused} {s : CachedScene} (o : Result (Unit {0}) Refused) (r : Result (Unit {0}) Refusal) (u : Unit {0}) → m ≡ left_by o s → r ≡ by_scene o → r ≡ Ok u → m ≡ Ok s
-carried (Ok x) r u case scene was = case
-carried (Err refused.BadAttribute) r u case scene was = (let no = sym scene ∙ was in absurd cc)
-carried (Err refused.IllegalArgument) r u case scene was = (let no = sym scene ∙ was in absurd cc)
-carried (Err refused.Limit) r u case scene was = (let no = sym scene ∙ was in absurd cc)
-
--- the context at a place that was found
-pub owned : (d h place : ℕ) (core : CoreState) (store : StoreView) (c : Context) → at_place (Ok place) core.contexts ≡ owned_context d h (side_of core store) → slice_get core.contexts place ≡ Some c
-    → owned_context d h (side_of core store) ≡ Ok c
-owned d h place core store c is at = sym is ∙ ap (found code.BadHandle) at
-
-pub owning : (d e place : ℕ) (core : CoreState) (store : StoreView) (c : Context) → at_place (Ok place) core.contexts ≡ owning_context d e (side_of core store) → slice_get core.contexts place ≡ Some c
-    → owning_context d e (side_of core store) ≡ Ok c
-owning d e place core store c is at = sym is ∙ ap (found code.BadHandle) at
-
-found_is : {A : Type 0} (o : Option A) (x : A) → found code.BadHandle o ≡ Ok x → o ≡ Some x
-found_is None x is = absurd cc
-found_is (Some y) x is = cc
-
--- it has the handle and the device that the call names
-
-behind_device : {A : Type 0} {B : Type 0} (m : Result B Refusal) (o : Option A) (x : A) → (m >>= (λ _. found code.BadHandle o)) ≡ Ok x → o ≡ Some x
-behind_device (Ok y) o x is = found_is o x is
-behind_device (Err e) o x is = absurd cc
-
-pub owned_parts : (d h : ℕ) (w : CoreSide) (c : Context) → owned_context d h w ≡ Ok c → (c.handle ≡ h) × (c.device ≡ d)
-owned_parts d h w c is =
-    let at = behind_device (device d w) (find (λ (x : Context). (x.handle == h) && (x.device == d)) w.core.contexts) c is in
-    let parts = and_parts (c.handle == h) (c.device == d) (passes (λ (x : Context). (x.handle == h) && (x.device == d)) w.core.contexts c at) in
-    (eqb-true c.handle h parts.0, eqb-true c.device d parts.1)
-
-pub owning_parts : (d e : ℕ) (w : CoreSide) (c : Context) → owning_context d e w ≡ Ok c → (c.device ≡ d) × (has_element e c.cached ≡ true)
-owning_parts d e w c is =
-    let at = behind_device (device d w) (find (λ (x : Context). (x.device == d) && has_element e x.cached) w.core.contexts) c is in
-    let parts = and_parts (c.device == d) (has_element e c.cached) (passes (λ (x : Context). (x.device == d) && has_element e x.cached) w.core.contexts c at) in
-    (eqb-true c.device d parts.0, parts.1)
 
 -- one context replaced by another of the same handles and streams
 module _ (core : CoreState) (store : StoreView) (fits : Fits core store) (place : ℕ) (c : Context) (at : slice_get core.contexts place ≡ Some c) where
@@ -137,19 +91,11 @@ module _ (core : CoreState) (store : StoreView) (fits : Fits core store) (place 
       left : {k l : CoreState} → k ≡ l → ◌≡◌ {A = Outcome CoreSide} (Ok (record (side_of core store) { core = k }, 0)) (Ok (record (side_of core store) { core = l }, 0))
       left is = ap (λ (k : CoreState). (let done : CoreSide × ℕ = (record (side_of core store) { core = k }, 0) in Ok done)) is
 
--- what sets nothing of the elements keeps their handles
-
--- the same elements and size
-abbrev Keeps : CachedScene → CachedScene → Type 0
-Keeps c s = (handles s.elements ≡ handles c.elements) × (s.size ≡ c.size)
-
-from_value : {A : Type 0} (o : Option A) (f : A → CachedScene) (c s : CachedScene) → ((x : A) → Keeps c (f x)) → (found_or refused.IllegalArgument o >>= (λ x. Ok (f x))) ≡ Ok s → Keeps c s
-from_value None f c s keeps is = absurd cc
-from_value (Some x) f c s keeps is = let same : f x ≡ s = cc in subst (Keeps c) same (keeps x)
-
-pub context_keeps : (attr : ContextAttr) (value : List ℤ) (c s : CachedScene) → cached.set_context attr value c ≡ Ok s → Keeps c s
-context_keeps context_attr.Rotation value c s is = from_value (turn_of (component value 0)) (λ turn. record c { turn = turn }) c s (λ x. (refl, refl)) is
-context_keeps context_attr.Background value c s is = from_value (colour_of value) (λ colour. record c { background = colour }) c s (λ x. (refl, refl)) is
-context_keeps context_attr.Width value c s is = absurd cc
-context_keeps context_attr.Height value c s is = absurd cc
-context_keeps context_attr.Lowest value c s is = absurd cc
+  -- a call that sets something of the scene of an element's context
+  pub set_here : (call : CachedScene → Result CachedScene Refused) (s : CachedScene) → call c.cached ≡ Ok s
+      → (let set : CachedScene → Outcome CoreSide = λ scene. Ok (record (side_of core store) { core = change_context c.handle (with_cached scene) core }, 0) in by_scene (call c.cached) >>= set)
+      ≡ (let done : CoreSide × ℕ = (side_of (placed (record c { cached = s })) store, 0) in Ok done)
+  set_here call s called =
+      let set : CachedScene → Outcome CoreSide = λ scene. Ok (record (side_of core store) { core = change_context c.handle (with_cached scene) core }, 0) in
+      ap (λ (m : Result CachedScene Refused). by_scene m >>= set) called
+      ∙ ap (λ (k : CoreState). (let done : CoreSide × ℕ = (record (side_of core store) { core = k }, 0) in Ok done)) (placed_is (with_cached s))

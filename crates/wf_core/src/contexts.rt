@@ -1,8 +1,9 @@
 //! Contexts and their attributes.
 
 ghost use Rattle.std.specs.Prelude.{◌≡◌, OnErr};
+ghost use Rattle.wf_model.specs.Outcome.{refusal};
 ghost use Rattle.wf_model.specs.Composition.{core_answer};
-ghost use Rattle.wf_model.specs.Core.{by_scene, context_get, context_set};
+ghost use Rattle.wf_model.specs.Core.{by_scene, context_get, context_set, refusal_code};
 ghost use Rattle.wf_core.specs.Sides.{side_of, done_by};
 ghost use Rattle.wf_core.specs.Fits.{Fits};
 
@@ -12,15 +13,24 @@ use wf_calls::{Code, Refusal, Reply};
 use wf_scene::{ContextAttr, Refused};
 use wf_stream::Store;
 
-/// The answer of a call on a cached scene: its code for that of the scene.
-pub(crate) fn by_scene<T>(done: Result<T, Refused>) -> Result<T, Refusal>
+/// The refusal of a call by its cached scene.
+pub(crate) fn scene_refusal(refused: Refused) -> Refusal
+    ensures { result ≡ refusal (refusal_code refused) }
+{
+    match refused {
+        Refused::BadAttribute => refusal(Code::BadAttribute),
+        Refused::IllegalArgument => refusal(Code::IllegalArgument),
+        Refused::Limit => refusal(Code::Limit),
+    }
+}
+
+/// The number that a cached scene answers, or its refusal.
+pub(crate) fn by_scene(done: Result<u32, Refused>) -> Result<u32, Refusal>
     ensures { result ≡ by_scene done }
 {
     match done {
-        Ok(value) => Ok(value),
-        Err(Refused::BadAttribute) => Err(refusal(Code::BadAttribute)),
-        Err(Refused::IllegalArgument) => Err(refusal(Code::IllegalArgument)),
-        Err(Refused::Limit) => Err(refusal(Code::Limit)),
+        Ok(number) => Ok(number),
+        Err(refused) => Err(scene_refusal(refused)),
     }
 }
 
@@ -39,7 +49,9 @@ impl Core {
         ensures fits { Fits self.new store.now }
     {
         let place = self.context_place(store, device, context)?;
-        by_scene(self.contexts[place].cached.set_context(attr, value))?;
+        if let Err(refused) = self.contexts[place].cached.set_context(attr, value) {
+            return Err(scene_refusal(refused));
+        }
         Ok(0)
     }
 

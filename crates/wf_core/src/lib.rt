@@ -5,9 +5,12 @@ mod answers;
 mod composition;
 mod contexts;
 mod devices;
+mod elements;
 mod finding;
 mod making;
 mod registers;
+mod sources;
+mod streams;
 
 pub use composition::Core;
 pub use wf_words::NoMemory;
