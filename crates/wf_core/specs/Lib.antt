@@ -2,4 +2,5 @@
 pub mod Sides
 pub mod Fits
 pub mod Owners
+pub mod Sights
 pub mod Inside

@@ -56,6 +56,30 @@ impl Core {
         by_scene(self.contexts[place].cached.get(element, attr, index))
     }
 
+    fn try_element_set(
+        &mut self,
+        store: &Store,
+        device: u32,
+        element: u32,
+        attr: ElementAttr,
+        value: [i64; 4],
+    ) -> Result<u32, Refusal>
+        requires { Fits self.old store.now }
+        ensures case { element_set device element attr value (side_of self.old store.now) ≡ done_by result (side_of self.new store.now) }
+        ensures refused { OnErr result (self.new ≡ self.old) }
+        ensures fits { Fits self.new store.now }
+    {
+        let place = self.element_place(store, device, element)?;
+        let owner = self.contexts[place].handle;
+        if let Err(refused) = self.check_link(store, device, owner, attr, value) {
+            return Err(refused);
+        }
+        if let Err(refused) = self.contexts[place].cached.set(element, attr, value) {
+            return Err(scene_refusal(refused));
+        }
+        Ok(0)
+    }
+
     /// A handle is 0 or that of a live element of the device.
     fn is_element_or_0(&self, store: &Store, device: u32, handle: u32) -> bool
         requires { Fits self.now store.now }
@@ -129,6 +153,25 @@ impl Core {
         ensures fits { Fits self.new store.new }
     {
         let done = self.try_element_new(store, device, context);
+        self.answer(store, device, done)
+    }
+
+    /// Sets an attribute of an element. BadHandle is a source or a mask that is neither 0 nor one of the device;
+    /// IllegalArgument one of another context, or a number outside the attribute's range.
+    pub fn element_set(
+        &mut self,
+        store: &mut Store,
+        device: u32,
+        element: u32,
+        attr: ElementAttr,
+        value: [i64; 4],
+    ) -> Reply
+        requires { Fits self.old store.old }
+        ensures step { let before = side_of self.old store.old in core_answer device before (element_set device element attr value before) ≡ (side_of self.new store.new, result) }
+        ensures kept { store.new ≡ store.old }
+        ensures fits { Fits self.new store.new }
+    {
+        let done = self.try_element_set(store, device, element, attr, value);
         self.answer(store, device, done)
     }
 

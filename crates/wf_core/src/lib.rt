@@ -7,6 +7,7 @@ mod contexts;
 mod devices;
 mod elements;
 mod finding;
+mod links;
 mod making;
 mod registers;
 mod sources;
