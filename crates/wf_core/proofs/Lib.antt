@@ -9,3 +9,6 @@ pub mod Seeing
 pub mod Makings
 pub mod ElementCalls
 pub mod Keeping
+pub mod Faults
+pub mod Layering
+pub mod Committing

@@ -77,3 +77,11 @@ passes p (y ∷ xs) x found = by_test (passes p xs x) (p y) refl found
 -- one more that does not pass is not counted
 pub count_left : {A : Type 0} (p : A → Bool) (xs : List A) (y : A) → p y ≡ false → count_by p (xs ++ y ∷ []) ≡ count_by p xs
 count_left p xs y fails = sum_by-append (λ x. cond (p x) 1 0) xs (y ∷ []) ∙ rw fails (add-zero (count_by p xs))
+
+pub each_found : {A : Type 0} (P : A → Type 0) (p : A → Bool) (xs : List A) (x : A) → AllByRecursion P xs → find p xs ≡ Some x → P x
+each_found P p [] x all found = absurd cc
+each_found P p (y ∷ xs) x all found = by_test (each_found P p xs x all.1) (p y) found
+  where
+    by_test : (find p xs ≡ Some x → P x) → (b : Bool) → cond b (Some y) (find p xs) ≡ Some x → P x
+    by_test later true at = let same : y ≡ x = cc in subst P same all.0
+    by_test later false at = later at

@@ -10,7 +10,7 @@ use Rattle.wf_calls.specs.declared.code.Code.TheVariants as code
 use Rattle.wf_words.specs.Keyed.{at_key}
 use Rattle.wf_model.specs.declared.Context.{Context}
 use Rattle.wf_model.specs.declared.Device.{Device}
-use Rattle.wf_model.specs.Outcome.{found}
+use Rattle.wf_model.specs.Outcome.{Outcome, found}
 use Rattle.wf_model.specs.Composition.{CoreSide, CoreState, device, context, element_context}
 use Rattle.wf_core.specs.Sides.{side_of}
 use Rattle.wf_core.specs.Owners.{at_place, of_device, owned_context, owning_context}
@@ -78,3 +78,7 @@ some_owned d h place core store is less = let x = within core.contexts place les
 pub standing : (view core : CoreState) (place : ℕ) (x : Context) → view ≡ core → place < length core.contexts → x ≡ slice_index_or view.contexts place x → slice_get core.contexts place ≡ Some x
 standing view core place x is less read =
     slice_get_read core.contexts (length core.contexts) place x refl less (read ∙ ap (λ (cs : List Context). slice_index_or cs place x) (ap (λ (k : CoreState). k.contexts) is))
+
+-- a call that goes on in the context that it names
+pub in_owned : (d h : ℕ) (w : CoreSide) (c : Context) (after : Context → Outcome CoreSide) → owned_context d h w ≡ Ok c → (device d w >>= (λ _. context d h w >>= after)) ≡ after c
+in_owned d h w c after own = joined (device d w) (λ _. context d h w) after ∙ ap (λ (m : Result Context Refusal). m >>= after) own

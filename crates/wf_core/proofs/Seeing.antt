@@ -25,7 +25,7 @@ use Rattle.wf_core.proofs.Lists.{count_left, passes}
 use Rattle.wf_core.proofs.Owners.{both}
 use Rattle.wf_core.proofs.Rises.{found_above, rises_streams}
 
-has_number : (n : ℕ) (streams : List KeptStream) (s : KeptStream) → stream_at n streams ≡ Some s → s.number ≡ n
+pub has_number : (n : ℕ) (streams : List KeptStream) (s : KeptStream) → stream_at n streams ≡ Some s → s.number ≡ n
 has_number n streams s found = eqb-true s.number n (passes (λ (x : KeptStream). x.number == n) streams s found)
 
 -- the stream of a number shows what its buffers are for

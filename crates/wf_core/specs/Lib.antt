@@ -3,4 +3,5 @@ pub mod Sides
 pub mod Fits
 pub mod Owners
 pub mod Sights
+pub mod Shows
 pub mod Inside

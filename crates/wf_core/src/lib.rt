@@ -2,6 +2,7 @@
 #![tactic(auto)]
 
 mod answers;
+mod commits;
 mod composition;
 mod contexts;
 mod devices;
@@ -10,8 +11,10 @@ mod finding;
 mod links;
 mod making;
 mod registers;
+mod shown;
 mod sources;
 mod streams;
 
 pub use composition::Core;
+pub use shown::Shown;
 pub use wf_words::NoMemory;

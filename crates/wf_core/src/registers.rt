@@ -14,7 +14,7 @@ use wf_model::Device;
 use wf_stream::Store;
 
 /// The device of a handle.
-fn device_at(devices: &[Device], handle: u32) -> Option<Device>
+pub(crate) fn device_at(devices: &[Device], handle: u32) -> Option<Device>
     ensures { result ≡ at_key (λ x. x.handle) handle devices.now }
 {
     for device in devices {
