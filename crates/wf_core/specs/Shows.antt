@@ -25,5 +25,8 @@ abbrev pub next_context : ℕ → List Context → Option Context
 next_context after contexts = find (λ c. c.active && nat_lt after c.handle) contexts
 
 -- its handle, and what it shows
+abbrev pub next_of : Context → ℕ × Shown
+next_of c = (c.handle, shown_of c)
+
 abbrev pub next_shown : ℕ → CoreState → Option (ℕ × Shown)
-next_shown after core = option_map (λ c. (c.handle, shown_of c)) (next_context after core.contexts)
+next_shown after core = option_map next_of (next_context after core.contexts)

@@ -20,6 +20,12 @@ abbrev pub seen_key : List KeptStream → Option ℕ → Option Seen
 seen_key streams None = None
 seen_key streams (Some number) = seen_stream (stream_at number streams)
 
+-- what the stream of a screen shows, or the refusal of a port that was not declared
+abbrev pub screen_seen : Option ℕ → List KeptStream → Result Seen Refusal
+screen_seen screen streams = do
+  number ← found code.IllegalArgument screen
+  found code.IllegalArgument (seen_stream (stream_at number streams))
+
 -- what is seen behind the handles in a store
 abbrev pub sight_in : StoreView → Sight
 sight_in store =

@@ -21,6 +21,7 @@ pub(crate) const MOST_SOURCES: usize = 256;
 /// its cached scene. All room is taken when they are made.
 #[derive(Drop)]
 pub struct Core {
+    pub(crate) alloc: Global,
     pub(crate) devices: Vec<Device>,
     pub(crate) contexts: Vec<Context>,
     pub(crate) sources: Vec<Source>,
@@ -45,6 +46,7 @@ impl Core {
         ensures { IfOk result (λ made. made ≡ no_objects) }
     {
         Ok(Core {
+            alloc,
             devices: Vec::with_capacity(alloc, MOST_DEVICES)?,
             contexts: Vec::with_capacity(alloc, MOST_CONTEXTS)?,
             sources: Vec::with_capacity(alloc, MOST_SOURCES)?,

@@ -1,11 +1,12 @@
 //! What contexts show.
 
-ghost use Rattle.std.specs.Prelude.{◌≡◌, IsSome};
+ghost use Rattle.std.specs.Prelude.{◌≡◌, IsSome, option_map};
 ghost use Rattle.wf_words.specs.Keyed.{at_key};
 ghost use Rattle.wf_stream.specs.Streams.{StoreView};
 ghost use Rattle.wf_model.specs.Composition.{change_register, recorded};
 ghost use Rattle.wf_core.specs.Fits.{Fits};
-ghost use Rattle.wf_core.specs.Shows.{next_shown, shown_of, shown_context};
+ghost use Rattle.wf_core.specs.Owners.{of_device};
+ghost use Rattle.wf_core.specs.Shows.{next_context, next_of, next_shown, shown_of, shown_context};
 
 use crate::composition::Core;
 use crate::registers::{device_at, record_in};
@@ -32,6 +33,30 @@ fn shown_of(context: &Context) -> Shown
     }
 }
 
+/// What the context of a device shows.
+fn shown_in(contexts: &[Context], device: u32, handle: u32) -> Option<Shown>
+    ensures { result ≡ option_map shown_of (of_device device handle contexts.now) }
+{
+    for context in contexts {
+        if context.handle == handle && context.device == device {
+            return Some(shown_of(context));
+        }
+    }
+    None
+}
+
+/// The first active context above a handle, and what it shows.
+fn next_in(contexts: &[Context], after: u32) -> Option<(u32, Shown)>
+    ensures { result ≡ option_map next_of (next_context after contexts.now) }
+{
+    for context in contexts {
+        if context.active && context.handle > after {
+            return Some((context.handle, shown_of(context)));
+        }
+    }
+    None
+}
+
 impl Core {
     /// What a context shows. BadDevice is no live device, BadHandle no context of it.
     pub fn context(&self, device: u32, context: u32) -> Result<Shown, Code>
@@ -40,24 +65,14 @@ impl Core {
         if device_at(&self.devices, device).is_none() {
             return Err(Code::BadDevice);
         }
-        for other in &self.contexts {
-            if other.handle == context && other.device == device {
-                return Ok(shown_of(other));
-            }
-        }
-        Err(Code::BadHandle)
+        shown_in(&self.contexts, device, context).ok_or(Code::BadHandle)
     }
 
     /// The active context with the least handle above another, of any device, and what it shows.
     pub fn next(&self, after: u32) -> Option<(u32, Shown)>
         ensures { result ≡ next_shown after self.now }
     {
-        for context in &self.contexts {
-            if context.active && context.handle > after {
-                return Some((context.handle, shown_of(context)));
-            }
-        }
-        None
+        next_in(&self.contexts, after)
     }
 
     /// Offers a code to the register of a live device, which takes it where it is empty.
