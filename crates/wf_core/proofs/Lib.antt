@@ -12,3 +12,4 @@ pub mod Keeping
 pub mod Faults
 pub mod Layering
 pub mod Committing
+pub mod Screens

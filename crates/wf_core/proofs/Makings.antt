@@ -21,7 +21,7 @@ use Rattle.wf_model.specs.Composition.{CoreState, with_cached}
 use Rattle.wf_core.specs.Fits.{ContextFits, Fits, HandlesFit, HasElements, Shows, StreamsFit, context_live, device_live, element_live, elements_of, has_owner, live, mask_live, of_kind, source_live}
 use Rattle.wf_core.proofs.Lists.{each_at, each_more, each_other, each_set, map_set}
 use Rattle.wf_core.proofs.Lookups.{has_by_key, is_named, rises_contexts}
-use Rattle.wf_core.proofs.Rises.{each_replaced, none_over}
+use Rattle.wf_core.proofs.Rises.{Rises, each_replaced, none_over}
 
 rising_more : (low high : ℕ) (others : List Live) (k : Kind) (key : ℕ) → IsRising low others high → IsRising low (others ++ live k (high + 1) key ∷ []) (high + 1)
 rising_more low high [] k key rising = (omega (arith, rising), omega arith)
@@ -45,6 +45,10 @@ more_passed p xs y passes = filter-append p xs (y ∷ []) ∙ ap (λ b. filter p
 
 more_left : {A : Type 0} (p : A → Bool) (xs : List A) (y : A) → p y ≡ false → filter p (xs ++ y ∷ []) ≡ filter p xs
 more_left p xs y fails = filter-append p xs (y ∷ []) ∙ ap (λ b. filter p xs ++ cond b (y ∷ []) []) fails ∙ append-nil (filter p xs)
+
+last_under : (low high : ℕ) (ls : List Live) → IsRising low ls high → low ≤ high
+last_under low high [] rising = rising
+last_under low high (l ∷ ls) rising = omega (arith, rising.0, last_under l.handle high ls rising.1)
 
 module _ (core : CoreState) (store : StoreView) (fits : Fits core store) where
   -- the handle that comes next
@@ -163,3 +167,87 @@ module _ (core : CoreState) (store : StoreView) (fits : Fits core store) where
       stands [] i here = absurd cc
       stands (y ∷ cs) zero here = (let same : y ≡ c = cc in rw (eq-eqb y.handle c.handle (ap (λ (z : Context). z.handle) same)) refl)
       stands (y ∷ cs) (suc i) here = (let later = stands cs i here in elim (y.handle == c.handle) as (λ b. (b || is_in c.handle (map (λ (z : Context). z.handle) cs)) ≡ true) [ true ↦ refl | false ↦ later ])
+
+  -- the contexts have handles that were given
+  abbrev IsUnder : List Context → Type 0
+  IsUnder = AllByRecursion (λ (y : Context). y.handle ≤ store.made)
+
+  all_under : IsUnder core.contexts
+  all_under = of_live core.contexts (subst (λ (ls : List Live). AllByRecursion (λ (l : Live). l.handle ≤ store.made) ls) fits.handles.contexts (of_filter store.others (under_made 0 store.made store.others fits.handles.rising)))
+    where
+      under_made : (low high : ℕ) (ls : List Live) → IsRising low ls high → AllByRecursion (λ (l : Live). l.handle ≤ high) ls
+      under_made low high [] rising = tt
+      under_made low high (l ∷ ls) rising = (last_under l.handle high ls rising.1, under_made l.handle high ls rising.1)
+
+      of_filter : (ls : List Live) → AllByRecursion (λ (l : Live). l.handle ≤ store.made) ls → AllByRecursion (λ (l : Live). l.handle ≤ store.made) (of_kind kind.Context ls)
+      of_filter [] all = tt
+      of_filter (l ∷ ls) all =
+          let later = of_filter ls all.1 in
+          elim (same_kind l.kind kind.Context) as (λ b. AllByRecursion (λ (x : Live). x.handle ≤ store.made) (cond b (l ∷ of_kind kind.Context ls) (of_kind kind.Context ls))) [ true ↦ (all.0, later) | false ↦ later ]
+
+      of_live : (cs : List Context) → AllByRecursion (λ (l : Live). l.handle ≤ store.made) (map context_live cs) → IsUnder cs
+      of_live [] all = tt
+      of_live (c ∷ cs) all = (all.0, of_live cs all.1)
+
+  -- no element has the next handle for its owner
+  unowned : (others : List Live) → list_all (has_owner core.contexts) others ≡ true → elements_of next others ≡ []
+  unowned [] owned = refl
+  unowned (l ∷ others) owned = by_kind (unowned others parts.1) (same_kind l.kind kind.Element) (l.key == next) refl refl parts.0
+    where
+      parts : (has_owner core.contexts l ≡ true) × (list_all (has_owner core.contexts) others ≡ true)
+      parts = and_parts (has_owner core.contexts l) (list_all (has_owner core.contexts) others) owned
+
+      absent : (cs : List Context) (low : ℕ) → Rises (λ (y : Context). y.handle) low cs → IsUnder cs → is_in next (map (λ (y : Context). y.handle) cs) ≡ false
+      absent [] low up under = refl
+      absent (y ∷ cs) low up under =
+          let other : (y.handle == next) ≡ false = grind (arith, nat_tests, under.0) in
+          rw other (absent cs y.handle up.1 under.1)
+
+      by_kind : elements_of next others ≡ [] → (a b : Bool) → same_kind l.kind kind.Element ≡ a → (l.key == next) ≡ b → has_owner core.contexts l ≡ true
+        → cond (a && b) (l ∷ elements_of next others) (elements_of next others) ≡ []
+      by_kind later false b is at owner = later
+      by_kind later true false is at owner = later
+      by_kind later true true is at owner =
+          let key : l.key ≡ next = eqb-true l.key next at in
+          let none : is_in l.key (map (λ (y : Context). y.handle) core.contexts) ≡ false = ap (λ (n : ℕ). is_in n (map (λ (y : Context). y.handle) core.contexts)) key ∙ absent core.contexts 0 (rises_contexts core store fits.handles) all_under in
+          let both : (not true || is_in l.key (map (λ (y : Context). y.handle) core.contexts)) ≡ true = ap (λ b. not b || is_in l.key (map (λ (y : Context). y.handle) core.contexts)) (sym is) ∙ owner in
+          let no = sym none ∙ both in absurd cc
+
+  -- another context, without elements
+  pub context_fits : (c : Context) → c.handle ≡ next → c.cached.elements ≡ [] → ContextFits store.streams c → Fits (record core { contexts = core.contexts ++ c ∷ [] }) (with_other kind.Context c.device store)
+  context_fits c handle none fit =
+      let new : context_live c ≡ live kind.Context next c.device = ap (λ n. live kind.Context n c.device) handle in
+      let here : elements_of c.handle (with_other kind.Context c.device store).others ≡ [] =
+          ap (λ n. elements_of n (with_other kind.Context c.device store).others) handle
+          ∙ more_left (λ (l : Live). same_kind l.kind kind.Element && (l.key == next)) store.others (live kind.Context next c.device) refl ∙ unowned store.others fits.handles.owned in
+      let handles_none : map (element_live c.handle) (handles c.cached.elements) ≡ [] = ap (λ es. map (element_live c.handle) (handles es)) none in
+      record {
+        handles =
+            record {
+              rising = rising_more 0 store.made store.others kind.Context c.device fits.handles.rising;
+              devices = other_kind kind.Context kind.Device c.device refl ∙ fits.handles.devices;
+              contexts =
+                  more_passed (λ (x : Live). same_kind x.kind kind.Context) store.others (live kind.Context next c.device) refl
+                  ∙ ap (λ (ls : List Live). ls ++ live kind.Context next c.device ∷ []) fits.handles.contexts ∙ ap (λ (l : Live). map context_live core.contexts ++ l ∷ []) (sym new) ∙ sym (map-append context_live core.contexts (c ∷ []));
+              sources = other_kind kind.Context kind.Source c.device refl ∙ fits.handles.sources;
+              masks = other_kind kind.Context kind.Mask c.device refl ∙ fits.handles.masks;
+              elements = each_more (HasElements (with_other kind.Context c.device store).others) core.contexts c (elements_stay kind.Context c.device refl) (here ∙ sym handles_none);
+              owned = all_other (has_owner core.contexts) (has_owner (core.contexts ++ c ∷ [])) wider (with_other kind.Context c.device store).others (owned_stay kind.Context c.device refl);
+            };
+        streams = record { sources = fits.streams.sources; masks = fits.streams.masks; contexts = each_more (ContextFits store.streams) core.contexts c fits.streams.contexts fit };
+      }
+    where
+      in_wider : (n : ℕ) (cs : List Context) → is_in n (map (λ (y : Context). y.handle) cs) ≡ true → is_in n (map (λ (y : Context). y.handle) (cs ++ c ∷ [])) ≡ true
+      in_wider n [] there = absurd cc
+      in_wider n (y ∷ cs) there = by_test (in_wider n cs) (y.handle == n) there
+        where
+          by_test : (is_in n (map (λ (z : Context). z.handle) cs) ≡ true → is_in n (map (λ (z : Context). z.handle) (cs ++ c ∷ [])) ≡ true) → (b : Bool) → (b || is_in n (map (λ (z : Context). z.handle) cs)) ≡ true → (b || is_in n (map (λ (z : Context). z.handle) (cs ++ c ∷ []))) ≡ true
+          by_test later true at = refl
+          by_test later false at = later at
+
+      wider : (l : Live) → has_owner core.contexts l ≡ true → has_owner (core.contexts ++ c ∷ []) l ≡ true
+      wider l owner = by_kind (same_kind l.kind kind.Element) owner
+        where
+          by_kind : (b : Bool) → (not b || is_in l.key (map (λ (y : Context). y.handle) core.contexts)) ≡ true → (not b || is_in l.key (map (λ (y : Context). y.handle) (core.contexts ++ c ∷ []))) ≡ true
+          by_kind false at = refl
+          by_kind true at = in_wider l.key core.contexts at

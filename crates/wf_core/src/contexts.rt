@@ -1,13 +1,13 @@
 //! Contexts and their attributes.
 
-ghost use Rattle.std.specs.Prelude.{◌≡◌, ◌==◌, false, pos, IsSome, IsTrue, OnErr};
-ghost use Rattle.std.specs.List.{list_any};
+ghost use Rattle.std.specs.Prelude.{◌≡◌, ◌==◌, ◌||◌, false, pos, IsSome, IsTrue, OnErr};
+ghost use Rattle.wf_life.specs.Handles.{is_full};
 ghost use Rattle.wf_words.specs.Whole.{count_of};
 ghost use Rattle.wf_pixel.specs.Choice.{is_between};
 ghost use Rattle.wf_calls.specs.Codes.{is_out_of_memory};
 ghost use Rattle.wf_model.specs.Outcome.{refusal};
 ghost use Rattle.wf_model.specs.Composition.{core_answer};
-ghost use Rattle.wf_model.specs.Core.{blank_scene, by_scene, context_get, context_set, refusal_code, screen_context};
+ghost use Rattle.wf_model.specs.Core.{blank_scene, by_scene, context_get, context_set, contexts_full, has_port, refusal_code, screen_context};
 ghost use Rattle.wf_core.specs.Sides.{KeepsRest, side_of, done_by, lacks_memory};
 ghost use Rattle.wf_core.specs.Fits.{Fits};
 ghost use Rattle.wf_core.specs.Sights.{screen_seen};
@@ -71,13 +71,6 @@ fn port_number(port: i64) -> u32
     port as u32
 }
 
-/// A port has a context.
-fn has_port(contexts: &[Context], port: u32) -> bool
-    ensures { result ≡ list_any (λ c. c.port == port) contexts.now }
-{
-    contexts.iter().any(|context| context.port == port)
-}
-
 /// The stream that a screen's context draws into, or the refusal.
 fn screen_stream(store: &Store, screen: Option<u32>) -> Result<Seen, Refusal>
     ensures { result ≡ screen_seen screen store.now.streams }
@@ -92,6 +85,20 @@ fn screen_stream(store: &Store, screen: Option<u32>) -> Result<Seen, Refusal>
 }
 
 impl Core {
+    /// A port has a context.
+    fn has_port(&self, store: &Store, port: u32) -> bool
+        ensures { result ≡ has_port port (side_of self.now store.now) }
+    {
+        self.contexts.iter().any(|context| context.port == port)
+    }
+
+    /// As many contexts live as may, or all handles were given.
+    fn has_no_room(&self, store: &Store) -> bool
+        ensures { result ≡ (contexts_full (side_of self.now store.now) || is_full store.now.made) }
+    {
+        self.contexts.len() >= MOST_CONTEXTS || store.full()
+    }
+
     fn try_screen_context(
         &mut self,
         store: &mut Store,
@@ -115,16 +122,19 @@ impl Core {
             Err(refused) => return Err(refused),
         };
         let port = port_number(port);
-        if has_port(&self.contexts, port) {
+        if self.has_port(store, port) {
             return Err(refusal(Code::InUse));
         }
-        if self.contexts.len() >= MOST_CONTEXTS || store.full() {
+        if self.has_no_room(store) {
             return Err(refusal(Code::Limit));
         }
         let Ok(cached) = Cached::new(self.alloc, target.size, true) else {
             return Err(refusal(Code::OutOfMemory));
         };
-        let handle = mint(store, Kind::Context, device)?;
+        let handle = match mint(store, Kind::Context, device) {
+            Ok(handle) => handle,
+            Err(refused) => return Err(refused),
+        };
         self.contexts.push_reserved(Context {
             handle,
             device,
