@@ -14,6 +14,8 @@ mod registers;
 mod shown;
 mod sources;
 mod streams;
+#[cfg(test)]
+mod tests;
 
 pub use composition::Core;
 pub use shown::Shown;
