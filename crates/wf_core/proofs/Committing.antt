@@ -1,6 +1,5 @@
 -- A commit: it answers as the plain machine, and what it leaves fits.
-use Rattle.std.proofs.Common.{◌≡◌, ℕ, List, set, slice_get, Option, Some, Result, Ok, Err, refl, sym, ap, ◌∙◌}
-use Rattle.std.specs.List.{AllByRecursion}
+use Rattle.std.proofs.Common.{◌≡◌, ℕ, set, slice_get, Some, Result, Ok, Err, refl, sym, ap, ◌∙◌}
 use Rattle.wf_words.specs.Refusals.{◌>>=◌}
 use Rattle.wf_stream.specs.Streams.{StoreView}
 use Rattle.wf_scene.specs.declared.look.Fault.{Fault}

@@ -1,10 +1,10 @@
 -- Calls on an element: the context in which it lives, and what the call answers there.
-use Rattle.std.proofs.Common.{◌≡◌, ℕ, ◌+◌, ◌<◌, Bool, true, false, not, ◌&&◌, ◌||◌, ◌==◌, List, find, length, set, slice_get, option_and_then, is_some, Option, Some, None, IfSome, Result, Ok, Err, refl, sym, ap, ◌∙◌}
+use Rattle.std.proofs.Common.{◌≡◌, ℕ, ◌+◌, ◌<◌, false, ◌&&◌, ◌||◌, ◌==◌, length, set, slice_get, option_and_then, is_some, Option, Some, None, IfSome, Result, Ok, Err, refl, sym, ap, ◌∙◌}
 use Rattle.std.specs.List.{list_any}
 use Rattle.std.specs.Prelude.{nat_le}
 use Rattle.wf_words.specs.Refusals.{◌>>=◌}
 use Rattle.wf_life.specs.declared.Kind.TheVariants as kind
-use Rattle.wf_life.specs.Handles.{Live, is_full, live_count, same_kind}
+use Rattle.wf_life.specs.Handles.{Live, is_full, same_kind}
 use Rattle.wf_stream.specs.Streams.{StoreView, with_other}
 use Rattle.wf_scene.specs.declared.attributes.Refused.{Refused}
 use Rattle.wf_scene.specs.Cached as cached
@@ -12,7 +12,7 @@ use Rattle.wf_scene.specs.Cached.{CachedScene, has_element}
 use Rattle.wf_calls.specs.declared.code.Refusal.{Refusal}
 use Rattle.wf_model.specs.declared.Context.{Context}
 use Rattle.wf_model.specs.Outcome.{Outcome}
-use Rattle.wf_model.specs.Composition.{CoreSide, CoreState, change_context, context, device, element_context, with_cached}
+use Rattle.wf_model.specs.Composition.{CoreSide, CoreState, change_context, device, element_context, with_cached}
 use Rattle.wf_model.specs.Core.{by_scene, element_new, is_element_or_0}
 use Rattle.wf_core.specs.Sides.{done_by, side_of}
 use Rattle.wf_core.specs.Fits.{Fits}

@@ -1,11 +1,11 @@
 -- The first fault of a cached scene: its place and its rule are small; and where there is none every element keeps all rules.
-use Rattle.std.proofs.Common.{◌≡◌, ℕ, ◌+◌, ◌-◌, ◌*◌, ◌<◌, ◌≤◌, Bool, true, false, not, List, [], ◌∷◌, length, map, filter_map, position, slice_get, option_map, Option, Some, None, Result, Ok, Err, refl, sym, ap, subst, ◌∙◌, arith}
-use Rattle.std.specs.List.{AllByRecursion, cons_option, enumerate_from}
+use Rattle.std.proofs.Common.{◌≡◌, ℕ, ◌+◌, ◌<◌, ◌≤◌, Bool, true, false, not, List, [], ◌∷◌, length, position, slice_get, option_map, Option, Some, None, Ok, Err, refl, sym, ap, arith}
+use Rattle.std.specs.List.{AllByRecursion, cons_option}
 use Rattle.wf_scene.specs.declared.look.Fault.{Fault}
 use Rattle.wf_scene.specs.declared.element.Element.{Element}
 use Rattle.wf_scene.specs.declared.Scene.{Scene}
 use Rattle.wf_scene.specs.Cached.{CachedScene, IsOrderly, element_at}
-use Rattle.wf_scene.specs.Consistent.{broken_rule, consistent, elements_of, fault, fault_at, fault_from, faults_from, has_destination, has_source, inserted_elements, is_covered, is_inside, scene_of, unless}
+use Rattle.wf_scene.specs.Consistent.{broken_rule, consistent, elements_of, fault, fault_from, faults_from, has_destination, has_source, inserted_elements, is_covered, is_inside, scene_of, unless}
 use Rattle.wf_scene.specs.Sight.{Sight}
 
 -- of four rules the first that is broken, counted from 1
@@ -45,7 +45,7 @@ module _ (sight : Sight) where
   faultless place (e ∷ es) is = by_rule (faultless (place + 1) es) (broken_rule sight e) refl is
     where
       by_rule : (fault_from sight (place + 1) es ≡ None → AllByRecursion Keeps es) → (o : Option ℕ) → broken_rule sight e ≡ o
-        → slice_get (cons_option (option_map (λ rule. record { place = place; rule = rule }) o) (faults_from sight (place + 1) es)) 0 ≡ None → AllByRecursion Keeps (e ∷ es)
+          → slice_get (cons_option (option_map (λ rule. record { place = place; rule = rule }) o) (faults_from sight (place + 1) es)) 0 ≡ None → AllByRecursion Keeps (e ∷ es)
       by_rule later None at none = (keeps_all e at, later none)
       by_rule later (Some r) at none = absurd cc
 
@@ -55,7 +55,7 @@ module _ (sight : Sight) where
   bounded place (e ∷ es) f is = by_rule (bounded (place + 1) es f) (broken_rule sight e) refl is
     where
       by_rule : (fault_from sight (place + 1) es ≡ Some f → (f.place < place + 1 + length es) × (f.rule ≤ 4)) → (o : Option ℕ) → broken_rule sight e ≡ o
-        → slice_get (cons_option (option_map (λ rule. record { place = place; rule = rule }) o) (faults_from sight (place + 1) es)) 0 ≡ Some f → (f.place < place + length (e ∷ es)) × (f.rule ≤ 4)
+          → slice_get (cons_option (option_map (λ rule. record { place = place; rule = rule }) o) (faults_from sight (place + 1) es)) 0 ≡ Some f → (f.place < place + length (e ∷ es)) × (f.rule ≤ 4)
       by_rule later None at found = (let bounds = later found in (omega (arith, bounds.0), bounds.1))
       by_rule later (Some r) at found =
           let told : Fault = record { place = place; rule = r } in

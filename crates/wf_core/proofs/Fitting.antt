@@ -1,11 +1,10 @@
 -- What still fits after a change of the objects.
-use Rattle.std.proofs.Common.{◌≡◌, ℕ, ◌+◌, Bool, true, false, List, [], ◌∷◌, ◌++◌, map, set, slice_get, Option, Some, None, refl, sym, ap, subst, ◌∙◌, arith}
-use Rattle.std.specs.List.{AllByRecursion}
-use Rattle.wf_stream.specs.Streams.{StoreView, KeptStream}
+use Rattle.std.proofs.Common.{◌≡◌, ℕ, Option, refl, sym, ◌∙◌}
+use Rattle.wf_stream.specs.Streams.{StoreView}
 use Rattle.wf_calls.specs.declared.code.Code.{Code}
 use Rattle.wf_model.specs.declared.Device.{Device}
 use Rattle.wf_model.specs.Composition.{CoreState, change_register}
-use Rattle.wf_core.specs.Fits.{Fits, HandlesFit, StreamsFit, device_live}
+use Rattle.wf_core.specs.Fits.{Fits, device_live}
 use Rattle.wf_core.proofs.Lists.{map_change}
 
 -- other registers

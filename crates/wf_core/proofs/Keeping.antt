@@ -1,5 +1,5 @@
 -- What a call on a cached scene keeps: the handles of the elements, and the size.
-use Rattle.std.proofs.Common.{◌≡◌, ℕ, Bool, true, false, not, ℤ, List, [], ◌∷◌, option_map, Option, Some, None, Result, Ok, Err, refl, sym, ap, subst, ◌∙◌}
+use Rattle.std.proofs.Common.{◌≡◌, ℕ, Bool, true, false, not, ℤ, List, option_map, Option, Some, None, Ok, refl, subst}
 use Rattle.wf_words.specs.Keyed.{change, is_in}
 use Rattle.wf_words.specs.Refusals.{◌>>=◌, found_or, refuse_if}
 use Rattle.wf_words.specs.Whole.{count_of}

@@ -1,5 +1,5 @@
 -- What a store tells of sources and masks, and that the layers of a consistent scene fit.
-use Rattle.std.proofs.Common.{◌≡◌, ℕ, Bool, true, false, not, cond, ◌&&◌, ◌||◌, ◌==◌, List, [], ◌∷◌, map, find, option_map, is_some, Option, Some, None, IsTrue, IsSomeAnd, Result, Ok, Err, refl, sym, ap, subst, ◌∙◌}
+use Rattle.std.proofs.Common.{◌≡◌, ℕ, Bool, true, false, not, cond, ◌||◌, ◌==◌, List, [], ◌∷◌, map, find, option_map, is_some, Option, Some, None, IsTrue, IsSomeAnd, Ok, refl, sym, ap, subst, ◌∙◌}
 use Rattle.std.specs.List.{AllByRecursion}
 use Rattle.std.specs.Option.{option_map_or}
 use Rattle.std.proofs.Math.Path.{fun_ext}
@@ -17,11 +17,11 @@ use Rattle.wf_scene.specs.declared.element.Element.{Element}
 use Rattle.wf_scene.specs.declared.look.Seen.{Seen}
 use Rattle.wf_scene.specs.declared.Scene.{Scene}
 use Rattle.wf_scene.specs.Cached.{CachedScene}
-use Rattle.wf_scene.specs.Consistent.{consistent, inserted_elements, is_covered, layer_of, mask_stream, scene_of, stream_of}
+use Rattle.wf_scene.specs.Consistent.{consistent, inserted_elements, layer_of, stream_of}
 use Rattle.wf_scene.specs.Layers.{holds_rect}
 use Rattle.wf_scene.specs.Sight.{Sight}
 use Rattle.wf_model.specs.declared.Source.{Source}
-use Rattle.wf_model.specs.Composition.{CoreState, seen, seen_source, seen_stream, sight_of}
+use Rattle.wf_model.specs.Composition.{CoreState, seen, seen_source, sight_of}
 use Rattle.wf_core.specs.Fits.{Fits, HandlesFit, LayerFits, Shows, mask_live, of_kind, source_live}
 use Rattle.wf_core.specs.Sides.{side_of}
 use Rattle.wf_core.specs.Sights.{seen_key, sight_in}
@@ -108,7 +108,7 @@ module _ (core : CoreState) (store : StoreView) (fits : Fits core store) where
       }
     where
       masked : (b : Bool) → b ≡ true → (not b || option_map_or (λ (m : Seen). same_size m.size (size_of e.style.dest)) (sight.mask e.mask) false) ≡ true
-        → IsSomeAnd (buffers_at (cond b (stream_of (sight.mask e.mask)) 0) store.streams) (λ x. (is_a8 x.format ≡ true) × (x.size ≡ size_of e.style.dest))
+          → IsSomeAnd (buffers_at (cond b (stream_of (sight.mask e.mask)) 0) store.streams) (λ x. (is_a8 x.format ≡ true) × (x.size ≡ size_of e.style.dest))
       masked true is covered = mask_fits e (sight.mask e.mask) refl covered
       masked false is covered = absurd cc
 

@@ -1,5 +1,5 @@
 -- Lists that are mapped, filtered, appended to or changed in one place.
-use Rattle.std.proofs.Common.{◌≡◌, ℕ, ◌+◌, add-zero, count_by, zero, suc, Bool, true, false, cond, ◌==◌, ◌&&◌, ◌||◌, List, [], ◌∷◌, ◌++◌, map, filter, find, set, slice_get, option_map, Option, Some, None, is_some, refl, sym, ap, subst, ◌∙◌, arith}
+use Rattle.std.proofs.Common.{◌≡◌, ℕ, add-zero, count_by, zero, suc, Bool, true, false, cond, ◌==◌, ◌&&◌, ◌||◌, List, [], ◌∷◌, ◌++◌, map, filter, find, set, slice_get, option_map, Some, is_some, refl, sym, ap, subst, ◌∙◌}
 use Rattle.std.specs.List.{list_any, AllByRecursion}
 use Rattle.std.proofs.lemmas.List.Sums.{sum_by-append}
 use Rattle.wf_words.specs.Keyed.{change}

@@ -1,5 +1,5 @@
 -- What the store's table tells of an object that a call names.
-use Rattle.std.proofs.Common.{◌≡◌, ◌≢◌, eq-eqb, ne_eqb, ℕ, ◌+◌, ◌<◌, ◌≤◌, Bool, true, false, cond, not, ◌==◌, ◌&&◌, List, [], ◌∷◌, map, filter, find, slice_get, option_map, option_and_then, position, Option, Some, None, Result, Ok, Err, is_some, refl, sym, ap, subst, ◌∙◌, arith, zero-le}
+use Rattle.std.proofs.Common.{◌≡◌, ◌≢◌, eq-eqb, ne_eqb, ℕ, Bool, true, false, cond, ◌==◌, ◌&&◌, List, [], ◌∷◌, map, find, slice_get, option_map, option_and_then, position, Option, Some, None, Err, is_some, refl, sym, ap, subst, ◌∙◌, arith}
 use Rattle.std.specs.List.{list_any, AllByRecursion}
 use Rattle.std.proofs.lemmas.Bool.Decides.{nat_tests}
 use Rattle.wf_words.specs.Keyed.{at_key}
@@ -8,17 +8,15 @@ use Rattle.wf_life.specs.declared.Kind.TheVariants as kind
 use Rattle.wf_life.specs.Handles.{Live, IsRising, key_of, same_kind}
 use Rattle.wf_stream.specs.Streams.{StoreView}
 use Rattle.wf_scene.specs.Cached.{has_element, handles, handle_of}
-use Rattle.wf_scene.specs.declared.element.Element.{Element}
 use Rattle.wf_calls.specs.declared.code.Code.TheVariants as code
-use Rattle.wf_calls.specs.declared.code.Refusal.{Refusal}
 use Rattle.wf_model.specs.declared.Device.{Device}
 use Rattle.wf_model.specs.declared.Context.{Context}
 use Rattle.wf_model.specs.Outcome.{refusal, found}
 use Rattle.wf_model.specs.Composition.{CoreState}
 use Rattle.wf_core.specs.Sides.{side_of}
-use Rattle.wf_core.specs.Fits.{Fits, HandlesFit, HasElements, of_kind, elements_of, device_live, context_live, element_live}
+use Rattle.wf_core.specs.Fits.{HandlesFit, HasElements, of_kind, elements_of, device_live, context_live, element_live}
 use Rattle.wf_core.specs.Owners.{of_device, of_element, owned_context, owning_context}
-use Rattle.wf_core.proofs.Lists.{find_filtered, find_mapped, any_found, any_mapped, each_other}
+use Rattle.wf_core.proofs.Lists.{find_filtered, find_mapped, any_found, any_mapped}
 use Rattle.wf_core.proofs.Rises.{Rises, get_position, rises_live, rises_filter, rises_map, find_tested}
 
 mapped_twice : {A B C : Type 0} (f : B → C) (g : A → B) (o : Option A) → option_map f (option_map g o) ≡ option_map (λ x. f (g x)) o
@@ -68,7 +66,7 @@ module _ (core : CoreState) (store : StoreView) (fits : HandlesFit core store) w
   by_handle h = at_key (λ (c : Context). c.handle) h core.contexts
 
   pub placed : (d h owner : ℕ) (place : Option ℕ) → key_of h kind.Context store.others ≡ Some owner → owner ≡ d → place ≡ position (λ (c : Context). c.handle == h) core.contexts
-    → option_and_then (slice_get core.contexts) place ≡ of_device d h core.contexts
+      → option_and_then (slice_get core.contexts) place ≡ of_device d h core.contexts
   placed d h owner place key same at =
       ap (option_and_then (slice_get core.contexts)) at ∙ get_position (λ (c : Context). c.handle == h) core.contexts
       ∙ sym (of_device_is d h ∙ ap (λ (o : Option ℕ). by_owner o d (by_handle h)) key ∙ ap (λ b. cond b (by_handle h) None) (eq-eqb owner d same))

@@ -1,24 +1,23 @@
 -- A new object fits with the handle that was made for it.
-use Rattle.std.proofs.Common.{◌≡◌, ◌≢◌, ℕ, zero, suc, ◌+◌, ◌<◌, ◌≤◌, Bool, true, false, cond, not, ◌==◌, ◌&&◌, ◌||◌, List, [], ◌∷◌, ◌++◌, map, filter, set, slice_get, Option, Some, None, IsTrue, IsSomeAnd, option_map, refl, sym, ap, subst, ◌∙◌, arith}
-use Rattle.std.specs.List.{list_all, list_any, AllByRecursion}
-use Rattle.std.proofs.lemmas.Bool.{and_parts, and_from, or_parts, eqb-true, eq-eqb, ne_eqb}
+use Rattle.std.proofs.Common.{◌≡◌, ℕ, zero, suc, ◌+◌, ◌≤◌, Bool, true, false, cond, not, ◌==◌, ◌&&◌, ◌||◌, List, [], ◌∷◌, ◌++◌, map, filter, set, slice_get, Option, Some, None, option_map, refl, sym, ap, subst, ◌∙◌, arith}
+use Rattle.std.specs.List.{list_all, AllByRecursion}
+use Rattle.std.proofs.lemmas.Bool.{and_parts, and_from, eqb-true, eq-eqb, ne_eqb}
 use Rattle.std.proofs.lemmas.Bool.Decides.{nat_tests}
 use Rattle.std.proofs.lemmas.List.{append-nil, map-append}
 use Rattle.std.proofs.lemmas.List.Elements.{filter-append}
 use Rattle.wf_words.specs.Keyed.{is_in}
-use Rattle.wf_pixel.specs.Choice.{is_a8}
 use Rattle.wf_life.specs.declared.Kind.{Kind}
 use Rattle.wf_life.specs.declared.Kind.TheVariants as kind
 use Rattle.wf_life.specs.Handles.{Live, IsRising, same_kind}
-use Rattle.wf_stream.specs.Streams.{KeptStream, StoreView, buffers_at, with_other}
+use Rattle.wf_stream.specs.Streams.{StoreView, with_other}
 use Rattle.wf_scene.specs.Cached as cached
 use Rattle.wf_scene.specs.Cached.{handle_of, handles}
 use Rattle.wf_scene.specs.Elements.{new_element}
 use Rattle.wf_model.specs.declared.Device.{Device}
 use Rattle.wf_model.specs.declared.Context.{Context}
 use Rattle.wf_model.specs.declared.Source.{Source}
-use Rattle.wf_model.specs.Composition.{CoreState, with_cached}
-use Rattle.wf_core.specs.Fits.{ContextFits, Fits, HandlesFit, HasElements, Shows, StreamsFit, context_live, device_live, element_live, elements_of, has_owner, live, mask_live, of_kind, source_live}
+use Rattle.wf_model.specs.Composition.{CoreState}
+use Rattle.wf_core.specs.Fits.{ContextFits, Fits, HasElements, Shows, context_live, device_live, element_live, elements_of, has_owner, live, mask_live, of_kind, source_live}
 use Rattle.wf_core.proofs.Lists.{each_at, each_more, each_other, each_set, map_set}
 use Rattle.wf_core.proofs.Lookups.{has_by_key, is_named, rises_contexts}
 use Rattle.wf_core.proofs.Rises.{Rises, each_replaced, none_over}
@@ -204,7 +203,7 @@ module _ (core : CoreState) (store : StoreView) (fits : Fits core store) where
           rw other (absent cs y.handle up.1 under.1)
 
       by_kind : elements_of next others ≡ [] → (a b : Bool) → same_kind l.kind kind.Element ≡ a → (l.key == next) ≡ b → has_owner core.contexts l ≡ true
-        → cond (a && b) (l ∷ elements_of next others) (elements_of next others) ≡ []
+          → cond (a && b) (l ∷ elements_of next others) (elements_of next others) ≡ []
       by_kind later false b is at owner = later
       by_kind later true false is at owner = later
       by_kind later true true is at owner =
@@ -218,8 +217,8 @@ module _ (core : CoreState) (store : StoreView) (fits : Fits core store) where
   context_fits c handle none fit =
       let new : context_live c ≡ live kind.Context next c.device = ap (λ n. live kind.Context n c.device) handle in
       let here : elements_of c.handle (with_other kind.Context c.device store).others ≡ [] =
-          ap (λ n. elements_of n (with_other kind.Context c.device store).others) handle
-          ∙ more_left (λ (l : Live). same_kind l.kind kind.Element && (l.key == next)) store.others (live kind.Context next c.device) refl ∙ unowned store.others fits.handles.owned in
+      ap (λ n. elements_of n (with_other kind.Context c.device store).others) handle
+      ∙ more_left (λ (l : Live). same_kind l.kind kind.Element && (l.key == next)) store.others (live kind.Context next c.device) refl ∙ unowned store.others fits.handles.owned in
       let handles_none : map (element_live c.handle) (handles c.cached.elements) ≡ [] = ap (λ es. map (element_live c.handle) (handles es)) none in
       record {
         handles =

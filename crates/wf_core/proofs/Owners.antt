@@ -1,5 +1,5 @@
 -- The context at a place that was found is the one that the call names.
-use Rattle.std.proofs.Common.{◌≡◌, ℕ, zero, suc, ◌<◌, arith, length, Bool, true, false, cond, ◌&&◌, ◌==◌, List, [], ◌∷◌, find, slice_get, slice_index_or, Option, Some, None, Result, Ok, Err, refl, sym, ap, subst, ◌∙◌}
+use Rattle.std.proofs.Common.{◌≡◌, ℕ, zero, suc, ◌<◌, arith, length, true, ◌&&◌, ◌==◌, List, [], ◌∷◌, find, slice_get, slice_index_or, Option, Some, None, Result, Ok, Err, refl, sym, ap, ◌∙◌}
 use Rattle.std.proofs.lemmas.Bool.{and_parts, eqb-true}
 use Rattle.std.proofs.lemmas.Option.{slice_get_read}
 use Rattle.wf_words.specs.Refusals.{◌>>=◌}
@@ -11,7 +11,7 @@ use Rattle.wf_words.specs.Keyed.{at_key}
 use Rattle.wf_model.specs.declared.Context.{Context}
 use Rattle.wf_model.specs.declared.Device.{Device}
 use Rattle.wf_model.specs.Outcome.{Outcome, found}
-use Rattle.wf_model.specs.Composition.{CoreSide, CoreState, device, context, element_context}
+use Rattle.wf_model.specs.Composition.{CoreSide, CoreState, device, context}
 use Rattle.wf_core.specs.Sides.{side_of}
 use Rattle.wf_core.specs.Owners.{at_place, of_device, owned_context, owning_context}
 use Rattle.wf_core.proofs.Lists.{passes}
@@ -52,14 +52,13 @@ owning_parts d e w c is =
     let parts = and_parts (c.device == d) (has_element e c.cached) (passes (λ (x : Context). (x.device == d) && has_element e x.cached) w.core.contexts c at) in
     (eqb-true c.device d parts.0, parts.1)
 
-
 -- the live device and its context
 pub both : (d h : ℕ) (w : CoreSide) (c : Context) → owned_context d h w ≡ Ok c
     → (x : Device) × (at_key (λ (x : Device). x.handle) d w.core.devices ≡ Some x) × (of_device d h w.core.contexts ≡ Some c)
 both d h w c is = of_device_found (at_key (λ (x : Device). x.handle) d w.core.devices) refl is
   where
     of_device_found : (o : Option Device) → at_key (λ (x : Device). x.handle) d w.core.devices ≡ o → (found code.BadDevice o >>= (λ _. context d h w)) ≡ Ok c
-      → (x : Device) × (at_key (λ (x : Device). x.handle) d w.core.devices ≡ Some x) × (of_device d h w.core.contexts ≡ Some c)
+        → (x : Device) × (at_key (λ (x : Device). x.handle) d w.core.devices ≡ Some x) × (of_device d h w.core.contexts ≡ Some c)
     of_device_found None at same = absurd cc
     of_device_found (Some x) at same = (x, at, found_is (of_device d h w.core.contexts) c same)
 

@@ -1,5 +1,5 @@
 -- Lists in which a number of each element rises, so that no two elements have one: what is found, and what a change leaves.
-use Rattle.std.proofs.Common.{◌≢◌, length, nat_lt, not, ◌≡◌, ℕ, zero, suc, ◌+◌, ◌<◌, ◌≤◌, Bool, true, false, cond, ◌==◌, ◌&&◌, List, [], ◌∷◌, ◌++◌, map, filter, find, set, slice_get, option_map, option_and_then, position, Option, Some, None, refl, sym, ap, ◌∙◌, arith, subst}
+use Rattle.std.proofs.Common.{◌≢◌, length, nat_lt, not, ◌≡◌, ℕ, zero, suc, ◌+◌, ◌<◌, ◌≤◌, Bool, true, false, cond, ◌==◌, ◌&&◌, List, [], ◌∷◌, map, filter, find, set, slice_get, option_and_then, position, Some, None, refl, sym, ap, ◌∙◌, arith, subst}
 use Rattle.std.specs.List.{AllByRecursion, position_or_len}
 use Rattle.std.proofs.Math.Numerals.{one-add}
 use Rattle.std.proofs.lemmas.Bool.{eq-eqb, eqb-true, ltb-true, ltb-false}
@@ -39,12 +39,12 @@ none_below f q low n (x ∷ xs) rises le =
 
 -- a test beside the number tells of the one that has it
 pub find_tested : {A : Type 0} (f : A → ℕ) (q : A → Bool) (low n : ℕ) (xs : List A) → Rises f low xs
-      → find (λ x. (f x == n) && q x) xs ≡ option_and_then (λ x. cond (q x) (Some x) None) (find (λ x. f x == n) xs)
+    → find (λ x. (f x == n) && q x) xs ≡ option_and_then (λ x. cond (q x) (Some x) None) (find (λ x. f x == n) xs)
 find_tested f q low n [] rises = refl
 find_tested f q low n (x ∷ xs) rises = by_number (find_tested f q (f x) n xs rises.1) (f x == n) refl
   where
     by_number : find (λ y. (f y == n) && q y) xs ≡ option_and_then (λ y. cond (q y) (Some y) None) (find (λ y. f y == n) xs)
-      → (b : Bool) → (f x == n) ≡ b → find (λ y. (f y == n) && q y) (x ∷ xs) ≡ option_and_then (λ y. cond (q y) (Some y) None) (find (λ y. f y == n) (x ∷ xs))
+        → (b : Bool) → (f x == n) ≡ b → find (λ y. (f y == n) && q y) (x ∷ xs) ≡ option_and_then (λ y. cond (q y) (Some y) None) (find (λ y. f y == n) (x ∷ xs))
     by_number later false is = rw is later
     by_number later true is =
         let same : f x ≡ n = eqb-true (f x) n is in
@@ -109,7 +109,7 @@ first_found p [] within = absurd (omega (arith, within))
 first_found p (x ∷ xs) within = by_test (first_found p xs) (p x) within
   where
     by_test : (position_or_len p xs < length xs → slice_get xs (position_or_len p xs) ≡ find p xs) → (b : Bool) → cond (not b) (1 + position_or_len p xs) 0 < suc (length xs)
-      → slice_get (x ∷ xs) (cond (not b) (1 + position_or_len p xs) 0) ≡ cond b (Some x) (find p xs)
+        → slice_get (x ∷ xs) (cond (not b) (1 + position_or_len p xs) 0) ≡ cond b (Some x) (find p xs)
     by_test later true less = refl
     by_test later false less = rw one-add (later (omega (arith, less)))
 

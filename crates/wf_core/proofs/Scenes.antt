@@ -1,35 +1,23 @@
 -- Calls on the cached scene of a context: what they leave is the case of the plain machine, and fits.
-use Rattle.std.proofs.Common.{◌≡◌, ℕ, ◌+◌, Bool, true, false, cond, ◌&&◌, ◌||◌, ◌==◌, not, IsTrue, ℤ, List, [], ◌∷◌, map, set, find, slice_get, Option, Some, None, Result, Ok, Err, refl, sym, ap, subst, ◌∙◌, arith}
-use Rattle.std.specs.List.{list_all, AllByRecursion}
-use Rattle.std.proofs.lemmas.Bool.{and_parts, eqb-true}
-use Rattle.wf_words.specs.Keyed.{change, is_in}
-use Rattle.wf_words.specs.Refusals.{◌>>=◌, found_or, left_by, refuse_if}
+use Rattle.std.proofs.Common.{◌≡◌, ℕ, ◌||◌, not, IsTrue, List, map, set, slice_get, Some, Result, Ok, refl, sym, ap, subst, ◌∙◌}
+use Rattle.std.specs.List.{list_all}
+use Rattle.wf_words.specs.Keyed.{is_in}
+use Rattle.wf_words.specs.Refusals.{◌>>=◌}
 use Rattle.wf_life.specs.declared.Kind.TheVariants as kind
 use Rattle.wf_life.specs.Handles.{Live, same_kind}
 use Rattle.wf_stream.specs.Streams.{StoreView}
 use Rattle.wf_scene.specs.declared.attributes.Refused.{Refused}
-use Rattle.wf_scene.specs.declared.attributes.Refused.TheVariants as refused
-use Rattle.wf_scene.specs.declared.attributes.ContextAttr.{ContextAttr}
-use Rattle.wf_scene.specs.declared.attributes.ContextAttr.TheVariants as context_attr
-use Rattle.wf_scene.specs.Values.{component, colour_of, turn_of}
-use Rattle.wf_scene.specs.declared.attributes.ElementAttr.{ElementAttr}
-use Rattle.wf_scene.specs.declared.attributes.ElementAttr.TheVariants as attr
-use Rattle.wf_scene.specs.declared.element.Element.{Element}
-use Rattle.wf_scene.specs.Elements.{change_of}
-use Rattle.wf_scene.specs.Order.{has_no_room, inserted, is_base, without}
-use Rattle.wf_scene.specs.Cached.{CachedScene, handle_of, handles, has_element}
-use Rattle.wf_scene.specs.Cached as cached
+use Rattle.wf_scene.specs.Cached.{CachedScene, handles}
 use Rattle.wf_calls.specs.declared.code.Refusal.{Refusal}
-use Rattle.wf_calls.specs.declared.code.Code.TheVariants as code
 use Rattle.wf_model.specs.declared.Context.{Context}
-use Rattle.wf_model.specs.Outcome.{Outcome, found}
-use Rattle.wf_model.specs.Composition.{CoreSide, CoreState, change_context, context, device, element_context, with_cached}
-use Rattle.wf_model.specs.Core.{by_scene, context_set}
+use Rattle.wf_model.specs.Outcome.{Outcome}
+use Rattle.wf_model.specs.Composition.{CoreSide, CoreState, change_context, context, device, with_cached}
+use Rattle.wf_model.specs.Core.{by_scene}
 use Rattle.wf_core.specs.Sides.{side_of}
-use Rattle.wf_core.specs.Fits.{ContextFits, Fits, HandlesFit, HasElements, StreamsFit, context_live, has_owner}
-use Rattle.wf_core.specs.Owners.{at_place, owned_context, owning_context}
+use Rattle.wf_core.specs.Fits.{ContextFits, Fits, HasElements, context_live}
+use Rattle.wf_core.specs.Owners.{owned_context}
 use Rattle.wf_core.proofs.Owners.{joined, owned_parts}
-use Rattle.wf_core.proofs.Lists.{each_at, each_set, map_change, map_set, passes}
+use Rattle.wf_core.proofs.Lists.{each_at, each_set, map_set}
 use Rattle.wf_core.proofs.Lookups.{rises_contexts}
 use Rattle.wf_core.proofs.Rises.{change_at}
 

@@ -1,13 +1,11 @@
 -- The context of a screen: its refusals in their order, and what is made.
-use Rattle.std.proofs.Common.{◌≡◌, ℕ, ◌+◌, ◌<◌, Bool, true, false, not, ◌||◌, ◌==◌, ℤ, List, [], ◌∷◌, ◌++◌, option_map, Option, Some, None, IsSomeAnd, Result, Ok, Err, refl, sym, ap, subst, ◌∙◌}
-use Rattle.std.specs.List.{AllByRecursion}
+use Rattle.std.proofs.Common.{◌≡◌, ℕ, ◌+◌, Bool, true, false, not, ◌||◌, ◌==◌, ℤ, List, [], ◌∷◌, ◌++◌, Option, Some, None, Ok, Err, refl, sym, ap, subst, ◌∙◌}
 use Rattle.std.proofs.lemmas.Bool.{or_parts}
 use Rattle.wf_words.specs.Refusals.{◌>>=◌}
 use Rattle.wf_words.specs.Whole.{count_of}
 use Rattle.wf_life.specs.declared.Kind.TheVariants as kind
-use Rattle.wf_life.specs.Handles.{Live, is_full, key_of, live_count, same_kind}
-use Rattle.wf_stream.specs.Buffers.{Buffers}
-use Rattle.wf_stream.specs.Streams.{KeptStream, StoreView, buffers_at, stream_at, with_other}
+use Rattle.wf_life.specs.Handles.{Live, is_full, key_of, same_kind}
+use Rattle.wf_stream.specs.Streams.{KeptStream, StoreView, stream_at, with_other}
 use Rattle.wf_scene.specs.declared.look.Seen.{Seen}
 use Rattle.wf_scene.specs.Cached.{empty}
 use Rattle.wf_calls.specs.declared.code.Code.TheVariants as code
@@ -22,7 +20,7 @@ use Rattle.wf_core.specs.Sides.{refused_handle, side_of}
 use Rattle.wf_core.specs.Sights.{screen_seen}
 use Rattle.wf_core.proofs.Lists.{count_left}
 use Rattle.wf_core.proofs.Lookups.{a_device, no_device}
-use Rattle.wf_core.proofs.Seeing.{behind, has_number}
+use Rattle.wf_core.proofs.Seeing.{has_number}
 
 -- the stream of a screen that is seen
 screen_parts : (screen : Option ℕ) (streams : List KeptStream) (seen : Seen) → Ok seen ≡ screen_seen screen streams
@@ -31,7 +29,7 @@ screen_parts None streams seen is = absurd cc
 screen_parts (Some n) streams seen is = of_stream (stream_at n streams) refl is
   where
     of_stream : (o : Option KeptStream) → stream_at n streams ≡ o → Ok seen ≡ found code.IllegalArgument (seen_stream o)
-      → (m : ℕ) × (t : KeptStream) × (Some n ≡ Some m) × (stream_at m streams ≡ Some t) × (seen ≡ record { stream = t.number; size = t.buffers.size; format = t.buffers.format })
+        → (m : ℕ) × (t : KeptStream) × (Some n ≡ Some m) × (stream_at m streams ≡ Some t) × (seen ≡ record { stream = t.number; size = t.buffers.size; format = t.buffers.format })
     of_stream None at same = absurd cc
     of_stream (Some t) at same = (n, t, refl, at, (let told : Seen = record { stream = t.number; size = t.buffers.size; format = t.buffers.format } in let here : seen ≡ told = cc in here))
 
@@ -47,12 +45,12 @@ module _ (core : CoreState) (store : StoreView) (fits : Fits core store) (d : �
     bad_screen m r is = let x = a_device core store fits.handles d key some in rw x.1 (of_screen screen is)
       where
         of_screen : (o : Option ℕ) → Err r ≡ screen_seen o store.streams
-          → (found code.IllegalArgument o >>= (λ n. found code.IllegalArgument (stream_at n store.streams) >>= (λ target. refuse code.InUse (has_port (count_of port) w) >>= (λ _. room (contexts_full w) m w >>= (λ _. Ok (created (record core { contexts = core.contexts ++ new_context (store.made + 1) d (count_of port) target ∷ [] }) w)))))) ≡ Err r
+            → (found code.IllegalArgument o >>= (λ n. found code.IllegalArgument (stream_at n store.streams) >>= (λ target. refuse code.InUse (has_port (count_of port) w) >>= (λ _. room (contexts_full w) m w >>= (λ _. Ok (created (record core { contexts = core.contexts ++ new_context (store.made + 1) d (count_of port) target ∷ [] }) w)))))) ≡ Err r
         of_screen None told = (let same : r ≡ refusal code.IllegalArgument = cc in ap (λ (x : Refusal). Err x) (sym same))
         of_screen (Some n) told = of_stream (stream_at n store.streams) told
           where
             of_stream : (o : Option KeptStream) → Err r ≡ found code.IllegalArgument (seen_stream o)
-              → (found code.IllegalArgument o >>= (λ target. refuse code.InUse (has_port (count_of port) w) >>= (λ _. room (contexts_full w) m w >>= (λ _. Ok (created (record core { contexts = core.contexts ++ new_context (store.made + 1) d (count_of port) target ∷ [] }) w))))) ≡ Err r
+                → (found code.IllegalArgument o >>= (λ target. refuse code.InUse (has_port (count_of port) w) >>= (λ _. room (contexts_full w) m w >>= (λ _. Ok (created (record core { contexts = core.contexts ++ new_context (store.made + 1) d (count_of port) target ∷ [] }) w))))) ≡ Err r
             of_stream None at = (let same : r ≡ refusal code.IllegalArgument = cc in ap (λ (x : Refusal). Err x) (sym same))
             of_stream (Some t) at = absurd cc
 

@@ -1,5 +1,5 @@
 -- What streams show, by their numbers and by their handles; and sources and masks of them.
-use Rattle.std.proofs.Common.{◌≡◌, ℕ, ◌+◌, Bool, true, false, not, ◌&&◌, ◌==◌, List, [], ◌∷◌, ◌++◌, find, option_map, Option, Some, None, Result, Ok, Err, IfSome, IsSomeAnd, refl, sym, ap, subst, ◌∙◌}
+use Rattle.std.proofs.Common.{◌≡◌, ℕ, ◌+◌, Bool, true, false, not, ◌&&◌, ◌==◌, List, [], ◌∷◌, ◌++◌, option_map, Option, Some, None, Ok, IfSome, refl, sym, ap, ◌∙◌}
 use Rattle.std.proofs.lemmas.Bool.{eqb-true}
 use Rattle.wf_words.specs.Refusals.{◌>>=◌}
 use Rattle.wf_pixel.specs.declared.Format.{Format}
@@ -12,14 +12,13 @@ use Rattle.wf_stream.specs.Buffers.{Buffers}
 use Rattle.wf_stream.specs.Streams.{KeptStream, IsNumbered, StoreView, buffers_at, number_of, stream_at, stream_of, with_other}
 use Rattle.wf_scene.specs.declared.look.Seen.{Seen}
 use Rattle.wf_calls.specs.declared.code.Code.TheVariants as code
-use Rattle.wf_calls.specs.declared.code.Refusal.{Refusal}
 use Rattle.wf_model.specs.declared.Context.{Context}
 use Rattle.wf_model.specs.declared.Source.{Source}
 use Rattle.wf_model.specs.Outcome.{Outcome, refuse}
-use Rattle.wf_model.specs.Composition.{CoreSide, CoreState, context, device, live_stream, seen_stream}
+use Rattle.wf_model.specs.Composition.{CoreSide, CoreState, seen_stream}
 use Rattle.wf_model.specs.Core.{mask_new, source_new, sources_full}
 use Rattle.wf_core.specs.Sides.{refused_handle, side_of}
-use Rattle.wf_core.specs.Fits.{Fits, Shows}
+use Rattle.wf_core.specs.Fits.{Shows}
 use Rattle.wf_core.specs.Owners.{owned_context}
 use Rattle.wf_core.proofs.Lists.{count_left, passes}
 use Rattle.wf_core.proofs.Owners.{both}

@@ -93,13 +93,7 @@ impl Core {
 
     /// Makes a source of a context, whose handle it answers. BadHandle is no context of the device or no live stream;
     /// Unsupported a stream for masks; Limit a 257th source or mask, or that all handles were given.
-    pub fn source_new(
-        &mut self,
-        store: &mut Store,
-        device: u32,
-        context: u32,
-        stream: u32,
-    ) -> Reply
+    pub fn source_new(&mut self, store: &mut Store, device: u32, context: u32, stream: u32) -> Reply
         requires { Fits self.old store.old }
         ensures step { let before = side_of self.old store.old in core_answer device before (source_new device context stream (is_out_of_memory result.code) before) ≡ (side_of self.new store.new, result) }
         ensures kept { KeepsRest store.old store.new }

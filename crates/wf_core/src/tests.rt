@@ -29,17 +29,32 @@ fn opened(alloc: Global) -> Result<(Core, Store), NoMemory>
 fn elements_are_moved(rt: HostRuntime) -> Result<(), Fail> {
     let (mut core, mut store) = opened(rt.alloc())?;
     assert_eq!(rt; told(core.device_new(&mut store)), (Code::Ok, 1));
-    assert_eq!(rt; told(core.screen_context(&mut store, 1, 1, Some(1))), (Code::Ok, 2));
+    assert_eq!(rt;
+        told(core.screen_context(&mut store, 1, 1, Some(1))),
+        (Code::Ok, 2)
+    );
     for element in 3..6u32 {
-        assert_eq!(rt; told(core.element_new(&mut store, 1, 2)), (Code::Ok, element));
+        assert_eq!(rt;
+            told(core.element_new(&mut store, 1, 2)),
+            (Code::Ok, element)
+        );
     }
     // What is put above what: element 4 above itself stays, and element 5 goes to the bottom.
     for (element, below) in [(3, 0), (4, 3), (5, 4), (4, 4), (5, 0)] {
-        assert_eq!(rt; told(core.element_insert(&mut store, 1, element, below)), (Code::Ok, 0));
+        assert_eq!(rt;
+            told(core.element_insert(&mut store, 1, element, below)),
+            (Code::Ok, 0)
+        );
     }
     for (element, above, below) in [(5, 3, 0), (3, 4, 5), (4, 0, 3)] {
-        assert_eq!(rt; told(core.element_above(&mut store, 1, element)), (Code::Ok, above));
-        assert_eq!(rt; told(core.element_below(&mut store, 1, element)), (Code::Ok, below));
+        assert_eq!(rt;
+            told(core.element_above(&mut store, 1, element)),
+            (Code::Ok, above)
+        );
+        assert_eq!(rt;
+            told(core.element_below(&mut store, 1, element)),
+            (Code::Ok, below)
+        );
     }
     let lowest = core.context_get(&mut store, 1, 2, ContextAttr::Lowest, 0);
     assert_eq!(rt; told(lowest), (Code::Ok, 5));
@@ -75,20 +90,37 @@ fn offer(core: &mut Core, store: &Store, device: u32, context: u32, code: Code)
 fn a_bad_commit_leaves_the_old_scene(rt: HostRuntime) -> Result<(), Fail> {
     let (mut core, mut store) = staged(rt.alloc())?;
     assert_eq!(rt; told(core.device_new(&mut store)), (Code::Ok, 3));
-    assert_eq!(rt; told(core.screen_context(&mut store, 3, 1, Some(1))), (Code::Ok, 4));
+    assert_eq!(rt;
+        told(core.screen_context(&mut store, 3, 1, Some(1))),
+        (Code::Ok, 4)
+    );
     assert_eq!(rt; told(core.source_new(&mut store, 3, 4, 1)), (Code::Ok, 5));
     assert_eq!(rt; told(core.element_new(&mut store, 3, 4)), (Code::Ok, 6));
-    assert_eq!(rt; told(core.element_insert(&mut store, 3, 6, 0)), (Code::Ok, 0));
+    assert_eq!(rt;
+        told(core.element_insert(&mut store, 3, 6, 0)),
+        (Code::Ok, 0)
+    );
     assert_eq!(rt; told(core.mask_new(&mut store, 3, 4, 2)), (Code::Ok, 7));
     // An attribute, its value, and what a commit then answers.
     for (attr, value, commit) in [
         (ElementAttr::Source, [5, 0, 0, 0], (Code::Inconsistency, 18)),
-        (ElementAttr::SrcRect, [0, 0, 1, 1], (Code::Inconsistency, 19)),
+        (
+            ElementAttr::SrcRect,
+            [0, 0, 1, 1],
+            (Code::Inconsistency, 19),
+        ),
         (ElementAttr::Dest, [0, 0, 4, 2], (Code::Ok, 0)),
         (ElementAttr::Mask, [7, 0, 0, 0], (Code::Ok, 0)),
-        (ElementAttr::Transparency, [4, 0, 0, 0], (Code::Inconsistency, 20)),
+        (
+            ElementAttr::Transparency,
+            [4, 0, 0, 0],
+            (Code::Inconsistency, 20),
+        ),
     ] {
-        assert_eq!(rt; told(core.element_set(&mut store, 3, 6, attr, value)), (Code::Ok, 0));
+        assert_eq!(rt;
+            told(core.element_set(&mut store, 3, 6, attr, value)),
+            (Code::Ok, 0)
+        );
         assert_eq!(rt; told(core.commit(&mut store, 3, 4)), commit);
     }
     assert_eq!(rt; told(core.get_error(&mut store, 3)), (Code::Ok, 11));
@@ -96,7 +128,10 @@ fn a_bad_commit_leaves_the_old_scene(rt: HostRuntime) -> Result<(), Fail> {
     offer(&mut core, &store, 3, 4, Code::Busy);
     assert_eq!(rt; told(core.get_error(&mut store, 3)), (Code::Ok, 7));
     let shown = core.context(3, 4).ok().ok_or("no context")?;
-    assert_eq!(rt; (shown.target, shown.active, shown.scene.layers.len()), (1, false, 1));
+    assert_eq!(rt;
+        (shown.target, shown.active, shown.scene.layers.len()),
+        (1, false, 1)
+    );
     assert_eq!(rt; core.next(0).is_none(), true);
     Ok(())
 }
@@ -105,7 +140,10 @@ fn a_bad_commit_leaves_the_old_scene(rt: HostRuntime) -> Result<(), Fail> {
 fn attributes_are_answered(rt: HostRuntime) -> Result<(), Fail> {
     let (mut core, mut store) = opened(rt.alloc())?;
     assert_eq!(rt; told(core.device_new(&mut store)), (Code::Ok, 1));
-    assert_eq!(rt; told(core.screen_context(&mut store, 1, 1, Some(1))), (Code::Ok, 2));
+    assert_eq!(rt;
+        told(core.screen_context(&mut store, 1, 1, Some(1))),
+        (Code::Ok, 2)
+    );
     assert_eq!(rt; told(core.element_new(&mut store, 1, 2)), (Code::Ok, 3));
     let turned = core.context_set(&mut store, 1, 2, ContextAttr::Rotation, [90, 0, 0, 0]);
     assert_eq!(rt; told(turned), (Code::Ok, 0));
@@ -113,8 +151,14 @@ fn attributes_are_answered(rt: HostRuntime) -> Result<(), Fail> {
     assert_eq!(rt; told(rotation), (Code::Ok, 90));
     let alpha = core.element_get(&mut store, 1, 3, ElementAttr::Alpha, 0);
     assert_eq!(rt; told(alpha), (Code::Ok, 255));
-    assert_eq!(rt; told(core.element_insert(&mut store, 1, 3, 0)), (Code::Ok, 0));
+    assert_eq!(rt;
+        told(core.element_insert(&mut store, 1, 3, 0)),
+        (Code::Ok, 0)
+    );
     assert_eq!(rt; told(core.element_remove(&mut store, 1, 3)), (Code::Ok, 0));
-    assert_eq!(rt; told(core.element_remove(&mut store, 1, 3)), (Code::IllegalArgument, 0));
+    assert_eq!(rt;
+        told(core.element_remove(&mut store, 1, 3)),
+        (Code::IllegalArgument, 0)
+    );
     Ok(())
 }

@@ -1,4 +1,4 @@
-use Rattle.std.proofs.Common.{◌≤◌, arith}
+use Rattle.std.proofs.Common.{arith}
 use Rattle.wf_core.specs.Sights.{sight_in}
 use Rattle.wf_core.proofs.Faults.{small_fault}
 use Rattle.wf_core.proofs.commits.committed.Goals as goal

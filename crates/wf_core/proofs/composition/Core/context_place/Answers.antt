@@ -1,5 +1,4 @@
-use Rattle.std.proofs.Common.{◌≡◌, ◌∙◌, sym, ap, Err, option_and_then, slice_get}
-use Rattle.wf_calls.specs.declared.code.Refusal.{Refusal}
+use Rattle.std.proofs.Common.{◌∙◌, sym, ap, Err}
 use Rattle.wf_calls.specs.declared.code.Code.TheVariants as code
 use Rattle.wf_model.specs.Outcome.{found}
 use Rattle.wf_core.proofs.Lookups.{refused_device, named_context}

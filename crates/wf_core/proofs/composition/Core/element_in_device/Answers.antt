@@ -1,4 +1,4 @@
-use Rattle.std.proofs.Common.{◌≡◌, ◌∙◌, sym, ap, Option, option_and_then, ℕ}
+use Rattle.std.proofs.Common.{◌∙◌, sym, ap, option_and_then}
 use Rattle.wf_core.specs.Owners.{of_device}
 use Rattle.wf_core.proofs.Lookups.{owner_is}
 use Rattle.wf_core.proofs.composition.Core.element_in_device.Goals as goal

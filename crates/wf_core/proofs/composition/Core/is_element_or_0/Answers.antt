@@ -1,4 +1,4 @@
-use Rattle.std.proofs.Common.{◌≡◌, ◌∙◌, ne_eqb}
+use Rattle.std.proofs.Common.{◌∙◌, ne_eqb}
 use Rattle.wf_core.specs.Sides.{side_of}
 use Rattle.wf_core.proofs.ElementCalls.{any_element}
 use Rattle.wf_core.proofs.composition.Core.is_element_or_0.Goals as goal

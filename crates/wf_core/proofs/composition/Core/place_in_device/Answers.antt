@@ -1,4 +1,4 @@
-use Rattle.std.proofs.Common.{◌≡◌, ◌==◌, ◌∙◌, sym, ap, position}
+use Rattle.std.proofs.Common.{◌==◌, ◌∙◌, sym, ap, position}
 use Rattle.wf_model.specs.declared.Context.{Context}
 use Rattle.wf_model.specs.Composition.{CoreState}
 use Rattle.wf_core.proofs.Lookups.{placed, not_placed, none_placed}

@@ -1,4 +1,4 @@
-use Rattle.std.proofs.Common.{◌≡◌, refl, arith}
+use Rattle.std.proofs.Common.{refl, arith}
 use Rattle.std.proofs.lemmas.List.{with_items_is}
 use Rattle.wf_model.specs.Composition.{recorded}
 use Rattle.wf_core.proofs.Fitting.{register_fits}

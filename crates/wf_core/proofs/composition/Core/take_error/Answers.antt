@@ -1,4 +1,4 @@
-use Rattle.std.proofs.Common.{◌≡◌, None, refl, arith}
+use Rattle.std.proofs.Common.{None, refl, arith}
 use Rattle.std.proofs.lemmas.List.{with_items_is}
 use Rattle.wf_core.proofs.Fitting.{register_fits}
 use Rattle.wf_core.proofs.composition.Core.take_error.Goals as goal

@@ -1,7 +1,5 @@
-use Rattle.std.proofs.Common.{◌≡◌, ◌∙◌, sym, ap, subst, set, slice_get, Some, Result, Ok, Err, refl}
-use Rattle.wf_scene.specs.declared.Scene.{Scene}
+use Rattle.std.proofs.Common.{◌≡◌, ◌∙◌, sym, ap, subst, set, Ok, refl}
 use Rattle.wf_scene.specs.Consistent.{consistent}
-use Rattle.wf_calls.specs.declared.code.Refusal.{Refusal}
 use Rattle.wf_model.specs.Composition.{CoreState}
 use Rattle.wf_model.specs.declared.Context.{Context}
 use Rattle.wf_model.specs.Core.{fault_as_refusal}

@@ -1,7 +1,5 @@
-use Rattle.std.proofs.Common.{◌≡◌, ◌∙◌, sym, ap, subst, set, length, slice_get, slice_index_or, Some, Ok, List, refl}
-use Rattle.wf_scene.specs.declared.attributes.Refused.{Refused}
+use Rattle.std.proofs.Common.{◌≡◌, ◌∙◌, sym, subst, set, slice_get, Some, refl}
 use Rattle.wf_scene.specs.Cached as cached
-use Rattle.wf_model.specs.declared.Context.{Context}
 use Rattle.wf_model.specs.Composition.{CoreState}
 use Rattle.wf_core.specs.Fits.{Fits}
 use Rattle.wf_core.proofs.Owners.{owned, standing}

@@ -1,6 +1,3 @@
-use Rattle.std.proofs.Common.{◌≡◌, ◌∙◌, sym, ap, subst}
-use Rattle.wf_stream.specs.Streams.{StoreView}
-use Rattle.wf_core.specs.Fits.{Fits}
 use Rattle.wf_core.proofs.Makings.{device_fits}
 use Rattle.wf_core.proofs.composition.Core.try_device_new.Goals as goal
 

@@ -1,12 +1,9 @@
-use Rattle.std.proofs.Common.{◌≡◌, ◌<◌, ◌∙◌, sym, ap, subst, set, length, slice_get, Some, Ok, refl, ℕ, false, arith}
+use Rattle.std.proofs.Common.{◌≡◌, ◌∙◌, sym, ap, length, refl, ℕ, false, arith}
 use Rattle.std.specs.Prelude.{nat_le}
-use Rattle.std.specs.List.{slice_index_or}
 use Rattle.std.proofs.lemmas.Bool.{lt-leb}
 use Rattle.wf_scene.specs.Cached as cached
 use Rattle.wf_model.specs.declared.Context.{Context}
-use Rattle.wf_model.specs.Composition.{CoreState}
-use Rattle.wf_core.specs.Fits.{Fits, HasElements}
-use Rattle.wf_core.specs.Owners.{owned_context}
+use Rattle.wf_core.specs.Fits.{HasElements}
 use Rattle.wf_core.specs.Sides.{side_of}
 use Rattle.wf_core.proofs.ElementCalls.{element_made}
 use Rattle.wf_core.proofs.Lists.{each_at}

@@ -1,6 +1,5 @@
-use Rattle.std.proofs.Common.{◌≡◌, ◌∙◌, sym, ap, subst, set, slice_get, slice_index_or, Some, Result, Ok, Err, refl, not, true}
+use Rattle.std.proofs.Common.{◌≡◌, ◌∙◌, sym, ap, subst, set, slice_get, Some, Result, Ok, refl}
 use Rattle.wf_words.specs.Refusals.{◌>>=◌}
-use Rattle.wf_scene.specs.declared.attributes.Refused.{Refused}
 use Rattle.wf_scene.specs.Cached as cached
 use Rattle.wf_scene.specs.Cached.{CachedScene}
 use Rattle.wf_scene.specs.Values.{component}
@@ -10,7 +9,6 @@ use Rattle.wf_model.specs.Outcome.{Outcome}
 use Rattle.wf_model.specs.Core.{by_scene, linked}
 use Rattle.wf_model.specs.Composition.{CoreSide, CoreState, change_context, with_cached}
 use Rattle.wf_core.specs.Fits.{Fits}
-use Rattle.wf_core.specs.Owners.{owning_context}
 use Rattle.wf_core.specs.Sides.{side_of}
 use Rattle.wf_core.proofs.ElementCalls.{in_owner}
 use Rattle.wf_core.proofs.Keeping.{set_keeps}

@@ -1,4 +1,4 @@
-use Rattle.std.proofs.Common.{◌≡◌, ◌∙◌, sym, ap, subst, refl, Bool, true, false}
+use Rattle.std.proofs.Common.{◌≡◌, ◌∙◌, sym, refl, true}
 use Rattle.wf_pixel.specs.Choice.{is_a8}
 use Rattle.wf_core.proofs.Makings.{mask_fits}
 use Rattle.wf_core.proofs.Owners.{some_owned}

@@ -1,10 +1,9 @@
-use Rattle.std.proofs.Common.{◌≡◌, ◌==◌, ◌||◌, ◌∙◌, sym, ap, subst, Err, ℕ, true, false, refl}
+use Rattle.std.proofs.Common.{◌≡◌, ◌==◌, ◌∙◌, sym, ap, Err, ℕ, true, false, refl}
 use Rattle.std.proofs.Math.Facts.{to_z-of_z}
 use Rattle.wf_words.specs.Whole.{count_of}
 use Rattle.wf_calls.specs.declared.code.Refusal.{Refusal}
 use Rattle.wf_calls.specs.Codes.{is_out_of_memory}
-use Rattle.wf_life.specs.Handles.{is_full}
-use Rattle.wf_model.specs.Core.{contexts_full, has_port, screen_context}
+use Rattle.wf_model.specs.Core.{has_port, screen_context}
 use Rattle.wf_core.specs.Sides.{side_of}
 use Rattle.wf_core.proofs.Makings.{context_fits}
 use Rattle.wf_core.proofs.Screens.{bad_device, bad_screen, in_use, limited, made, made_fits, no_handle, screen_made, without_memory}
