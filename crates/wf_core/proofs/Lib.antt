@@ -13,3 +13,4 @@ pub mod Faults
 pub mod Layering
 pub mod Committing
 pub mod Screens
+pub mod Activating

@@ -1,6 +1,7 @@
 //! The calls of composition: devices, their contexts with elements, sources and masks, commits and error registers.
 #![tactic(auto)]
 
+mod activation;
 mod answers;
 mod commits;
 mod composition;

@@ -133,6 +133,12 @@ fn a_bad_commit_leaves_the_old_scene(rt: HostRuntime) -> Result<(), Fail> {
         (1, false, 1)
     );
     assert_eq!(rt; core.next(0).is_none(), true);
+    assert_eq!(rt; told(core.activate(&mut store, 3, 4)), (Code::Ok, 0));
+    let next = core.next(3).ok_or("no active context")?;
+    assert_eq!(rt; (next.0, next.1.active), (4, true));
+    assert_eq!(rt; core.next(4).is_none(), true);
+    assert_eq!(rt; told(core.deactivate(&mut store, 3, 4)), (Code::Ok, 0));
+    assert_eq!(rt; core.next(3).is_none(), true);
     Ok(())
 }
 
