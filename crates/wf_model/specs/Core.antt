@@ -1,5 +1,5 @@
 -- The calls of composition: for each the refusals in their order, and then the effect and the value.
-use Rattle.std.specs.Prelude.{ℕ, ◌+◌, ◌*◌, Bool, false, not, ◌&&◌, ◌||◌, ◌==◌, nat_le, ℤ, List, [], ◌∷◌, ◌++◌, length, find, Option, None, Some, Result, Ok, Err, if◌then◌else◌}
+use Rattle.std.specs.Prelude.{ℕ, ◌+◌, ◌*◌, Bool, true, false, not, ◌&&◌, ◌||◌, ◌==◌, nat_le, ℤ, List, [], ◌∷◌, ◌++◌, length, find, Option, None, Some, Result, Ok, Err, if◌then◌else◌}
 use Rattle.std.specs.List.{list_any}
 use Rattle.wf_words.specs.Refusals.{◌>>=◌}
 use Rattle.wf_words.specs.Whole.{count_of}
@@ -129,6 +129,22 @@ commit d handle w = do
   c ← context d handle w
   scene ← fault_as_refusal (consistent (sight_of w) c.cached)
   Ok (record w { core = change_context handle (with_committed scene) w.core }, 0)
+
+abbrev pub with_active : Bool → Context → Context
+with_active active c = record c { active = active }
+
+-- a context becomes active or inactive, which it may be already
+abbrev pub set_active : Bool → ℕ → ℕ → CoreSide → Outcome CoreSide
+set_active active d handle w = do
+  _ ← device d w
+  _ ← context d handle w
+  Ok (record w { core = change_context handle (with_active active) w.core }, 0)
+
+abbrev pub activate : ℕ → ℕ → CoreSide → Outcome CoreSide
+activate d handle w = set_active true d handle w
+
+abbrev pub deactivate : ℕ → ℕ → CoreSide → Outcome CoreSide
+deactivate d handle w = set_active false d handle w
 
 -- sources and masks
 

@@ -219,7 +219,8 @@ impl Cached {
     /// The scene that a commit takes: the target's size, the turn, the background, which is opaque on a screen, and a
     /// layer for each inserted element; or the first fault from the bottom up.
     pub fn consistent<L: Look>(&self, look: &L) -> Result<Scene, Fault>
-        ensures { result ≡ scene.consistent (L.sight look.now) self.now }
+        ensures scene { result ≡ scene.consistent (L.sight look.now) self.now }
+        ensures orderly { IsOrderly self.now }
     {
         let layers = layers_of(look, &self.elements, self.order.as_slice())?;
         let background = if self.on_screen {

@@ -119,6 +119,13 @@ impl Store {
         Ok(handle)
     }
 
+    /// All 4,294,967,291 handles were given.
+    pub fn full(&self) -> bool
+        ensures { result ≡ is_full self.now.made }
+    {
+        self.handles.full()
+    }
+
     /// A handle for an object of another kind, which keeps this key for its owner.
     pub fn mint(&mut self, kind: Kind, key: u32) -> Result<u32, MakeStop>
         requires { IsTrue (not (is_stream kind)) }

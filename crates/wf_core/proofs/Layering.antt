@@ -1,0 +1,123 @@
+-- What a store tells of sources and masks, and that the layers of a consistent scene fit.
+use Rattle.std.proofs.Common.{◌≡◌, ℕ, Bool, true, false, not, cond, ◌||◌, ◌==◌, List, [], ◌∷◌, map, find, option_map, is_some, Option, Some, None, IsTrue, IsSomeAnd, Ok, refl, sym, ap, subst, ◌∙◌}
+use Rattle.std.specs.List.{AllByRecursion}
+use Rattle.std.specs.Option.{option_map_or}
+use Rattle.std.proofs.Math.Path.{fun_ext}
+use Rattle.std.proofs.lemmas.Bool.{and_parts, eqb-true}
+use Rattle.wf_words.specs.Keyed.{at_key}
+use Rattle.wf_pixel.specs.declared.Size.{Size}
+use Rattle.wf_pixel.specs.Choice.{is_a8, same_size}
+use Rattle.wf_pixel.specs.Place.{size_of}
+use Rattle.wf_life.specs.declared.Kind.{Kind}
+use Rattle.wf_life.specs.declared.Kind.TheVariants as kind
+use Rattle.wf_life.specs.Handles.{Live, key_of}
+use Rattle.wf_stream.specs.Buffers.{Buffers}
+use Rattle.wf_stream.specs.Streams.{KeptStream, StoreView, buffers_at, stream_at}
+use Rattle.wf_scene.specs.declared.element.Element.{Element}
+use Rattle.wf_scene.specs.declared.look.Seen.{Seen}
+use Rattle.wf_scene.specs.declared.Scene.{Scene}
+use Rattle.wf_scene.specs.Cached.{CachedScene}
+use Rattle.wf_scene.specs.Consistent.{consistent, inserted_elements, layer_of, stream_of}
+use Rattle.wf_scene.specs.Layers.{holds_rect}
+use Rattle.wf_scene.specs.Sight.{Sight}
+use Rattle.wf_model.specs.declared.Source.{Source}
+use Rattle.wf_model.specs.Composition.{CoreState, seen, seen_source, sight_of}
+use Rattle.wf_core.specs.Fits.{Fits, HandlesFit, LayerFits, Shows, mask_live, of_kind, source_live}
+use Rattle.wf_core.specs.Sides.{side_of}
+use Rattle.wf_core.specs.Sights.{seen_key, sight_in}
+use Rattle.wf_core.proofs.Faults.{Keeps, faultless, no_fault}
+use Rattle.wf_core.proofs.Lists.{each_found}
+use Rattle.wf_core.proofs.Lookups.{keyed}
+use Rattle.wf_core.proofs.Seeing.{behind, has_number}
+
+-- what is seen behind the keys of a kind is what is seen of the objects
+seen_same : (k : Kind) (g : Source → Live) (sources : List Source) (store : StoreView) → ((s : Source) → (g s).handle ≡ s.handle) → of_kind k store.others ≡ map g sources
+    → ((o : Option Source) → seen_key store.streams (option_map (λ s. (g s).key) o) ≡ seen_source store.streams o)
+    → ((h : ℕ) → find (λ s. (g s).handle == h) sources ≡ at_key (λ s. s.handle) h sources)
+    → (h : ℕ) → seen_key store.streams (key_of h k store.others) ≡ seen sources store.streams h
+seen_same k g sources store handle is told found h =
+    ap (seen_key store.streams) (keyed k g h sources store.others is) ∙ ap (λ (o : Option Source). seen_key store.streams (option_map (λ s. (g s).key) o)) (found h) ∙ told (at_key (λ s. s.handle) h sources)
+
+-- the store tells what the objects show
+pub sights : (core : CoreState) (store : StoreView) → HandlesFit core store → sight_in store ≡ sight_of (side_of core store)
+sights core store fits =
+    let both : (ℕ → Option Seen) → (ℕ → Option Seen) → Sight = λ source mask. record { source = source; mask = mask } in
+    ap (λ (f : ℕ → Option Seen). both f (λ h. seen_key store.streams (key_of h kind.Mask store.others))) (fun_ext (seen_same kind.Source source_live core.sources store (λ s. refl) fits.sources of_source (λ h. refl)))
+    ∙ ap (both (seen core.sources store.streams)) (fun_ext (seen_same kind.Mask mask_live core.masks store (λ s. refl) fits.masks of_mask (λ h. refl)))
+  where
+    of_source : (o : Option Source) → seen_key store.streams (option_map (λ s. (source_live s).key) o) ≡ seen_source store.streams o
+    of_source None = refl
+    of_source (Some s) = refl
+
+    of_mask : (o : Option Source) → seen_key store.streams (option_map (λ s. (mask_live s).key) o) ≡ seen_source store.streams o
+    of_mask None = refl
+    of_mask (Some s) = refl
+
+-- what is seen of a source or a mask is kept, with its size, and is for what the source or the mask is for
+seen_shape : (mask : Bool) (streams : List KeptStream) (sources : List Source) (h : ℕ) (s : Seen) → AllByRecursion (Shows mask streams) sources → seen sources streams h ≡ Some s
+    → IsSomeAnd (buffers_at s.stream streams) (λ b. (is_a8 b.format ≡ mask) × (b.size ≡ s.size))
+seen_shape mask streams sources h s shows is = of_object (at_key (λ (x : Source). x.handle) h sources) refl is
+  where
+    of_object : (o : Option Source) → at_key (λ (x : Source). x.handle) h sources ≡ o → seen_source streams o ≡ Some s → IsSomeAnd (buffers_at s.stream streams) (λ b. (is_a8 b.format ≡ mask) × (b.size ≡ s.size))
+    of_object None at told = absurd cc
+    of_object (Some x) at told =
+        let k = behind (stream_at x.stream streams) s told in
+        let shown = each_found (Shows mask streams) (λ (y : Source). y.handle == h) sources x shows at in
+        let format : is_a8 k.0.buffers.format ≡ mask = rw k.1 at shown in
+        let number : s.stream ≡ x.stream = ap (λ (y : Seen). y.stream) k.2 ∙ has_number x.stream streams k.0 k.1 in
+        rw (number, k.1) (format, sym (ap (λ (y : Seen). y.size) k.2))
+
+-- a fact about a value that is there, from another
+from_some : {A : Type 0} (P Q : A → Type 0) (o : Option A) → IsSomeAnd o P → ((x : A) → P x → Q x) → IsSomeAnd o Q
+from_some P Q None holds from = absurd holds
+from_some P Q (Some x) holds from = from x holds
+
+same_sides : (s t : Size) → same_size s t ≡ true → s ≡ t
+same_sides s t is =
+    let parts = and_parts (s.w == t.w) (s.h == t.h) is in
+    let size : ℕ → ℕ → Size = λ w h. record { w = w; h = h } in
+    ap (λ (w : ℕ). size w s.h) (eqb-true s.w t.w parts.0) ∙ ap (size t.w) (eqb-true s.h t.h parts.1)
+
+module _ (core : CoreState) (store : StoreView) (fits : Fits core store) where
+  abbrev sight : Sight
+  sight = sight_of (side_of core store)
+
+  -- the source of an element that keeps all rules
+  source_fits : (e : Element) (o : Option Seen) → sight.source e.source ≡ o → is_some o ≡ true → option_map_or (λ (s : Seen). holds_rect s.size e.style.src) o false ≡ true
+      → IsSomeAnd (buffers_at (stream_of o) store.streams) (λ b. (is_a8 b.format ≡ false) × IsTrue (holds_rect b.size e.style.src))
+  source_fits e None at some inside = absurd cc
+  source_fits e (Some s) at some inside =
+      from_some (λ (b : Buffers). (is_a8 b.format ≡ false) × (b.size ≡ s.size)) (λ (b : Buffers). (is_a8 b.format ≡ false) × IsTrue (holds_rect b.size e.style.src)) (buffers_at s.stream store.streams)
+      (seen_shape false store.streams core.sources e.source s fits.streams.sources at) (λ b is. (is.0, ap (λ (z : Size). holds_rect z e.style.src) is.1 ∙ inside))
+
+  -- its mask
+  mask_fits : (e : Element) (o : Option Seen) → sight.mask e.mask ≡ o → option_map_or (λ (m : Seen). same_size m.size (size_of e.style.dest)) o false ≡ true
+      → IsSomeAnd (buffers_at (stream_of o) store.streams) (λ b. (is_a8 b.format ≡ true) × (b.size ≡ size_of e.style.dest))
+  mask_fits e None at covered = absurd cc
+  mask_fits e (Some m) at covered =
+      from_some (λ (b : Buffers). (is_a8 b.format ≡ true) × (b.size ≡ m.size)) (λ (b : Buffers). (is_a8 b.format ≡ true) × (b.size ≡ size_of e.style.dest)) (buffers_at m.stream store.streams)
+      (seen_shape true store.streams core.masks e.mask m fits.streams.masks at) (λ b is. (is.0, is.1 ∙ same_sides m.size (size_of e.style.dest) covered))
+
+  layer_fits : (e : Element) → Keeps sight e → LayerFits store.streams (layer_of sight e)
+  layer_fits e keeps =
+      record {
+        source = source_fits e (sight.source e.source) refl keeps.source keeps.inside;
+        dest = keeps.destination;
+        mask = λ applies. masked e.style.transparency.mask applies keeps.covered;
+        unmasked = λ bare. ap (λ b. cond b (stream_of (sight.mask e.mask)) 0) bare;
+      }
+    where
+      masked : (b : Bool) → b ≡ true → (not b || option_map_or (λ (m : Seen). same_size m.size (size_of e.style.dest)) (sight.mask e.mask) false) ≡ true
+          → IsSomeAnd (buffers_at (cond b (stream_of (sight.mask e.mask)) 0) store.streams) (λ x. (is_a8 x.format ≡ true) × (x.size ≡ size_of e.style.dest))
+      masked true is covered = mask_fits e (sight.mask e.mask) refl covered
+      masked false is covered = absurd cc
+
+  layers_fit : (es : List Element) → AllByRecursion (Keeps sight) es → AllByRecursion (LayerFits store.streams) (map (layer_of sight) es)
+  layers_fit [] keep = tt
+  layers_fit (e ∷ es) keep = (layer_fits e keep.0, layers_fit es keep.1)
+
+  -- the scene that a commit takes has the size of the cached one, and its layers fit
+  pub consistent_fits : (c : CachedScene) (s : Scene) → consistent sight c ≡ Ok s → (s.size ≡ c.size) × AllByRecursion (LayerFits store.streams) s.layers.items
+  consistent_fits c s is =
+      let ok = no_fault sight c s is in
+      (ap (λ (x : Scene). x.size) ok.1, subst (λ (x : Scene). AllByRecursion (LayerFits store.streams) x.layers.items) (sym ok.1) (layers_fit (inserted_elements c) (faultless sight 1 (inserted_elements c) ok.0)))

@@ -1,0 +1,16 @@
+pub mod Steps
+pub mod Lists
+pub mod Rises
+pub mod Fitting
+pub mod Lookups
+pub mod Owners
+pub mod Scenes
+pub mod Seeing
+pub mod Makings
+pub mod ElementCalls
+pub mod Keeping
+pub mod Faults
+pub mod Layering
+pub mod Committing
+pub mod Screens
+pub mod Activating

@@ -1,0 +1,89 @@
+//! Commits: the cached scene of a context becomes the committed one, or nothing changes.
+
+ghost use Rattle.std.specs.Prelude.{◌≡◌, ◌+◌, ◌*◌, ◌≤◌, false, OnErr, IfErr};
+ghost use Rattle.wf_life.specs.Handles.{key_of};
+ghost use Rattle.wf_stream.specs.Streams.{is_stream};
+ghost use Rattle.wf_scene.specs.Consistent.{consistent};
+ghost use Rattle.wf_model.specs.Composition.{core_answer};
+ghost use Rattle.wf_model.specs.Core.{commit, fault_as_refusal};
+ghost use Rattle.wf_core.specs.Sides.{side_of, done_by};
+ghost use Rattle.wf_core.specs.Sights.{seen_key, sight_in};
+ghost use Rattle.wf_core.specs.Fits.{Fits};
+
+use crate::composition::Core;
+use crate::finding::key_of;
+use crate::streams::seen_by_number;
+use wf_calls::{Code, Refusal, Reply};
+use wf_scene::{Cached, Fault, Look, Scene, Seen};
+use wf_stream::{Kind, Store};
+
+/// What a store tells of sources and masks: their keys are the numbers of their streams.
+#[derive(Drop)]
+struct Sights<'a> {
+    store: &'a Store,
+}
+
+impl Look for Sights<'_> {
+    ghost sight = { λ s. sight_in s.store.now };
+
+    fn source(&self, handle: u32) -> Option<Seen> {
+        seen_by_key(self.store, handle, Kind::Source)
+    }
+
+    fn mask(&self, handle: u32) -> Option<Seen> {
+        seen_by_key(self.store, handle, Kind::Mask)
+    }
+}
+
+/// What a live source or mask shows.
+fn seen_by_key(store: &Store, handle: u32, kind: Kind) -> Option<Seen>
+    requires { is_stream kind ≡ false }
+    ensures { result ≡ seen_key store.now.streams (key_of handle kind store.now.others) }
+{
+    match key_of(store, handle, kind) {
+        Some(number) => seen_by_number(store, number),
+        None => None,
+    }
+}
+
+/// The scene that a commit takes, or its first fault, told as one number.
+fn committed(cached: &Cached, store: &Store) -> Result<Scene, Refusal>
+    ensures { result ≡ fault_as_refusal (consistent (sight_in store.now) cached.now) }
+{
+    match cached.consistent(&Sights { store }) {
+        Ok(scene) => Ok(scene),
+        Err(Fault { place, rule }) => Err(Refusal {
+            code: Code::Inconsistency,
+            value: place * 16 + rule,
+        }),
+    }
+}
+
+impl Core {
+    fn try_commit(&mut self, store: &Store, device: u32, context: u32) -> Result<u32, Refusal>
+        requires { Fits self.old store.now }
+        ensures case { commit device context (side_of self.old store.now) ≡ done_by result (side_of self.new store.now) }
+        ensures refused { OnErr result (self.new ≡ self.old) }
+        ensures fits { Fits self.new store.now }
+    {
+        let place = self.context_place(store, device, context)?;
+        match committed(&self.contexts[place].cached, store) {
+            Ok(scene) => self.contexts[place].committed = scene,
+            Err(refused) => return Err(refused),
+        }
+        Ok(0)
+    }
+
+    /// Makes the cached scene of a context the committed one, as a whole, or changes nothing. Inconsistency has the value
+    /// place * 16 + rule: the place of the first bad element, from 1 at the bottom, and the first rule that it breaks. It
+    /// takes no memory.
+    pub fn commit(&mut self, store: &mut Store, device: u32, context: u32) -> Reply
+        requires { Fits self.old store.old }
+        ensures step { let before = side_of self.old store.old in core_answer device before (commit device context before) ≡ (side_of self.new store.new, result) }
+        ensures kept { store.new ≡ store.old }
+        ensures fits { Fits self.new store.new }
+    {
+        let done = self.try_commit(store, device, context);
+        self.answer(store, device, done)
+    }
+}

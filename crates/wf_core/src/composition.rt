@@ -1,0 +1,56 @@
+//! The objects of composition.
+
+ghost use Rattle.std.specs.Prelude.{◌≡◌, IfOk};
+ghost use Rattle.wf_model.specs.Composition.{no_objects};
+
+use std::alloc::Global;
+use std::marker::Model;
+use wf_model::{Context, Device, Source};
+use wf_words::NoMemory;
+
+/// How many devices live at most.
+pub(crate) const MOST_DEVICES: usize = 8;
+
+/// How many contexts live at most.
+pub(crate) const MOST_CONTEXTS: usize = 16;
+
+/// How many sources and masks live at most, those of the display included.
+pub(crate) const MOST_SOURCES: usize = 256;
+
+/// The objects of composition: devices, contexts, sources and masks, each by rising handle. A context has its elements in
+/// its cached scene. All room is taken when they are made.
+#[derive(Drop)]
+pub struct Core {
+    pub(crate) alloc: Global,
+    pub(crate) devices: Vec<Device>,
+    pub(crate) contexts: Vec<Context>,
+    pub(crate) sources: Vec<Source>,
+    pub(crate) masks: Vec<Source>,
+}
+
+impl Model for Core {
+    ghost use Rattle.wf_model.specs.Composition.{CoreState};
+
+    ghost Value = { CoreState };
+
+    ghost use Rattle.wf_core.specs.Inside.{core_inside, IsRoomy};
+
+    ghost view = { core_inside };
+
+    ghost invariant = { IsRoomy };
+}
+
+impl Core {
+    /// No objects, with the room for all that may live.
+    pub fn new(alloc: Global) -> Result<Core, NoMemory>
+        ensures { IfOk result (λ made. made ≡ no_objects) }
+    {
+        Ok(Core {
+            alloc,
+            devices: Vec::with_capacity(alloc, MOST_DEVICES)?,
+            contexts: Vec::with_capacity(alloc, MOST_CONTEXTS)?,
+            sources: Vec::with_capacity(alloc, MOST_SOURCES)?,
+            masks: Vec::with_capacity(alloc, MOST_SOURCES)?,
+        })
+    }
+}

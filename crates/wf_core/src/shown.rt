@@ -1,0 +1,86 @@
+//! What contexts show.
+
+ghost use Rattle.std.specs.Prelude.{◌≡◌, IsSome, option_map};
+ghost use Rattle.wf_words.specs.Keyed.{at_key};
+ghost use Rattle.wf_stream.specs.Streams.{StoreView};
+ghost use Rattle.wf_model.specs.Composition.{change_register, recorded};
+ghost use Rattle.wf_core.specs.Fits.{Fits};
+ghost use Rattle.wf_core.specs.Owners.{of_device};
+ghost use Rattle.wf_core.specs.Shows.{next_context, next_of, next_shown, shown_of, shown_context};
+
+use crate::composition::Core;
+use crate::registers::{device_at, record_in};
+use wf_calls::Code;
+use wf_model::Context;
+use wf_scene::Scene;
+
+/// What a context shows: the number of the stream that it draws into, whether it is active, and its committed scene.
+#[derive(Drop)]
+pub struct Shown {
+    pub target: u32,
+    pub active: bool,
+    pub scene: Scene,
+}
+
+/// What a context shows.
+fn shown_of(context: &Context) -> Shown
+    ensures { result ≡ shown_of context.now }
+{
+    Shown {
+        target: context.target,
+        active: context.active,
+        scene: context.committed.copy(),
+    }
+}
+
+/// What the context of a device shows.
+fn shown_in(contexts: &[Context], device: u32, handle: u32) -> Option<Shown>
+    ensures { result ≡ option_map shown_of (of_device device handle contexts.now) }
+{
+    for context in contexts {
+        if context.handle == handle && context.device == device {
+            return Some(shown_of(context));
+        }
+    }
+    None
+}
+
+/// The first active context above a handle, and what it shows.
+fn next_in(contexts: &[Context], after: u32) -> Option<(u32, Shown)>
+    ensures { result ≡ option_map next_of (next_context after contexts.now) }
+{
+    for context in contexts {
+        if context.active && context.handle > after {
+            return Some((context.handle, shown_of(context)));
+        }
+    }
+    None
+}
+
+impl Core {
+    /// What a context shows. BadDevice is no live device, BadHandle no context of it.
+    pub fn context(&self, device: u32, context: u32) -> Result<Shown, Code>
+        ensures { result ≡ shown_context device context self.now }
+    {
+        if device_at(&self.devices, device).is_none() {
+            return Err(Code::BadDevice);
+        }
+        shown_in(&self.contexts, device, context).ok_or(Code::BadHandle)
+    }
+
+    /// The active context with the least handle above another, of any device, and what it shows.
+    pub fn next(&self, after: u32) -> Option<(u32, Shown)>
+        ensures { result ≡ next_shown after self.now }
+    {
+        next_in(&self.contexts, after)
+    }
+
+    /// Offers a code to the register of a live device, which takes it where it is empty.
+    pub fn record(&mut self, device: u32, code: Code)
+        requires { IsSome (at_key (λ x. x.handle) device self.old.devices) }
+        ensures recorded { self.new ≡ change_register device (recorded code) self.old }
+        ensures fits { (store : StoreView) → Fits self.old store → Fits self.new store }
+    {
+        record_in(&mut self.devices, device, code);
+    }
+}
