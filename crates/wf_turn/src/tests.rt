@@ -109,19 +109,19 @@ fn events_of_lines_at_most(rt: HostRuntime) -> Result<(), Fail> {
 }
 
 #[test]
-fn names_of_the_setup_are_learned(rt: HostRuntime) -> Result<(), Fail> {
+fn a_name_has_the_value_of_its_answer(rt: HostRuntime) -> Result<(), Fail> {
     let alloc = rt.alloc();
-    let script = script_of(alloc, SHARED)?;
+    let script = script_of(
+        alloc,
+        "WFS1\nport 1x1\n0 s = stream 2 1 rgba 2\n0 acquire s\nend\n",
+    )?;
     let mut clock = Program::new(alloc, &script, 0).ok().ok_or("memory")?;
-    let mut other = Program::new(alloc, &script, 2).ok().ok_or("memory")?;
     assert_eq!(rt; clock.place(), Some(0));
-    assert!(rt; clock.in_setup());
     let made = clock.next().ok_or("no call")?;
     assert!(rt; matches!(made.call, Call::StreamNew { width: 2, .. }));
     clock.took(answer(Code::Ok, 7));
-    assert!(rt; !clock.in_setup());
-    other.learn(&clock);
-    let wanted = other.next().ok_or("no call")?;
+    assert_eq!(rt; clock.place(), Some(1));
+    let wanted = clock.next().ok_or("no call")?;
     assert!(rt; matches!(wanted.call, Call::Acquire { stream: 7 }));
     assert!(rt; !wanted.wait);
     Ok(())
