@@ -3,7 +3,7 @@
 use crate::code::Code;
 use wf_image::{Canvas, Contents, Image};
 use wf_pixel::Format;
-use wf_scene::Scene;
+use wf_scene::{ContextAttr, ElementAttr, Scene};
 
 /// What a `Stat` counts.
 #[derive(Clone, Copy, Debug, PartialEq, Eq)]
@@ -17,6 +17,8 @@ pub enum StatWord {
 /// What a frame is of.
 #[derive(Clone, Copy, Debug, PartialEq, Eq)]
 pub enum JobKind {
+    /// A context, by its handle and the number of the stream that it draws into.
+    Context { handle: u32, target: u32 },
     /// A port, counted from 1.
     Port { port: u32 },
 }
@@ -34,6 +36,7 @@ pub struct Job {
 }
 
 /// A call of the machine. Numbers are wide, so that a value out of its range reaches the call and is refused there.
+/// Handles are those that the creations answered; 0 is none.
 #[derive(Drop)]
 pub enum Call {
     /// Makes a stream of 2 to 4 buffers, each an image of this size and format with sides from 1 to 1024.
@@ -42,6 +45,10 @@ pub enum Call {
         height: i64,
         format: Format,
         buffers: i64,
+    },
+    /// Destroys a stream. What names it otherwise keeps it.
+    StreamDestroy {
+        stream: u32,
     },
     /// Takes a stream's write buffer.
     Acquire {
@@ -54,6 +61,122 @@ pub enum Call {
     /// Counts what is kept.
     Stat {
         what: StatWord,
+    },
+    /// Makes a device.
+    DeviceNew,
+    /// Destroys a device, its contexts and all that is theirs.
+    DeviceDestroy {
+        device: u32,
+    },
+    /// Reads and clears a device's error register.
+    GetError {
+        device: u32,
+    },
+    /// Makes a context of a port's screen; ports count from 1.
+    ScreenContext {
+        device: u32,
+        port: i64,
+    },
+    /// Destroys a context with its elements, sources and masks.
+    ContextDestroy {
+        device: u32,
+        context: u32,
+    },
+    /// Makes an element.
+    ElementNew {
+        device: u32,
+        context: u32,
+    },
+    /// Destroys an element, which leaves the cached scene too.
+    ElementDestroy {
+        device: u32,
+        element: u32,
+    },
+    /// Makes a source, which shows a stream of pixels.
+    SourceNew {
+        device: u32,
+        context: u32,
+        stream: u32,
+    },
+    /// Destroys a source.
+    SourceDestroy {
+        device: u32,
+        source: u32,
+    },
+    /// Makes a mask, which shows a stream of alphas.
+    MaskNew {
+        device: u32,
+        context: u32,
+        stream: u32,
+    },
+    /// Destroys a mask.
+    MaskDestroy {
+        device: u32,
+        mask: u32,
+    },
+    /// Sets an attribute of an element. Numbers that the attribute does not have are not read.
+    ElementSet {
+        device: u32,
+        element: u32,
+        attr: ElementAttr,
+        value: [i64; 4],
+    },
+    /// Reads one number of an attribute of an element, by its index from 0.
+    ElementGet {
+        device: u32,
+        element: u32,
+        attr: ElementAttr,
+        index: i64,
+    },
+    /// Inserts an element directly above another one, or at the bottom by 0; one that is inserted already is moved.
+    ElementInsert {
+        device: u32,
+        element: u32,
+        below: u32,
+    },
+    /// Takes an element out of the cached scene.
+    ElementRemove {
+        device: u32,
+        element: u32,
+    },
+    /// Asks for the element directly above one.
+    ElementAbove {
+        device: u32,
+        element: u32,
+    },
+    /// Asks for the element directly below one.
+    ElementBelow {
+        device: u32,
+        element: u32,
+    },
+    /// Sets an attribute of a context. Numbers that the attribute does not have are not read.
+    ContextSet {
+        device: u32,
+        context: u32,
+        attr: ContextAttr,
+        value: [i64; 4],
+    },
+    /// Reads one number of an attribute of a context, by its index from 0.
+    ContextGet {
+        device: u32,
+        context: u32,
+        attr: ContextAttr,
+        index: i64,
+    },
+    /// Makes the cached scene of a context its committed one, as a whole or not at all.
+    Commit {
+        device: u32,
+        context: u32,
+    },
+    /// Makes a context active: each tick begins a frame of it.
+    Activate {
+        device: u32,
+        context: u32,
+    },
+    /// Makes a context inactive.
+    Deactivate {
+        device: u32,
+        context: u32,
     },
     /// Begins a frame of the active context with the least handle above `after`.
     BeginNext {

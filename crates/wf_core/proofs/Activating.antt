@@ -1,5 +1,5 @@
 -- A context that becomes active or inactive: the case of the plain machine, and what is left fits.
-use Rattle.std.proofs.Common.{◌≡◌, ℕ, Bool, List, set, slice_get, Some, Ok, refl, sym, ap, ◌∙◌}
+use Rattle.std.proofs.Common.{◌≡◌, ℕ, Bool, set, slice_get, Some, Ok, refl, sym, ap, ◌∙◌}
 use Rattle.wf_stream.specs.Streams.{StoreView}
 use Rattle.wf_model.specs.declared.Context.{Context}
 use Rattle.wf_model.specs.Outcome.{Outcome}

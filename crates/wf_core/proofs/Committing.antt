@@ -1,10 +1,12 @@
 -- A commit: it answers as the plain machine, and what it leaves fits.
-use Rattle.std.proofs.Common.{◌≡◌, ℕ, set, slice_get, Some, Result, Ok, Err, refl, sym, ap, ◌∙◌}
+use Rattle.std.proofs.Common.{◌≡◌, ℕ, IsTrue, set, slice_get, Some, Result, Ok, Err, refl, sym, ap, ◌∙◌}
+use Rattle.std.specs.List.{list_all}
 use Rattle.wf_words.specs.Refusals.{◌>>=◌}
 use Rattle.wf_stream.specs.Streams.{StoreView}
 use Rattle.wf_scene.specs.declared.look.Fault.{Fault}
 use Rattle.wf_scene.specs.declared.Scene.{Scene}
 use Rattle.wf_scene.specs.Consistent.{consistent}
+use Rattle.wf_scene.specs.Layers.{is_placed_layer}
 use Rattle.wf_scene.specs.Sight.{Sight}
 use Rattle.wf_calls.specs.declared.code.Refusal.{Refusal}
 use Rattle.wf_model.specs.declared.Context.{Context}
@@ -47,8 +49,8 @@ module _ (core : CoreState) (store : StoreView) (fits : Fits core store) (d h : 
       answered (Ok s) is
       ∙ ap done (ap (λ (n : ℕ). change_context n (with_committed s) core) (sym (owned_parts d h w c own).0) ∙ placed_is core store fits place c at (with_committed s))
 
-  pub committed_fits : (s : Scene) → Ok s ≡ fault_as_refusal (consistent (sight_in store) c.cached) → Fits (record core { contexts = set core.contexts place (record c { committed = s }) }) store
-  committed_fits s is =
-      let sound = consistent_fits core store fits c.cached s (ap (λ (sight : Sight). consistent sight c.cached) (sym (sights core store fits.handles)) ∙ taken (consistent (sight_in store) c.cached) s is) in
+  pub committed_fits : (s : Scene) → Ok s ≡ fault_as_refusal (consistent (sight_in store) c.cached) → IsTrue (list_all is_placed_layer s.layers.items) → Fits (record core { contexts = set core.contexts place (record c { committed = s }) }) store
+  committed_fits s is placed =
+      let sound = consistent_fits core store fits c.cached s (ap (λ (sight : Sight). consistent sight c.cached) (sym (sights core store fits.handles)) ∙ taken (consistent (sight_in store) c.cached) s is) placed in
       let fit = each_at (ContextFits store.streams) core.contexts place c fits.streams.contexts at in
       placed_fits core store fits place c at (record c { committed = s }) refl refl (record { target = fit.target; size = sound.0; layers = sound.1 })

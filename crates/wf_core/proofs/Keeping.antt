@@ -1,19 +1,18 @@
 -- What a call on a cached scene keeps: the handles of the elements, and the size.
-use Rattle.std.proofs.Common.{◌≡◌, ℕ, Bool, true, false, not, ℤ, List, option_map, Option, Some, None, Ok, refl, subst}
+use Rattle.std.proofs.Common.{◌≡◌, ℕ, Bool, true, false, not, ℤ, List, Option, Some, None, Ok, refl, subst}
 use Rattle.wf_words.specs.Keyed.{change, is_in}
 use Rattle.wf_words.specs.Refusals.{◌>>=◌, found_or, refuse_if}
-use Rattle.wf_words.specs.Whole.{count_of}
 use Rattle.wf_scene.specs.declared.attributes.Refused.TheVariants as refused
 use Rattle.wf_scene.specs.declared.attributes.ContextAttr.{ContextAttr}
 use Rattle.wf_scene.specs.declared.attributes.ContextAttr.TheVariants as context_attr
 use Rattle.wf_scene.specs.declared.attributes.ElementAttr.{ElementAttr}
-use Rattle.wf_scene.specs.declared.attributes.ElementAttr.TheVariants as attr
 use Rattle.wf_scene.specs.declared.element.Element.{Element}
-use Rattle.wf_scene.specs.Elements.{change_of, with_dest, with_src, with_flip, with_turn, with_filter, with_transparency, with_alpha, with_source, with_mask}
+use Rattle.wf_scene.specs.Elements.{change_of}
 use Rattle.wf_scene.specs.Order.{has_no_room, inserted, is_base, without}
-use Rattle.wf_scene.specs.Values.{component, colour_of, rect_of, flag_of, turn_of, filter_of, transparency_of, channel_of}
+use Rattle.wf_scene.specs.Values.{component, colour_of, turn_of}
 use Rattle.wf_scene.specs.Cached as cached
 use Rattle.wf_scene.specs.Cached.{CachedScene, handle_of, handles}
+use Rattle.wf_scene.specs.Keeping.{keeps_handle}
 use Rattle.wf_core.proofs.Lists.{map_change}
 
 -- what sets nothing of the elements keeps their handles
@@ -47,25 +46,6 @@ remove_keeps handle c s is = by_test (not (is_in handle c.order)) is
     by_test : (b : Bool) → (refuse_if refused.IllegalArgument b >>= (λ _. Ok (record c { order = without handle c.order }))) ≡ Ok s → Keeps c s
     by_test true same = absurd cc
     by_test false same = (let left : record c { order = without handle c.order } ≡ s = cc in subst (Keeps c) left (refl, refl))
-
--- a value changes no handle
-abbrev KeepsHandle : (Element → Element) → Type 0
-KeepsHandle f = (e : Element) → (f e).handle ≡ e.handle
-
-made_of : {A : Type 0} (w : A → Element → Element) (o : Option A) (f : Element → Element) → ((a : A) → KeepsHandle (w a)) → option_map w o ≡ Some f → KeepsHandle f
-made_of w None f keeps is = absurd cc
-made_of w (Some a) f keeps is = let same : w a ≡ f = cc in subst KeepsHandle same (keeps a)
-
-keeps_handle : (a : ElementAttr) (v : List ℤ) (f : Element → Element) → change_of a v ≡ Some f → KeepsHandle f
-keeps_handle attr.Dest v f is = made_of with_dest (rect_of v) f (λ a e. refl) is
-keeps_handle attr.Source v f is = made_of with_source (Some (count_of (component v 0))) f (λ a e. refl) is
-keeps_handle attr.SrcRect v f is = made_of with_src (rect_of v) f (λ a e. refl) is
-keeps_handle attr.Flip v f is = made_of with_flip (flag_of (component v 0)) f (λ a e. refl) is
-keeps_handle attr.Rotation v f is = made_of with_turn (turn_of (component v 0)) f (λ a e. refl) is
-keeps_handle attr.Filter v f is = made_of with_filter (filter_of (component v 0)) f (λ a e. refl) is
-keeps_handle attr.Transparency v f is = made_of with_transparency (transparency_of (component v 0)) f (λ a e. refl) is
-keeps_handle attr.Alpha v f is = made_of with_alpha (channel_of (component v 0)) f (λ a e. refl) is
-keeps_handle attr.Mask v f is = made_of with_mask (Some (count_of (component v 0))) f (λ a e. refl) is
 
 pub set_keeps : (handle : ℕ) (attr : ElementAttr) (value : List ℤ) (c s : CachedScene) → cached.set handle attr value c ≡ Ok s → Keeps c s
 set_keeps handle attr value c s is = of_change (change_of attr value) refl is

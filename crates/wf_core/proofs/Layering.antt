@@ -1,6 +1,6 @@
 -- What a store tells of sources and masks, and that the layers of a consistent scene fit.
 use Rattle.std.proofs.Common.{◌≡◌, ℕ, Bool, true, false, not, cond, ◌||◌, ◌==◌, List, [], ◌∷◌, map, find, option_map, is_some, Option, Some, None, IsTrue, IsSomeAnd, Ok, refl, sym, ap, subst, ◌∙◌}
-use Rattle.std.specs.List.{AllByRecursion}
+use Rattle.std.specs.List.{list_all, AllByRecursion}
 use Rattle.std.specs.Option.{option_map_or}
 use Rattle.std.proofs.Math.Path.{fun_ext}
 use Rattle.std.proofs.lemmas.Bool.{and_parts, eqb-true}
@@ -18,7 +18,7 @@ use Rattle.wf_scene.specs.declared.look.Seen.{Seen}
 use Rattle.wf_scene.specs.declared.Scene.{Scene}
 use Rattle.wf_scene.specs.Cached.{CachedScene}
 use Rattle.wf_scene.specs.Consistent.{consistent, inserted_elements, layer_of, stream_of}
-use Rattle.wf_scene.specs.Layers.{holds_rect}
+use Rattle.wf_scene.specs.Layers.{holds_rect, is_placed_layer}
 use Rattle.wf_scene.specs.Sight.{Sight}
 use Rattle.wf_model.specs.declared.Source.{Source}
 use Rattle.wf_model.specs.Composition.{CoreState, seen, seen_source, sight_of}
@@ -98,11 +98,12 @@ module _ (core : CoreState) (store : StoreView) (fits : Fits core store) where
       from_some (λ (b : Buffers). (is_a8 b.format ≡ true) × (b.size ≡ m.size)) (λ (b : Buffers). (is_a8 b.format ≡ true) × (b.size ≡ size_of e.style.dest)) (buffers_at m.stream store.streams)
       (seen_shape true store.streams core.masks e.mask m fits.streams.masks at) (λ b is. (is.0, is.1 ∙ same_sides m.size (size_of e.style.dest) covered))
 
-  layer_fits : (e : Element) → Keeps sight e → LayerFits store.streams (layer_of sight e)
-  layer_fits e keeps =
+  layer_fits : (e : Element) → Keeps sight e → IsTrue (is_placed_layer (layer_of sight e)) → LayerFits store.streams (layer_of sight e)
+  layer_fits e keeps placed =
       record {
         source = source_fits e (sight.source e.source) refl keeps.source keeps.inside;
         dest = keeps.destination;
+        place = placed;
         mask = λ applies. masked e.style.transparency.mask applies keeps.covered;
         unmasked = λ bare. ap (λ b. cond b (stream_of (sight.mask e.mask)) 0) bare;
       }
@@ -112,12 +113,14 @@ module _ (core : CoreState) (store : StoreView) (fits : Fits core store) where
       masked true is covered = mask_fits e (sight.mask e.mask) refl covered
       masked false is covered = absurd cc
 
-  layers_fit : (es : List Element) → AllByRecursion (Keeps sight) es → AllByRecursion (LayerFits store.streams) (map (layer_of sight) es)
-  layers_fit [] keep = tt
-  layers_fit (e ∷ es) keep = (layer_fits e keep.0, layers_fit es keep.1)
+  layers_fit : (es : List Element) → AllByRecursion (Keeps sight) es → list_all is_placed_layer (map (layer_of sight) es) ≡ true → AllByRecursion (LayerFits store.streams) (map (layer_of sight) es)
+  layers_fit [] keep placed = tt
+  layers_fit (e ∷ es) keep placed =
+      let parts = and_parts (is_placed_layer (layer_of sight e)) (list_all is_placed_layer (map (layer_of sight) es)) placed in
+      (layer_fits e keep.0 parts.0, layers_fit es keep.1 parts.1)
 
   -- the scene that a commit takes has the size of the cached one, and its layers fit
-  pub consistent_fits : (c : CachedScene) (s : Scene) → consistent sight c ≡ Ok s → (s.size ≡ c.size) × AllByRecursion (LayerFits store.streams) s.layers.items
-  consistent_fits c s is =
+  pub consistent_fits : (c : CachedScene) (s : Scene) → consistent sight c ≡ Ok s → IsTrue (list_all is_placed_layer s.layers.items) → (s.size ≡ c.size) × AllByRecursion (LayerFits store.streams) s.layers.items
+  consistent_fits c s is placed =
       let ok = no_fault sight c s is in
-      (ap (λ (x : Scene). x.size) ok.1, subst (λ (x : Scene). AllByRecursion (LayerFits store.streams) x.layers.items) (sym ok.1) (layers_fit (inserted_elements c) (faultless sight 1 (inserted_elements c) ok.0)))
+      (ap (λ (x : Scene). x.size) ok.1, subst (λ (x : Scene). AllByRecursion (LayerFits store.streams) x.layers.items) (sym ok.1) (layers_fit (inserted_elements c) (faultless sight 1 (inserted_elements c) ok.0) (subst (λ (x : Scene). list_all is_placed_layer x.layers.items ≡ true) ok.1 placed)))

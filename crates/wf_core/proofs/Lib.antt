@@ -14,3 +14,7 @@ pub mod Layering
 pub mod Committing
 pub mod Screens
 pub mod Activating
+pub mod Leaving
+pub mod Dropping
+pub mod Destroying
+pub mod Remainders

@@ -15,7 +15,9 @@ use Rattle.wf_model.specs.declared.Context.{Context}
 use Rattle.wf_model.specs.Outcome.{Outcome, found, refusal, refuse}
 use Rattle.wf_model.specs.Composition.{CoreSide, CoreState, created, seen_stream}
 use Rattle.wf_model.specs.Core.{blank_scene, contexts_full, has_port, new_context, room, screen_context}
-use Rattle.wf_core.specs.Fits.{ContextFits, Fits}
+use Rattle.wf_pixel.specs.Choice.{is_a8}
+use Rattle.std.specs.Option.{IfSome}
+use Rattle.wf_core.specs.Fits.{ContextFits, Fits, IsOfPixels}
 use Rattle.wf_core.specs.Sides.{refused_handle, side_of}
 use Rattle.wf_core.specs.Sights.{screen_seen}
 use Rattle.wf_core.proofs.Lists.{count_left}
@@ -107,13 +109,14 @@ module _ (core : CoreState) (store : StoreView) (fits : Fits core store) (d : �
               (ap (λ (y : Seen). done y (not (count_of port == 0)) w.display_sources) (sym s.4) ∙ ap (λ b. done seen (not b) w.display_sources) some_port
               ∙ ap (done seen true) (sym (count_left (λ (l : Live). same_kind l.kind kind.DisplaySource) store.others (record { handle = store.made + 1; kind = kind.Context; key = d }) refl)))
 
-          -- it draws into a stream of its size
-          pub made_fits : ContextFits store.streams made
-          made_fits =
+          -- it draws into a stream of pixels of its size
+          pub made_fits : IfSome screen (IsOfPixels store.streams) → ContextFits store.streams made
+          made_fits pixels =
               let s = screen_parts screen store.streams seen sees in
+              let of_pixels : is_a8 s.1.buffers.format ≡ false = rw (s.2, s.3) at pixels in
               let number : seen.stream ≡ s.0 = ap (λ (y : Seen). y.stream) s.4 ∙ has_number s.0 store.streams s.1 s.3 in
               record {
-                target = rw (number, s.3) (ap (λ (y : Seen). y.size) (sym s.4));
+                target = rw (number, s.3) (ap (λ (y : Seen). y.size) (sym s.4), of_pixels);
                 size = refl;
                 layers = tt;
               }

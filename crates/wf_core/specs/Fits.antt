@@ -1,5 +1,5 @@
 -- When the objects of composition and the store fit: the store has just their handles, and keeps the streams that they name.
-use Rattle.std.specs.Prelude.{◌≡◌, ℕ, Bool, true, false, not, ◌&&◌, ◌||◌, ◌==◌, List, map, filter, IsSomeAnd, IsTrue}
+use Rattle.std.specs.Prelude.{◌≡◌, ℕ, Bool, true, false, not, ◌&&◌, ◌||◌, ◌==◌, List, map, filter, IfSome, IsSomeAnd, IsTrue}
 use Rattle.std.specs.List.{list_all, AllByRecursion}
 use Rattle.wf_words.specs.Keyed.{is_in}
 use Rattle.wf_pixel.specs.Choice.{has_sides, is_a8}
@@ -10,7 +10,7 @@ use Rattle.wf_life.specs.Handles.{Live, IsRising, same_kind}
 use Rattle.wf_stream.specs.Streams.{KeptStream, StoreView, buffers_at}
 use Rattle.wf_scene.specs.declared.Layer.{Layer}
 use Rattle.wf_scene.specs.Cached.{handles}
-use Rattle.wf_scene.specs.Layers.{holds_rect}
+use Rattle.wf_scene.specs.Layers.{holds_rect, is_placed_layer}
 use Rattle.wf_model.specs.declared.Device.{Device}
 use Rattle.wf_model.specs.declared.Context.{Context}
 use Rattle.wf_model.specs.declared.Source.{Source}
@@ -71,16 +71,22 @@ pub record HandlesFit (core : CoreState) (store : StoreView) : Type 0 where
 abbrev pub Shows : Bool → List KeptStream → Source → Type 0
 Shows mask streams s = IsSomeAnd (buffers_at s.stream streams) (λ b. is_a8 b.format ≡ mask)
 
--- a layer shows a part of a stream of pixels, through a mask of the destination's size where one applies
+-- a layer shows a part of a stream of pixels, at a place in the range of coordinates, through a mask of the
+-- destination's size where one applies
 pub record LayerFits (streams : List KeptStream) (l : Layer) : Type 0 where
   pub source : IsSomeAnd (buffers_at l.stream streams) (λ b. (is_a8 b.format ≡ false) × IsTrue (holds_rect b.size l.src))
   pub dest : IsTrue (has_sides (size_of l.dest))
+  pub place : IsTrue (is_placed_layer l)
   pub mask : IsTrue l.transparency.mask → IsSomeAnd (buffers_at l.mask streams) (λ b. (is_a8 b.format ≡ true) × (b.size ≡ size_of l.dest))
   pub unmasked : l.transparency.mask ≡ false → l.mask ≡ 0
 
--- a context draws into a stream of the size of its scenes, and its committed scene fits
+-- a stream, if it is kept, is one of pixels
+abbrev pub IsOfPixels : List KeptStream → ℕ → Type 0
+IsOfPixels streams n = IfSome (buffers_at n streams) (λ b. is_a8 b.format ≡ false)
+
+-- a context draws into a stream of pixels of the size of its scenes, and its committed scene fits
 pub record ContextFits (streams : List KeptStream) (c : Context) : Type 0 where
-  pub target : IsSomeAnd (buffers_at c.target streams) (λ b. b.size ≡ c.cached.size)
+  pub target : IsSomeAnd (buffers_at c.target streams) (λ b. (b.size ≡ c.cached.size) × (is_a8 b.format ≡ false))
   pub size : c.committed.size ≡ c.cached.size
   pub layers : AllByRecursion (LayerFits streams) c.committed.layers.items
 

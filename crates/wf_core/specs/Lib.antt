@@ -4,4 +4,6 @@ pub mod Fits
 pub mod Owners
 pub mod Sights
 pub mod Shows
+pub mod Marks
+pub mod Losses
 pub mod Inside

@@ -1,11 +1,12 @@
 -- What contexts show to those who compose them.
-use Rattle.std.specs.Prelude.{ℕ, ◌&&◌, nat_lt, List, find, option_map, Option, Result, Ok}
+use Rattle.std.specs.Prelude.{ℕ, option_map, Option, Result, Ok}
 use Rattle.wf_words.specs.Refusals.{◌>>=◌, found_or}
 use Rattle.wf_words.specs.Keyed.{at_key}
 use Rattle.wf_calls.specs.declared.code.Code.{Code}
 use Rattle.wf_calls.specs.declared.code.Code.TheVariants as code
 use Rattle.wf_model.specs.declared.Context.{Context}
 use Rattle.wf_model.specs.Composition.{CoreState}
+use Rattle.wf_model.specs.Frames.{next_context}
 use Rattle.wf_core.specs.declared.shown.Shown.{Shown}
 use Rattle.wf_core.specs.Owners.{of_device}
 
@@ -20,13 +21,10 @@ shown_context d handle core = do
   c ← found_or code.BadHandle (of_device d handle core.contexts)
   Ok (shown_of c)
 
--- contexts stand by rising handle, so the first active one above a handle is the one with the least handle
-abbrev pub next_context : ℕ → List Context → Option Context
-next_context after contexts = find (λ c. c.active && nat_lt after c.handle) contexts
-
 -- its handle, and what it shows
 abbrev pub next_of : Context → ℕ × Shown
 next_of c = (c.handle, shown_of c)
 
+-- contexts stand by rising handle, so the first active one above a handle is the one with the least handle
 abbrev pub next_shown : ℕ → CoreState → Option (ℕ × Shown)
 next_shown after core = option_map next_of (next_context after core.contexts)

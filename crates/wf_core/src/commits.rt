@@ -1,9 +1,11 @@
 //! Commits: the cached scene of a context becomes the committed one, or nothing changes.
 
-ghost use Rattle.std.specs.Prelude.{◌≡◌, ◌+◌, ◌*◌, ◌≤◌, false, OnErr, IfErr};
+ghost use Rattle.std.specs.Prelude.{◌≡◌, ◌+◌, ◌*◌, ◌≤◌, false, OnErr, IfOk, IfErr, IsTrue};
+ghost use Rattle.std.specs.List.{list_all};
 ghost use Rattle.wf_life.specs.Handles.{key_of};
 ghost use Rattle.wf_stream.specs.Streams.{is_stream};
 ghost use Rattle.wf_scene.specs.Consistent.{consistent};
+ghost use Rattle.wf_scene.specs.Layers.{is_placed_layer};
 ghost use Rattle.wf_model.specs.Composition.{core_answer};
 ghost use Rattle.wf_model.specs.Core.{commit, fault_as_refusal};
 ghost use Rattle.wf_core.specs.Sides.{side_of, done_by};
@@ -48,7 +50,8 @@ fn seen_by_key(store: &Store, handle: u32, kind: Kind) -> Option<Seen>
 
 /// The scene that a commit takes, or its first fault, told as one number.
 fn committed(cached: &Cached, store: &Store) -> Result<Scene, Refusal>
-    ensures { result ≡ fault_as_refusal (consistent (sight_in store.now) cached.now) }
+    ensures scene { result ≡ fault_as_refusal (consistent (sight_in store.now) cached.now) }
+    ensures placed { IfOk result (λ scene. IsTrue (list_all is_placed_layer scene.layers.items)) }
 {
     match cached.consistent(&Sights { store }) {
         Ok(scene) => Ok(scene),

@@ -1,6 +1,6 @@
 //! Contexts and their attributes.
 
-ghost use Rattle.std.specs.Prelude.{◌≡◌, ◌==◌, ◌||◌, false, pos, IsSome, IsTrue, OnErr};
+ghost use Rattle.std.specs.Prelude.{◌≡◌, ◌==◌, ◌||◌, false, pos, IfSome, IsSome, IsTrue, OnErr};
 ghost use Rattle.wf_life.specs.Handles.{is_full};
 ghost use Rattle.wf_words.specs.Whole.{count_of};
 ghost use Rattle.wf_pixel.specs.Choice.{is_between};
@@ -9,7 +9,7 @@ ghost use Rattle.wf_model.specs.Outcome.{refusal};
 ghost use Rattle.wf_model.specs.Composition.{core_answer};
 ghost use Rattle.wf_model.specs.Core.{blank_scene, by_scene, context_get, context_set, contexts_full, has_port, refusal_code, screen_context};
 ghost use Rattle.wf_core.specs.Sides.{KeepsRest, side_of, done_by, lacks_memory};
-ghost use Rattle.wf_core.specs.Fits.{Fits};
+ghost use Rattle.wf_core.specs.Fits.{Fits, IsOfPixels};
 ghost use Rattle.wf_core.specs.Sights.{screen_seen};
 
 use crate::answers::refusal;
@@ -108,6 +108,7 @@ impl Core {
     ) -> Result<u32, Refusal>
         requires fits { Fits self.old store.old }
         requires declared { IsSome screen → IsTrue (is_between (pos 1) (pos 4) port) }
+        requires pixels { IfSome screen (IsOfPixels store.old.streams) }
         ensures case { screen_context device port screen (lacks_memory result) (side_of self.old store.old) ≡ done_by result (side_of self.new store.new) }
         ensures refused { OnErr result (self.new ≡ self.old) }
         ensures unmade { OnErr result (store.new ≡ store.old) }
@@ -194,6 +195,7 @@ impl Core {
     ) -> Reply
         requires fits { Fits self.old store.old }
         requires declared { IsSome screen → IsTrue (is_between (pos 1) (pos 4) port) }
+        requires pixels { IfSome screen (IsOfPixels store.old.streams) }
         ensures step { let before = side_of self.old store.old in core_answer device before (screen_context device port screen (is_out_of_memory result.code) before) ≡ (side_of self.new store.new, result) }
         ensures kept { KeepsRest store.old store.new }
         ensures fits { Fits self.new store.new }

@@ -16,7 +16,7 @@ use wf_scene::ElementAttr;
 use wf_stream::Store;
 
 /// A context is one of a device.
-fn is_of_device(contexts: &[Context], device: u32, context: u32) -> bool
+pub(crate) fn is_of_device(contexts: &[Context], device: u32, context: u32) -> bool
     ensures { result ≡ list_any (λ c. (c.handle == context) && (c.device == device)) contexts.now }
 {
     contexts

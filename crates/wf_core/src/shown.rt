@@ -4,9 +4,10 @@ ghost use Rattle.std.specs.Prelude.{◌≡◌, IsSome, option_map};
 ghost use Rattle.wf_words.specs.Keyed.{at_key};
 ghost use Rattle.wf_stream.specs.Streams.{StoreView};
 ghost use Rattle.wf_model.specs.Composition.{change_register, recorded};
+ghost use Rattle.wf_model.specs.Frames.{next_context};
 ghost use Rattle.wf_core.specs.Fits.{Fits};
 ghost use Rattle.wf_core.specs.Owners.{of_device};
-ghost use Rattle.wf_core.specs.Shows.{next_context, next_of, next_shown, shown_of, shown_context};
+ghost use Rattle.wf_core.specs.Shows.{next_of, next_shown, shown_of, shown_context};
 
 use crate::composition::Core;
 use crate::registers::{device_at, record_in};

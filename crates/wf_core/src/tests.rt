@@ -1,8 +1,12 @@
 //! What no clause says: that each creation succeeds where memory is at hand; and worked rows.
 
-ghost use Rattle.std.specs.Prelude.{IfOk};
-ghost use Rattle.wf_core.specs.Fits.{Fits};
+ghost use Rattle.std.specs.Prelude.{pos, IfOk, IfSome, IsTrue};
+ghost use Rattle.wf_pixel.specs.Choice.{is_between};
+ghost use Rattle.wf_core.specs.Fits.{Fits, IsOfPixels};
 
+mod destruction;
+
+use crate::streams::is_a8;
 use crate::{Core, NoMemory};
 use std::alloc::Global;
 use std::test::Fail;
@@ -25,14 +29,33 @@ fn opened(alloc: Global) -> Result<(Core, Store), NoMemory>
     Ok((Core::new(alloc)?, store))
 }
 
+/// The stream of the screen.
+fn screen(store: &Store) -> Option<u32>
+    ensures { IfSome result (IsOfPixels store.now.streams) }
+{
+    let stream = store.get(1)?;
+    if is_a8(stream.format()) {
+        return None;
+    }
+    Some(1)
+}
+
+/// Makes the context of a port, which shows the screen.
+fn screened(core: &mut Core, store: &mut Store, device: u32, port: i64) -> (Code, u32)
+    requires fits { Fits core.old store.old }
+    requires declared { IsTrue (is_between (pos 1) (pos 4) port) }
+    ensures { Fits core.new store.new }
+{
+    let screen = screen(store);
+    told(core.screen_context(store, device, port, screen))
+}
+
 #[test]
 fn elements_are_moved(rt: HostRuntime) -> Result<(), Fail> {
     let (mut core, mut store) = opened(rt.alloc())?;
     assert_eq!(rt; told(core.device_new(&mut store)), (Code::Ok, 1));
-    assert_eq!(rt;
-        told(core.screen_context(&mut store, 1, 1, Some(1))),
-        (Code::Ok, 2)
-    );
+    let context = screened(&mut core, &mut store, 1, 1);
+    assert_eq!(rt; context, (Code::Ok, 2));
     for element in 3..6u32 {
         assert_eq!(rt;
             told(core.element_new(&mut store, 1, 2)),
@@ -90,10 +113,8 @@ fn offer(core: &mut Core, store: &Store, device: u32, context: u32, code: Code)
 fn a_bad_commit_leaves_the_old_scene(rt: HostRuntime) -> Result<(), Fail> {
     let (mut core, mut store) = staged(rt.alloc())?;
     assert_eq!(rt; told(core.device_new(&mut store)), (Code::Ok, 3));
-    assert_eq!(rt;
-        told(core.screen_context(&mut store, 3, 1, Some(1))),
-        (Code::Ok, 4)
-    );
+    let context = screened(&mut core, &mut store, 3, 1);
+    assert_eq!(rt; context, (Code::Ok, 4));
     assert_eq!(rt; told(core.source_new(&mut store, 3, 4, 1)), (Code::Ok, 5));
     assert_eq!(rt; told(core.element_new(&mut store, 3, 4)), (Code::Ok, 6));
     assert_eq!(rt;
@@ -146,10 +167,8 @@ fn a_bad_commit_leaves_the_old_scene(rt: HostRuntime) -> Result<(), Fail> {
 fn attributes_are_answered(rt: HostRuntime) -> Result<(), Fail> {
     let (mut core, mut store) = opened(rt.alloc())?;
     assert_eq!(rt; told(core.device_new(&mut store)), (Code::Ok, 1));
-    assert_eq!(rt;
-        told(core.screen_context(&mut store, 1, 1, Some(1))),
-        (Code::Ok, 2)
-    );
+    let context = screened(&mut core, &mut store, 1, 1);
+    assert_eq!(rt; context, (Code::Ok, 2));
     assert_eq!(rt; told(core.element_new(&mut store, 1, 2)), (Code::Ok, 3));
     let turned = core.context_set(&mut store, 1, 2, ContextAttr::Rotation, [90, 0, 0, 0]);
     assert_eq!(rt; told(turned), (Code::Ok, 0));

@@ -16,8 +16,9 @@ pub(crate) fn texel_at(bound: &BoundLayer, x: i32, y: i32) -> Option<Rgba>
     ensures { result ≡ bound_texel bound.now x y }
 {
     let layer = bound.layer;
-    let (u, v) = source_place(layer.src, layer.flip, layer.turn, layer.dest, x, y)?;
+    // The image is asked for first: that costs nothing, and a screen on which nothing was put has none.
     let image = bound.source?;
+    let (u, v) = source_place(layer.src, layer.flip, layer.turn, layer.dest, x, y)?;
     let mask = mask_at(bound, x, y)?;
     let color = color_at(image, u, v);
     Some(lift(color, image.format(), layer.transparency, layer.alpha, mask))

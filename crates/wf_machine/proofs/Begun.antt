@@ -1,26 +1,26 @@
 -- What holds of the streams once a frame has taken their images.
-use Rattle.std.proofs.Common.{◌≡◌, ◌≢◌, ℕ, ◌+◌, ◌<◌, ◌≤◌, Bool, true, false, not, cond, ◌==◌, ◌||◌, List, [], ◌∷◌, map, Option, Some, None, refl, sym, ap, subst, ◌∙◌, arith}
-use Rattle.std.specs.Prelude.{filter, find, sum_by}
+use Rattle.std.proofs.Common.{◌≡◌, ℕ, ◌+◌, ◌<◌, ◌≤◌, Bool, true, false, not, cond, ◌==◌, List, [], ◌∷◌, map, Option, Some, None, refl, sym, ap, subst, ◌∙◌, arith}
+use Rattle.std.specs.Prelude.{filter, find}
 use Rattle.std.specs.Option.{option_map, IfSome, IsSomeAnd}
-use Rattle.std.proofs.lemmas.Bool.{eq-eqb, eqb-true}
+use Rattle.std.proofs.lemmas.Bool.{eq-eqb}
 use Rattle.std.proofs.lemmas.Bool.Decides.{nat_tests}
-use Rattle.std.proofs.lemmas.List.Sums.{sum_by-cons}
 use Rattle.wf_words.specs.Keyed.{is_in, nth, once}
 use Rattle.wf_image.specs.Bitmap.{Bitmap}
 use Rattle.wf_image.specs.Contents.{image_of}
-use Rattle.wf_stream.specs.Buffers.{Buffers, HasShape, away, away_if, buffer_bytes, latched, newest}
-use Rattle.wf_stream.specs.Streams.{KeptStream, IsNumbered, buffers_at, held, stream_at}
+use Rattle.wf_stream.specs.Buffers.{Buffers, HasShape, latched, newest}
+use Rattle.wf_stream.specs.Streams.{KeptStream, IsNumbered, buffers_at, stream_at}
 use Rattle.wf_model.specs.declared.Content.{Content}
 use Rattle.wf_model.specs.Frames.{content_shape, latch, latched_among, newest_images, newest_of}
 use Rattle.wf_model.specs.Picture.{Images}
 use Rattle.wf_model.specs.State.{Port}
 use Rattle.wf_machine.specs.Latching.{AreAtHome, AreShapedAs, IsShapedAs}
 use Rattle.wf_machine.specs.declared.frame.Frame.{Frame}
-use Rattle.wf_machine.specs.declared.machine.Machine.TheInside.{Inside}
-use Rattle.wf_machine.specs.Fitting.{AllFit, AreNumbered, AreOnce, IsRead, IsScreen, StreamFits, content_at, contents_of, is_named}
+use Rattle.wf_machine.specs.declared.parts.Parts.TheInside.{Inside}
+use Rattle.wf_machine.specs.Fitting.{AllFit, AreNumbered, AreOnce, IsRead, IsScreen, StreamFits, content_at, contents_of}
 use Rattle.wf_machine.specs.Inside.{IsSound}
 use Rattle.wf_machine.specs.Ports.{port_of, running_of}
-use Rattle.wf_machine.proofs.Latches.{by_number, image_newest, is_in-without, number_latched}
+use Rattle.wf_machine.proofs.Latches.{by_number, image_newest, is_in-without, latched_keeps}
+use Rattle.wf_machine.proofs.Mapped.{found_mapped, latch_keeps}
 
 -- the shape of a stream's image among the contents
 pub content_of_image : (n : ℕ) (contents : Images) → content_at n (map content_shape contents) ≡ option_map (λ (image : Bitmap). content_shape (n, image)) (image_of n contents)
@@ -42,31 +42,13 @@ shaped_at n image streams (pair ∷ contents) shaped found =
     (λ apart. shaped_at n image streams contents shaped.1 (rw apart at found))
 
 stream_latched : (ns : List ℕ) (n : ℕ) (streams : List KeptStream) → stream_at n (latch ns streams) ≡ option_map (latched_among ns) (stream_at n streams)
-stream_latched ns n [] = refl
-stream_latched ns n (s ∷ streams) =
-    rw (number_latched ns s)
-    (elim (s.number == n) as (λ b. cond b (Some (latched_among ns s)) (stream_at n (latch ns streams)) ≡ option_map (latched_among ns) (cond b (Some s) (stream_at n streams))) [ true ↦ refl | false ↦ stream_latched ns n streams ])
+stream_latched ns n streams = found_mapped (latched_among ns) (latch_keeps ns) n streams
 
 latched_size : (b : Buffers) → (latched b).size ≡ b.size
-latched_size b = of_newest (newest b)
-  where
-    of_newest : (o : Option Bitmap) → (away_if o b).size ≡ b.size
-    of_newest None = refl
-    of_newest (Some image) = refl
+latched_size b = latched_keeps.size b
 
 latched_format : (b : Buffers) → (latched b).format ≡ b.format
-latched_format b = of_newest (newest b)
-  where
-    of_newest : (o : Option Bitmap) → (away_if o b).format ≡ b.format
-    of_newest None = refl
-    of_newest (Some image) = refl
-
-latched_buffers : (b : Buffers) → (latched b).buffers ≡ b.buffers
-latched_buffers b = of_newest (newest b)
-  where
-    of_newest : (o : Option Bitmap) → (away_if o b).buffers ≡ b.buffers
-    of_newest None = refl
-    of_newest (Some image) = refl
+latched_format b = latched_keeps.format b
 
 -- a screen that is latched is a screen
 screen_latched : (b : Buffers) (o : Option Port) → IfSome o (IsScreen b) → IfSome o (IsScreen (latched b))
@@ -103,16 +85,16 @@ module _ (ns : List ℕ) (ports : List Port) (whole : List KeptStream) (shaped :
           rw here at has
 
       by_member : (b : Bool) → is_in s.number ns ≡ b → Fits b
-      by_member false is = record { named = fits.named; screen = fits.screen; read = rw (content_is false is) fits.read }
+      by_member false is = record { sides = fits.sides; screen = fits.screen; read = rw (content_is false is) fits.read }
       by_member true is =
           record {
-            named = fits.named;
+            sides = rw (latched_size s.buffers) fits.sides;
             screen = screen_latched s.buffers (nth s.number ports) fits.screen;
             read = rw (content_is true is) (read_latched s.buffers s.number (newest s.buffers) refl fits.read (shape is));
           }
 
 -- each stream is found by its number
-abbrev AllFound : List KeptStream → List KeptStream → Type 0
+abbrev pub AllFound : List KeptStream → List KeptStream → Type 0
 AllFound whole [] = Unit {0}
 AllFound whole (s ∷ streams) = (stream_at s.number whole ≡ Some s) × AllFound whole streams
 
@@ -122,7 +104,7 @@ found_behind s low high whole (t ∷ streams) under rising found =
     let apart : (s.number == t.number) ≡ false = grind (arith, nat_tests, rising.0) in
     (rw apart found.0, found_behind s t.number high whole streams (omega (arith, rising.0)) rising.1 found.1)
 
-all_found : (low high : ℕ) (streams : List KeptStream) → IsNumbered low streams high → AllFound streams streams
+pub all_found : (low high : ℕ) (streams : List KeptStream) → IsNumbered low streams high → AllFound streams streams
 all_found low high [] rising = tt
 all_found low high (s ∷ streams) rising =
     let here : (s.number == s.number) ≡ true = eq-eqb s.number s.number refl in
@@ -136,15 +118,6 @@ all_latched ns ports high streams rising shaped fit = each streams (all_found 0 
     each : (ss : List KeptStream) → AllFound streams ss → AllFit ports [] ss → AllFit ports (map content_shape (newest_images ns streams)) (latch ns ss)
     each [] found fits = tt
     each (s ∷ ss) found fits = (one_fits ns ports streams shaped s found.0 fits.0, each ss found.1 fits.1)
-
-pub bytes_latched : (ns : List ℕ) (streams : List KeptStream) → (held (latch ns streams)).bytes ≡ (held streams).bytes
-bytes_latched ns [] = refl
-bytes_latched ns (s ∷ streams) =
-    let each : KeptStream → ℕ = λ t. buffer_bytes t.buffers in
-    let late : KeptStream = record s { buffers = latched s.buffers } in
-    let same : each late ≡ each s = rw (latched_size s.buffers, latched_format s.buffers, latched_buffers s.buffers) refl in
-    let here : each (latched_among ns s) ≡ each s = elim (is_in s.number ns) as (λ b. each (cond b late s) ≡ each s) [ true ↦ same | false ↦ refl ] in
-    sum_by-cons each (latched_among ns s) (latch ns streams) ∙ ap (λ (k : ℕ). k + sum_by each (latch ns streams)) here ∙ ap (λ (k : ℕ). each s + k) (bytes_latched ns streams) ∙ sym (sum_by-cons each s streams)
 
 -- each number stands once
 abbrev NoneTwice : List ℕ → Type 0

@@ -1,21 +1,20 @@
 -- Calls on the buffers of streams, as the plain machine answers them.
-use Rattle.std.proofs.Common.{◌≡◌, ℕ, Bool, true, false, ◌&&◌, List, Option, Some, None, IsTrue, refl, sym, ap, ◌∙◌}
-use Rattle.std.specs.Option.{option_map, IfSome, IsSome}
+use Rattle.std.proofs.Common.{◌≡◌, ℕ, true, false, not, ◌&&◌, List, Option, Some, None, refl, sym, ap, ◌∙◌}
+use Rattle.std.specs.Option.{option_map}
 use Rattle.std.proofs.lemmas.Bool.{and_parts, eqb-true}
 use Rattle.wf_pixel.specs.declared.Size.{Size}
 use Rattle.wf_pixel.specs.declared.Format.{Format}
 use Rattle.wf_pixel.specs.declared.Format.TheVariants.{Rgba8, Rgba8Pre, Rgbx8, A8}
 use Rattle.wf_pixel.specs.Choice.{same_format, same_size}
 use Rattle.wf_image.specs.declared.canvas.Canvas.{Canvas}
-use Rattle.wf_stream.specs.Buffers.{Buffers, HasShape, acquired, is_blocked}
+use Rattle.wf_stream.specs.Buffers.{Buffers, acquired, is_blocked}
 use Rattle.wf_stream.specs.Streams.{KeptStream, IsNumbered, number_of, stream_at, stream_of}
 use Rattle.wf_calls.specs.declared.code.Code.TheVariants as code
 use Rattle.wf_calls.specs.declared.call.Payload.TheVariants as payload
-use Rattle.wf_calls.specs.declared.call.Reply.{Reply}
 use Rattle.wf_model.specs.State.{State}
-use Rattle.wf_model.specs.Names.{settle}
 use Rattle.wf_model.specs.Outcome.{answer}
-use Rattle.wf_model.specs.Streams.{acquirable, acquire_step, canvas_back, canvas_of, is_out_at_client, with_stream}
+use Rattle.wf_model.specs.Streams.{acquirable, acquire_step, canvas_back, canvas_of, is_out_at_client, is_out_of, with_stream}
+use Rattle.wf_model.specs.Frames.{is_target}
 use Rattle.wf_machine.specs.Latching.{IsOutFrom}
 use Rattle.wf_machine.proofs.Changes.{of_handle}
 
@@ -43,11 +42,11 @@ module _ (handle : ℕ) (h : State) where
     pub no_buffer : s.buffers.out ≡ false → is_blocked s.buffers ≡ true → acquire_step h (acquirable handle h) ≡ (h, answer code.NoBuffer 0)
     no_buffer home blocked = rw (at, blocked, home) refl
 
-    pub given : s.buffers.out ≡ false → is_blocked s.buffers ≡ false → acquire_step h (acquirable handle h) ≡ (settle (with_stream s.number acquired h), record { code = code.Ok; value = 0; payload = payload.Canvas (canvas_of s) })
+    pub given : s.buffers.out ≡ false → is_blocked s.buffers ≡ false → acquire_step h (acquirable handle h) ≡ (with_stream s.number acquired h, record { code = code.Ok; value = 0; payload = payload.Canvas (canvas_of s) })
     given home free = rw (at, free, home) refl
 
 -- a canvas that is out at a client comes back to its stream
-pub comes_back : (canvas : Canvas) (f : Buffers → Buffers) (h : State) → is_out_at_client canvas h ≡ true → canvas_back canvas f h ≡ (settle (with_stream canvas.stream f h), answer code.Ok 0)
+pub comes_back : (canvas : Canvas) (f : Buffers → Buffers) (h : State) → is_out_at_client canvas h ≡ true → canvas_back canvas f h ≡ (with_stream canvas.stream f h, answer code.Ok 0)
 comes_back canvas f h out = rw out refl
 
 pub stays_out : (canvas : Canvas) (f : Buffers → Buffers) (h : State) → is_out_at_client canvas h ≡ false → canvas_back canvas f h ≡ (h, record { code = code.BadHandle; value = 0; payload = payload.Canvas canvas })
@@ -76,6 +75,10 @@ format_is A8 Rgba8 same = absurd cc
 format_is A8 Rgba8Pre same = absurd cc
 format_is A8 Rgbx8 same = absurd cc
 
+-- a canvas that is out at a client is not the running frame's
+pub out_apart : (canvas : Canvas) (h : State) → is_out_at_client canvas h ≡ true → is_target canvas.stream h.frame ≡ false
+out_apart canvas h out = elim (is_target canvas.stream h.frame) as (λ b. (not b && is_out_of canvas (stream_at canvas.stream h.streams)) ≡ true → b ≡ false) [ true ↦ λ no. absurd cc | false ↦ λ yes. refl ] out
+
 -- the stream of a canvas that is out at a client has it out
 pub out_from : (canvas : Canvas) (h : State) → is_out_at_client canvas h ≡ true → IsOutFrom h.streams canvas
 out_from canvas h out = of_stream (stream_at canvas.stream h.streams) refl
@@ -83,7 +86,8 @@ out_from canvas h out = of_stream (stream_at canvas.stream h.streams) refl
     of_stream : (o : Option KeptStream) → stream_at canvas.stream h.streams ≡ o → IsOutFrom h.streams canvas
     of_stream None at = rw at tt
     of_stream (Some s) at =
-        let is : (s.buffers.out && same_size canvas.image.size s.buffers.size && same_format canvas.image.format s.buffers.format) ≡ true = rw at at out in
+        let whole : (not (is_target canvas.stream h.frame) && (s.buffers.out && same_size canvas.image.size s.buffers.size && same_format canvas.image.format s.buffers.format)) ≡ true = rw at at out in
+        let is = (and_parts (not (is_target canvas.stream h.frame)) (s.buffers.out && same_size canvas.image.size s.buffers.size && same_format canvas.image.format s.buffers.format) whole).1 in
         let outer = and_parts (s.buffers.out && same_size canvas.image.size s.buffers.size) (same_format canvas.image.format s.buffers.format) is in
         let inner = and_parts s.buffers.out (same_size canvas.image.size s.buffers.size) outer.0 in
         rw at (inner.0, record { size_is = size_is canvas.image.size s.buffers.size inner.1; format_is = format_is canvas.image.format s.buffers.format outer.1 })

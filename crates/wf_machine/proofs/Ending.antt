@@ -1,19 +1,16 @@
 -- The machine once its frame has ended.
-use Rattle.std.proofs.Common.{◌≡◌, ◌≢◌, ℕ, ◌+◌, ◌-◌, ◌<◌, ◌≤◌, Bool, true, false, not, cond, ◌==◌, ◌&&◌, List, [], ◌∷◌, length, map, Option, Some, None, refl, sym, ap, subst, ◌∙◌, arith, zero, suc}
-use Rattle.std.specs.Prelude.{slice_get, sum_by}
+use Rattle.std.proofs.Common.{◌≡◌, ℕ, ◌+◌, ◌-◌, ◌<◌, ◌≤◌, true, cond, ◌==◌, List, [], ◌∷◌, length, map, Option, Some, None, refl, sym, ap, subst, ◌∙◌, arith, zero, suc}
+use Rattle.std.specs.Prelude.{slice_get}
 use Rattle.std.specs.List.{list_all}
 use Rattle.std.specs.Option.{option_map, IfSome, IsSomeAnd}
 use Rattle.std.proofs.lemmas.Bool.{and_parts, eqb-true}
 use Rattle.std.proofs.lemmas.List.{length-map}
-use Rattle.std.proofs.lemmas.List.Sums.{sum_by-cons}
 use Rattle.wf_words.specs.Keyed.{nth}
-use Rattle.wf_pixel.specs.declared.Size.{Size}
-use Rattle.wf_pixel.specs.declared.Format.{Format}
 use Rattle.wf_pixel.specs.declared.Format.TheVariants.{Rgba8Pre}
 use Rattle.wf_pixel.specs.Choice.{same_format, same_size}
 use Rattle.wf_image.specs.Bitmap.{Bitmap}
 use Rattle.wf_image.specs.Contents.{image_of}
-use Rattle.wf_stream.specs.Buffers.{Buffers, HasShape, away, buffer_bytes, returned}
+use Rattle.wf_stream.specs.Buffers.{Buffers, HasShape, away, posted, returned}
 use Rattle.wf_stream.specs.Streams.{KeptStream, StoreView, IsNumbered, buffers_at, held, stream_at}
 use Rattle.wf_calls.specs.declared.code.Code.TheVariants as code
 use Rattle.wf_calls.specs.declared.call.Job.{Job}
@@ -21,23 +18,26 @@ use Rattle.wf_calls.specs.declared.call.JobKind.{JobKind}
 use Rattle.wf_calls.specs.declared.call.JobKind.TheVariants as kind
 use Rattle.wf_calls.specs.declared.call.Reply.{Reply}
 use Rattle.wf_model.specs.declared.Content.{Content}
-use Rattle.wf_model.specs.Frames.{brought_home, end, end_frame, has_shape, home_if, is_of_frame, same_kind}
-use Rattle.wf_model.specs.Names.{settle}
+use Rattle.wf_model.specs.Frames.{brought_home, delivered, end, end_frame, has_shape, home_if, is_of_frame, same_kind}
+use Rattle.wf_model.specs.Composition.{CoreState}
 use Rattle.wf_model.specs.Outcome.{answer}
 use Rattle.wf_model.specs.Picture.{Images}
 use Rattle.wf_model.specs.State.{Port, Running, State, mode_size}
 use Rattle.wf_machine.specs.declared.frame.Frame.{Frame}
-use Rattle.wf_machine.specs.declared.machine.Machine.TheInside.{Inside}
+use Rattle.wf_machine.specs.declared.parts.Parts.TheInside.{Inside}
 use Rattle.wf_machine.specs.declared.port.Port as declared
-use Rattle.wf_machine.specs.Fitting.{AllFit, AreNumbered, AreOnce, IsOfPort, IsRead, IsScreen, PortsFit, StreamFits, content_at, contents_of, is_of_running}
+use Rattle.wf_machine.specs.Fitting.{AllFit, AreOnce, FrameFits, IsDue, IsOfPort, IsOfTarget, IsRead, IsScreen, KindFits, PortsFit, StreamFits, away_of, content_at, contents_of, is_of_running}
 use Rattle.wf_machine.specs.Inside.{IsSound, state_of}
 use Rattle.wf_machine.specs.Latching.{AreAwaited, Awaits}
-use Rattle.wf_machine.specs.Ports.{IsFrameImage, port_of, running_of}
+use Rattle.wf_machine.specs.Ports.{HoldsBut, IsFrameImage, port_of, running_of}
 use Rattle.wf_machine.proofs.Buffering.{format_is, size_is}
-use Rattle.wf_machine.proofs.Homes.{number_home}
-use Rattle.wf_machine.proofs.Latches.{by_number}
+use Rattle.wf_machine.proofs.Beginning.{seen_twice}
+use Rattle.wf_machine.proofs.Drawing.{frame_home}
+use Rattle.wf_machine.proofs.Latches.{KeepsShape, by_number}
+use Rattle.wf_machine.proofs.Mapped.{SeenSame, bytes_mapped, changed_at, changed_keeps, home_among, home_keeps, numbered_mapped, seen_mapped}
 use Rattle.wf_machine.proofs.Shapes.{AreOf, Apart, IsOfShape, all_of, none_there}
-use Rattle.wf_machine.proofs.Sounds.{settled}
+use Rattle.wf_machine.proofs.StillComposed.{still_fits}
+use Rattle.wf_machine.proofs.StillFitting.{all_kept, posted_keeps, shape_kept}
 
 -- what a Job shares with the running frame that it is of
 pub record IsEnd (job : Job) (f : Running) : Type 0 where
@@ -86,26 +86,33 @@ all_back cs ports (s ∷ streams) xs there fit = (of_image (image_of s.number xs
     of_image : (o : Option Bitmap) → image_of s.number xs ≡ o → StreamFits ports [] (home_if (image_of s.number xs) s)
     of_image None is =
         let none = none_there s.number cs xs there is in
-        rw is (record { named = fit.0.named; screen = fit.0.screen; read = subst (λ (o : Option Content). IsRead s.buffers o) none fit.0.read })
-    of_image (Some image) is = rw is (record { named = fit.0.named; screen = screen_home image s.buffers (nth s.number ports) fit.0.screen; read = λ h. absurd cc })
+        rw is (record { sides = fit.0.sides; screen = fit.0.screen; read = subst (λ (o : Option Content). IsRead s.buffers o) none fit.0.read })
+    of_image (Some image) is = rw is (record { sides = fit.0.sides; screen = screen_home image s.buffers (nth s.number ports) fit.0.screen; read = λ h. absurd cc })
 
-numbered_home : (xs : Images) (low high : ℕ) (streams : List KeptStream) → IsNumbered low streams high → IsNumbered low (brought_home xs streams) high
-numbered_home xs low high [] rising = rising
-numbered_home xs low high (s ∷ streams) rising =
-    let later = numbered_home xs s.number high streams rising.1 in
-    subst (λ (k : ℕ). (low < k) × IsNumbered k (brought_home xs streams) high) (sym (number_home (image_of s.number xs) s)) (rising.0, later)
+-- the streams that got what a frame drew
 
-bytes_home : (xs : Images) (streams : List KeptStream) → (held (brought_home xs streams)).bytes ≡ (held streams).bytes
-bytes_home xs [] = refl
-bytes_home xs (s ∷ streams) =
-    let each : KeptStream → ℕ = λ t. buffer_bytes t.buffers in
-    let home = home_if (image_of s.number xs) s in
-    sum_by-cons each home (brought_home xs streams) ∙ ap (λ (k : ℕ). k + sum_by each (brought_home xs streams)) (same (image_of s.number xs))
-    ∙ ap (λ (k : ℕ). each s + k) (bytes_home xs streams) ∙ sym (sum_by-cons each s streams)
-  where
-    same : (o : Option Bitmap) → buffer_bytes (home_if o s).buffers ≡ buffer_bytes s.buffers
-    same None = refl
-    same (Some image) = refl
+delivered_keeps : (image : Bitmap) → KeepsShape (posted image)
+delivered_keeps image = shape_kept (posted image) (posted_keeps image)
+
+delivered_numbered : (k : JobKind) (image : Bitmap) (high : ℕ) (ss : List KeptStream) → IsNumbered 0 ss high → IsNumbered 0 (delivered k image ss) high
+delivered_numbered (kind.Context handle target) image high ss rising = numbered_mapped (changed_at target (posted image)) (changed_keeps target (posted image) (delivered_keeps image)) 0 high ss rising
+delivered_numbered (kind.Port port) image high ss rising = rising
+
+delivered_bytes : (k : JobKind) (image : Bitmap) (ss : List KeptStream) → (held (delivered k image ss)).bytes ≡ (held ss).bytes
+delivered_bytes (kind.Context handle target) image ss = bytes_mapped (changed_at target (posted image)) (changed_keeps target (posted image) (delivered_keeps image)) ss
+delivered_bytes (kind.Port port) image ss = refl
+
+delivered_fit : (k : JobKind) (image : Bitmap) (ports : List Port) (cs : List Content) (ss : List KeptStream) → AllFit ports cs ss → AllFit ports cs (delivered k image ss)
+delivered_fit (kind.Context handle target) image ports cs ss fit = all_kept (posted image) target ports cs ss (posted_keeps image) fit
+delivered_fit (kind.Port port) image ports cs ss fit = fit
+
+delivered_seen : (k : JobKind) (image : Bitmap) (n : ℕ) (ss : List KeptStream) → SeenSame (buffers_at n ss) (buffers_at n (delivered k image ss))
+delivered_seen (kind.Context handle target) image n ss = seen_mapped (changed_at target (posted image)) (changed_keeps target (posted image) (delivered_keeps image)) n ss
+delivered_seen (kind.Port port) image n ss = λ b found. (b, found, refl, refl)
+
+ended_seen : (k : JobKind) (image : Bitmap) (xs : Images) (n : ℕ) (ss : List KeptStream) → SeenSame (buffers_at n ss) (buffers_at n (delivered k image (brought_home xs ss)))
+ended_seen k image xs n ss =
+    seen_twice (buffers_at n ss) (buffers_at n (brought_home xs ss)) (buffers_at n (delivered k image (brought_home xs ss))) (seen_mapped (home_among xs) (home_keeps xs) n ss) (delivered_seen k image n (brought_home xs ss))
 
 -- the frame that ends is the one that runs
 pub running_frame : (m : Inside) (job : Job) → is_of_running job (option_map running_of m.frame) ≡ true → (f : Frame) × (m.frame ≡ Some f) × (is_of_frame job (running_of f) ≡ true)
@@ -117,6 +124,22 @@ running_frame m job is = of_frame m.frame refl is
 
 pub was_running : (m : Inside) (job : Job) (s : State) → state_of m ≡ s → is_of_running job s.frame ≡ true → is_of_running job (option_map running_of m.frame) ≡ true
 was_running m job s seen is = ap (λ (t : State). is_of_running job t.frame) seen ∙ is
+
+-- the kinds of a Job and of its frame are one
+same_kind_is : (j k : JobKind) → same_kind j k ≡ true → k ≡ j
+same_kind_is (kind.Context handle target) (kind.Context other into) is =
+    let both = and_parts (handle == other) (target == into) is in
+    ap (λ (n : ℕ). kind.Context n into) (sym (eqb-true handle other both.0)) ∙ ap (λ (n : ℕ). kind.Context handle n) (sym (eqb-true target into both.1))
+same_kind_is (kind.Port p) (kind.Port q) is = ap (λ (n : ℕ). kind.Port n) (sym (eqb-true p q is))
+same_kind_is (kind.Context handle target) (kind.Port q) is = absurd cc
+same_kind_is (kind.Port p) (kind.Context other into) is = absurd cc
+
+-- a context's frame has no image of a port away
+none_away : (f : Running) (handle target : ℕ) → f.kind ≡ kind.Context handle target → (k : ℕ) (ps : List declared.Port) → PortsFit (Some f) k ps → PortsFit None k ps
+none_away f handle target is k [] fit = tt
+none_away f handle target is k (p ∷ ps) fit =
+    let none : away_of (Some f) k ≡ 0 = rw is refl in
+    (record { some = fit.0.some; sides = fit.0.sides; images = subst (λ (n : ℕ). HoldsBut n p.modes.items p.images.items) none fit.0.images }, none_away f handle target is (k + 1) ps fit.1)
 
 module _ (m : Inside) (job : Job) (is : is_of_running job (option_map running_of m.frame) ≡ true) (sound : IsSound m) where
   abbrev f : Frame
@@ -143,72 +166,91 @@ module _ (m : Inside) (job : Job) (is : is_of_running job (option_map running_of
   pub ending_awaited : AreAwaited m.store.streams job.contents
   ending_awaited = all_await f.contents.items ports m.store.streams job.contents fit of-frame.0 of-frame.1
 
-  -- the port whose frame it is
-  module _ (port : ℕ) (port-is : job.kind ≡ kind.Port port) where
-    kind_is : f.kind ≡ kind.Port port
-    kind_is = same f.kind (subst (λ (k : JobKind). same_kind k f.kind ≡ true) port-is parts.kind_is)
-      where
-        same : (k : JobKind) → same_kind (kind.Port port) k ≡ true → k ≡ kind.Port port
-        same (kind.Port q) is = ap (λ (n : ℕ). kind.Port n) (sym (eqb-true port q is))
+  kind_is : f.kind ≡ job.kind
+  kind_is = same_kind_is job.kind f.kind parts.kind_is
 
-    of_port : IsSomeAnd (nth port ports) (λ p. (f.size ≡ mode_size 1 p.modes) × (f.format ≡ Rgba8Pre))
-    of_port =
-        let of : IsOfPort ports (running_of f) = subst (λ (o : Option Frame). IfSome (option_map running_of o) (IsOfPort ports)) runs sound.frame in
-        subst (λ (k : JobKind). IsOfPort ports (record (running_of f) { kind = k })) kind_is of
+  abbrev home : List KeptStream
+  home = brought_home job.contents m.store.streams
 
-    at_place : (n : ℕ) (ps : List Port) (P : Port → Type 0) → IsSomeAnd (nth n ps) P → (1 ≤ n) × (n - 1 < length ps) × IfSome (slice_get ps (n - 1)) P
-    at_place zero ps P some = absurd some
-    at_place (suc n) ps P some =
-        let same : n ≡ suc n - 1 = omega arith in
-        (omega arith, omega (arith, of_place n ps some), subst (λ (i : ℕ). IfSome (slice_get ps i) P) same (of_slice (slice_get ps n) some))
-      where
-        of_place : (i : ℕ) (qs : List Port) → IsSomeAnd (slice_get qs i) P → i < length qs
-        of_place i [] some = absurd some
-        of_place zero (q ∷ qs) some = omega arith
-        of_place (suc i) (q ∷ qs) some = (let rest = of_place i qs some in omega (arith, rest))
+  -- the frame draws into the image that comes, as it did when it ran
+  fits_home : KindFits ports home f.size f.format job.kind
+  fits_home =
+      let runs_so : IfSome (Some (running_of f)) (FrameFits ports m.store.streams) = subst (λ (o : Option Frame). IfSome (option_map running_of o) (FrameFits ports m.store.streams)) runs sound.frame in
+      subst (λ (k : JobKind). KindFits ports home f.size f.format k) kind_is (frame_home job.contents ports m.store.streams (Some (running_of f)) runs_so)
 
-        of_slice : (o : Option Port) → IsSomeAnd o P → IfSome o P
-        of_slice None some = tt
-        of_slice (Some q) some = some
+  ports_fit : PortsFit (Some (running_of f)) 1 m.ports.items
+  ports_fit = subst (λ (o : Option Frame). PortsFit (option_map running_of o) 1 m.ports.items) runs sound.ports
 
-    abbrev found : (1 ≤ port) × (port - 1 < length ports) × IfSome (slice_get ports (port - 1)) (λ p. (f.size ≡ mode_size 1 p.modes) × (f.format ≡ Rgba8Pre))
-    found = at_place port ports (λ p. (f.size ≡ mode_size 1 p.modes) × (f.format ≡ Rgba8Pre)) of_port
+  image_size : job.image.size ≡ f.size
+  image_size = size_is job.image.size f.size parts.size
 
-    pub ending_within : port - 1 < length m.ports.items
-    ending_within = omega (arith, found.1, length-map m.ports.items port_of)
+  image_format : job.image.format ≡ f.format
+  image_format = format_is job.image.format f.format parts.format
 
-    pub ending_away : (frame : Running) × (frame.kind ≡ kind.Port (port - 1 + 1)) × PortsFit (Some frame) 1 m.ports.items
-    ending_away =
-        let back : port ≡ port - 1 + 1 = omega (arith, found.0) in
-        (running_of f, kind_is ∙ ap (λ (n : ℕ). kind.Port n) back, subst (λ (o : Option Frame). PortsFit (option_map running_of o) 1 m.ports.items) runs sound.ports)
+  -- the write buffer of a context's target
+  due_target : (handle target : ℕ) → f.kind ≡ kind.Context handle target → IsOfTarget (buffers_at target home) f.size f.format → IsDue home m.ports.items (kind.Context handle target) job.image
+  due_target handle target is fits = (of_buffers (buffers_at target home) fits, none_away (running_of f) handle target is 1 m.ports.items ports_fit)
+    where
+      of_buffers : (o : Option Buffers) → IsOfTarget o f.size f.format → IfSome o (λ b. (b.out ≡ true) × HasShape b.size b.format job.image)
+      of_buffers None fits = tt
+      of_buffers (Some b) fits = (fits.0, record { size_is = image_size ∙ fits.1; format_is = image_format ∙ fits.2 })
 
-    pub ending_shape : IfSome (slice_get ports (port - 1)) (λ p. IsFrameImage (mode_size 1 p.modes) (Some job.image))
-    ending_shape = of_place (slice_get ports (port - 1)) found.2
-      where
-        of_place : (o : Option Port) → IfSome o (λ p. (f.size ≡ mode_size 1 p.modes) × (f.format ≡ Rgba8Pre)) → IfSome o (λ p. IsFrameImage (mode_size 1 p.modes) (Some job.image))
-        of_place None shape = tt
-        of_place (Some p) shape = (size_is job.image.size f.size parts.size ∙ shape.0, format_is job.image.format f.format parts.format ∙ shape.1)
+  at_place : (n : ℕ) (ps : List Port) (P : Port → Type 0) → IsSomeAnd (nth n ps) P → (1 ≤ n) × (n - 1 < length ps) × IfSome (slice_get ps (n - 1)) P
+  at_place zero ps P some = absurd some
+  at_place (suc n) ps P some =
+      let same : n ≡ suc n - 1 = omega arith in
+      (omega arith, omega (arith, of_place n ps some), subst (λ (i : ℕ). IfSome (slice_get ps i) P) same (of_slice (slice_get ps n) some))
+    where
+      of_place : (i : ℕ) (qs : List Port) → IsSomeAnd (slice_get qs i) P → i < length qs
+      of_place i [] some = absurd some
+      of_place zero (q ∷ qs) some = omega arith
+      of_place (suc i) (q ∷ qs) some = (let rest = of_place i qs some in omega (arith, rest))
+
+      of_slice : (o : Option Port) → IsSomeAnd o P → IfSome o P
+      of_slice None some = tt
+      of_slice (Some q) some = some
+
+  -- the image of a port
+  due_port : (port : ℕ) → f.kind ≡ kind.Port port → IsOfPort (nth port ports) f.size f.format → IsDue home m.ports.items (kind.Port port) job.image
+  due_port port is fits =
+      let found = at_place port ports (λ p. (f.size ≡ mode_size 1 p.modes) × (f.format ≡ Rgba8Pre)) fits in
+      let back : port ≡ port - 1 + 1 = omega (arith, found.0) in
+      (found.0, omega (arith, found.1, length-map m.ports.items port_of), (running_of f, is ∙ ap (λ (n : ℕ). kind.Port n) back, ports_fit), of_place (slice_get ports (port - 1)) found.2)
+    where
+      of_place : (o : Option Port) → IfSome o (λ p. (f.size ≡ mode_size 1 p.modes) × (f.format ≡ Rgba8Pre)) → IfSome o (λ p. IsFrameImage (mode_size 1 p.modes) (Some job.image))
+      of_place None shape = tt
+      of_place (Some p) shape = (image_size ∙ shape.0, image_format ∙ shape.1)
+
+  pub ending_due : IsDue home m.ports.items job.kind job.image
+  ending_due = of_kind job.kind kind_is fits_home
+    where
+      of_kind : (k : JobKind) → f.kind ≡ k → KindFits ports home f.size f.format k → IsDue home m.ports.items k job.image
+      of_kind (kind.Context handle target) is fits = due_target handle target is fits
+      of_kind (kind.Port port) is fits = due_port port is fits
 
   -- the machine that is left
   module _ (left : StoreView) (lent : List declared.Port) (done : Reply) where
     pub record HasEnded : Type 0 where
-      pub store : left ≡ record m.store { streams = brought_home job.contents m.store.streams }
+      pub store : left ≡ record m.store { streams = delivered job.kind job.image home }
       pub modes : map port_of lent ≡ ports
       pub fit : PortsFit None 1 lent
       pub done_is : done ≡ answer code.Ok 0
 
-    module _ (now : Inside) (store-is : now.store ≡ left) (ports-are : now.ports.items ≡ lent) (begun-is : now.begun ≡ m.begun) (free : now.frame ≡ None) (ended : HasEnded) where
-      abbrev home : List KeptStream
-      home = brought_home job.contents m.store.streams
+    module _ (now : Inside) (store-is : now.store ≡ left) (ports-are : now.ports.items ≡ lent) (core-is : now.core ≡ m.core) (begun-is : now.begun ≡ m.begun) (free : now.frame ≡ None) (ended : HasEnded) where
+      abbrev after : List KeptStream
+      after = delivered job.kind job.image home
 
-      now_store : now.store ≡ record m.store { streams = home }
+      now_store : now.store ≡ record m.store { streams = after }
       now_store = store-is ∙ ended.store
 
-      now_streams : now.store.streams ≡ home
+      now_streams : now.store.streams ≡ after
       now_streams = ap (λ (v : StoreView). v.streams) now_store
 
       now_numbered : now.store.numbered ≡ m.store.numbered
       now_numbered = ap (λ (v : StoreView). v.numbered) now_store
+
+      now_others : now.store.others ≡ m.store.others
+      now_others = ap (λ (v : StoreView). v.others) now_store
 
       now_ports : map port_of now.ports.items ≡ ports
       now_ports = ap (λ (ps : List declared.Port). map port_of ps) ports-are ∙ ended.modes
@@ -219,33 +261,39 @@ module _ (m : Inside) (job : Job) (is : is_of_running job (option_map running_of
       no_contents : contents_of (option_map running_of now.frame) ≡ []
       no_contents = ap (λ (o : Option Frame). contents_of (option_map running_of o)) free
 
+      home_numbered : IsNumbered 0 home m.store.numbered
+      home_numbered = numbered_mapped (home_among job.contents) (home_keeps job.contents) 0 m.store.numbered m.store.streams sound.numbered
+
       pub sound_ended : IsSound now
       sound_ended =
           record {
-            others = ap (λ (v : StoreView). v.others) now_store ∙ sound.others;
-            numbered = rw (now_streams, now_numbered) (numbered_home job.contents 0 m.store.numbered m.store.streams sound.numbered);
+            fits = rw core-is (still_fits m.core m.store now.store now_others (omega (arith, ap (λ (v : StoreView). v.made) now_store)) (λ n within. rw now_streams (ended_seen job.kind job.image job.contents n m.store.streams)) sound.fits);
+            others = rw now_others sound.others;
+            numbered = rw (now_streams, now_numbered) (delivered_numbered job.kind job.image m.store.numbered home home_numbered);
             few = omega (arith, as_many, sound.few);
             screens = omega (arith, as_many, now_numbered, sound.screens);
             ports = rw (free, ports-are) ended.fit;
-            small = rw now_streams (omega (arith, sound.small, bytes_home job.contents m.store.streams));
-            streams = rw (no_contents, now_ports, now_streams) (all_back f.contents.items ports m.store.streams job.contents parts.there fit);
+            small = rw now_streams (omega (arith, sound.small, delivered_bytes job.kind job.image home, bytes_mapped (home_among job.contents) (home_keeps job.contents) m.store.streams));
+            streams = rw (no_contents, now_ports, now_streams) (delivered_fit job.kind job.image ports [] home (all_back f.contents.items ports m.store.streams job.contents parts.there fit));
             frame = rw free tt;
             once = rw no_contents tt;
             known = rw no_contents tt;
           }
 
-      state_is : state_of now ≡ record (state_of m) { streams = home; frame = None }
+      state_is : state_of now ≡ record (state_of m) { streams = after; frame = None }
       state_is =
-          let state : ℕ → StoreView → List Port → Option Frame → State = λ n v ps o.
-          record { made = v.made; numbered = v.numbered; begun = n; streams = v.streams; display = record { ports = ps }; frame = option_map running_of o } in
-          ap (λ (n : ℕ). state n now.store (map port_of now.ports.items) now.frame) begun-is
-          ∙ ap (λ (v : StoreView). state m.begun v (map port_of now.ports.items) now.frame) now_store
-          ∙ ap (λ (ps : List Port). state m.begun (record m.store { streams = home }) ps now.frame) now_ports
-          ∙ ap (λ (o : Option Frame). state m.begun (record m.store { streams = home }) ports o) free
+          let state : ℕ → StoreView → CoreState → List Port → Option Frame → State = λ n v core ps o.
+          record { made = v.made; numbered = v.numbered; begun = n; streams = v.streams; core = core; display = record { ports = ps }; frame = option_map running_of o } in
+          let store : StoreView = record m.store { streams = after } in
+          ap (λ (n : ℕ). state n now.store now.core (map port_of now.ports.items) now.frame) begun-is
+          ∙ ap (λ (v : StoreView). state m.begun v now.core (map port_of now.ports.items) now.frame) now_store
+          ∙ ap (λ (core : CoreState). state m.begun store core (map port_of now.ports.items) now.frame) core-is
+          ∙ ap (λ (ps : List Port). state m.begun store m.core ps now.frame) now_ports
+          ∙ ap (λ (o : Option Frame). state m.begun store m.core ports o) free
 
       pub left_ended : (s : State) → state_of m ≡ s → end job s ≡ (state_of now, done)
       left_ended s seen =
           let running : (state_of m).frame ≡ Some (running_of f) = ap (λ (o : Option Frame). option_map running_of o) runs in
           let ends : end job (state_of m) ≡ (end_frame job (state_of m), answer code.Ok 0) = rw (running, (running_frame m job is).2) refl in
           subst (λ (t : State). end job t ≡ (state_of now, done)) seen
-          (ends ∙ ap (λ (t : State). (settle t, answer code.Ok 0)) (sym state_is) ∙ ap (λ (t : State). (t, answer code.Ok 0)) (settled now sound_ended) ∙ ap (λ (r : Reply). (state_of now, r)) (sym ended.done_is))
+          (ends ∙ ap (λ (t : State). (t, answer code.Ok 0)) (sym state_is) ∙ ap (λ (r : Reply). (state_of now, r)) (sym ended.done_is))

@@ -1,6 +1,6 @@
 -- Images that come home one after another.
 use Rattle.std.proofs.Common.{◌≡◌, ℕ, Bool, true, false, cond, ◌==◌, List, [], ◌∷◌, ◌++◌, Option, Some, None, refl, sym, ap, subst, ◌∙◌, append_assoc, arith}
-use Rattle.std.specs.Prelude.{find, map}
+use Rattle.std.specs.Prelude.{find}
 use Rattle.std.specs.Option.{option_map, IfSome}
 use Rattle.std.proofs.lemmas.Bool.{eq-eqb}
 use Rattle.std.proofs.lemmas.Bool.Decides.{nat_tests}

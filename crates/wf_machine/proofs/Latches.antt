@@ -1,7 +1,6 @@
 -- Streams that are latched one after another.
-use Rattle.std.proofs.Common.{◌≡◌, ◌≢◌, ℕ, ◌+◌, ◌*◌, ◌<◌, ◌≤◌, Bool, true, false, not, cond, ◌==◌, ◌&&◌, ◌||◌, List, [], ◌∷◌, ◌++◌, length, map, Option, Some, None, refl, sym, ap, subst, ◌∙◌, arith, length-append, append-nil, append_assoc, get_or, take}
-use Rattle.std.specs.Prelude.{filter, filter_map, flat_map, find, is_some, option_to_list, if◌then◌else◌}
-use Rattle.std.specs.List.{list_any}
+use Rattle.std.proofs.Common.{◌≡◌, ◌≢◌, ℕ, ◌+◌, ◌<◌, ◌≤◌, Bool, true, false, not, cond, ◌==◌, ◌||◌, List, [], ◌∷◌, ◌++◌, length, map, Option, Some, None, refl, sym, ap, subst, ◌∙◌, arith, length-append, append-nil, append_assoc, get_or, take}
+use Rattle.std.specs.Prelude.{filter, filter_map, flat_map, find, is_some, option_to_list}
 use Rattle.std.specs.Option.{option_map, IfSome, IsSomeAnd}
 use Rattle.std.proofs.lemmas.Bool.{eqb-true, eq-eqb}
 use Rattle.std.proofs.lemmas.Bool.Decides.{nat_tests}
@@ -11,7 +10,7 @@ use Rattle.wf_words.specs.Keyed.{is_in, once}
 use Rattle.wf_image.specs.Bitmap.{Bitmap}
 use Rattle.wf_image.specs.Contents.{image_of}
 use Rattle.wf_stream.specs.Buffers.{Buffers, HasShape, away, away_if, latched, newest}
-use Rattle.wf_stream.specs.Streams.{KeptStream, StoreView, IsNumbered, buffers_at, change_stream, stream_at}
+use Rattle.wf_stream.specs.Streams.{KeptStream, StoreView, IsNumbered, change_stream, stream_at}
 use Rattle.wf_model.specs.Frames.{latch, latched_among, newest_images, newest_of}
 use Rattle.wf_model.specs.Names.{layer_names}
 use Rattle.wf_model.specs.Picture.{Images}
@@ -25,14 +24,19 @@ pub shaped_more : (n : ℕ) (image : Bitmap) (streams : List KeptStream) (conten
 shaped_more n image streams [] shaped one = (one, tt)
 shaped_more n image streams (pair ∷ contents) shaped one = (shaped.0, shaped_more n image streams contents shaped.1 one)
 
--- a change of buffers that keeps their size and their format
+-- a change of buffers that keeps their size, their format and how many there are
 pub record KeepsShape (f : Buffers → Buffers) : Type 0 where
   pub size : (b : Buffers) → (f b).size ≡ b.size
   pub format : (b : Buffers) → (f b).format ≡ b.format
+  pub buffers : (b : Buffers) → (f b).buffers ≡ b.buffers
 
 pub latched_keeps : KeepsShape latched
-latched_keeps = record { size = λ b. of_size b (newest b); format = λ b. of_format b (newest b) }
+latched_keeps = record { size = λ b. of_size b (newest b); format = λ b. of_format b (newest b); buffers = λ b. of_buffers b (newest b) }
   where
+    of_buffers : (b : Buffers) (o : Option Bitmap) → (away_if o b).buffers ≡ b.buffers
+    of_buffers b None = refl
+    of_buffers b (Some image) = refl
+
     of_size : (b : Buffers) (o : Option Bitmap) → (away_if o b).size ≡ b.size
     of_size b None = refl
     of_size b (Some image) = refl
@@ -137,7 +141,7 @@ same_stream ns n (s ∷ streams) none =
     (λ here same. rw here (ap (λ (t : KeptStream). Some t) (latched_same ns s (λ within. (let found : newest_of (cond (s.number == n) (Some s) (stream_at n streams)) ≡ None = none (rw same at within) in rw here at found)))))
     (λ apart. rw apart (same_stream ns n streams (λ within. (let found = none within in rw apart at found)))))
 
-home_at : (n : ℕ) (streams : List KeptStream) → AreAtHome streams → IsAtHome n streams
+pub home_at : (n : ℕ) (streams : List KeptStream) → AreAtHome streams → IsAtHome n streams
 home_at n [] home = tt
 home_at n (s ∷ streams) home = elim (s.number == n) as (λ b. IfSome (option_map (λ (t : KeptStream). t.buffers) (cond b (Some s) (stream_at n streams))) (λ c. c.read ≢ away)) [ true ↦ home.0 | false ↦ home_at n streams home.1 ]
 

@@ -1,10 +1,10 @@
 -- The machine before its first call.
-use Rattle.std.proofs.Common.{◌≡◌, ◌≢◌, ℕ, zero, suc, ◌+◌, ◌<◌, ◌≤◌, Bool, true, false, List, [], ◌∷◌, ◌++◌, length, map, get_or, take, Option, Some, None, refl, sym, ap, subst, ◌∙◌, arith, append_assoc, length-append, add-zero, ◌&&◌, ◌*◌, lit≤}
+use Rattle.std.proofs.Common.{◌≡◌, ℕ, suc, ◌+◌, ◌<◌, ◌≤◌, Bool, true, false, List, [], ◌∷◌, ◌++◌, length, map, get_or, take, Option, Some, None, refl, sym, ap, subst, ◌∙◌, arith, append_assoc, length-append, add-zero, ◌&&◌, ◌*◌, lit≤}
 use Rattle.std.proofs.Math.Nat.{mul-le-mul_left, mul-le-mul_right}
 use Rattle.std.specs.Prelude.{zip, slice_get, nat_le, IfSome}
 use Rattle.std.specs.Option.{option_map}
 use Rattle.std.specs.List.{range_with_len, list_all}
-use Rattle.std.proofs.lemmas.Bool.{and_parts, le-leb, leb-true}
+use Rattle.std.proofs.lemmas.Bool.{and_parts, leb-true}
 use Rattle.std.proofs.lemmas.List.{map-append, length-map, take_all}
 use Rattle.std.proofs.lemmas.List.Folds.{list_all_at}
 use Rattle.std.proofs.lemmas.List.Sums.{sum_by-cons}
@@ -14,15 +14,17 @@ use Rattle.wf_pixel.specs.declared.Size.{Size}
 use Rattle.wf_pixel.specs.Choice.{has_sides, is_side}
 use Rattle.wf_calls.specs.PortRules.{may_declare, may_have}
 use Rattle.wf_calls.specs.declared.ports.Ports.{Ports}
-use Rattle.wf_stream.specs.Buffers.{Buffers, buffer_bytes, fresh}
+use Rattle.wf_stream.specs.Buffers.{buffer_bytes, fresh}
 use Rattle.wf_stream.specs.Streams.{KeptStream, StoreView, IsNumbered, empty, held, with_screen}
 use Rattle.wf_calls.specs.declared.ports.Modes.{Modes}
+use Rattle.wf_model.specs.Composition.{CoreState, no_objects}
+use Rattle.wf_core.specs.Fits.{Fits}
 use Rattle.wf_model.specs.State.{Port, Running, State, initial_port, mode_size, opening, screen}
 use Rattle.wf_machine.specs.Fitting.{AllFit, contents_of, IsScreen, PortFits, PortsFit, StreamFits}
 use Rattle.wf_machine.specs.Inside.{IsSound, state_of}
 use Rattle.wf_machine.specs.declared.port.Port as declared
 use Rattle.wf_machine.specs.declared.frame.Frame.{Frame}
-use Rattle.wf_machine.specs.declared.machine.Machine.TheInside.{Inside}
+use Rattle.wf_machine.specs.declared.parts.Parts.TheInside.{Inside}
 use Rattle.wf_machine.specs.Ports.{HoldsBut, port_of, running_of}
 
 -- the screens of ports that are numbered from one on
@@ -44,21 +46,29 @@ at_front : {A : Type 0} (front : List A) (x : A) (behind : List A) → slice_get
 at_front [] x behind = refl
 at_front (y ∷ front) x behind = at_front front x behind
 
+-- the first mode of a port has sides
+mode_sides : (m : Modes) → may_have m ≡ true → has_sides (mode_size 1 m.sizes.items) ≡ true
+mode_sides m may = of_sizes m.sizes.items (and_parts (nat_le 1 (length m.sizes.items) && nat_le (length m.sizes.items) 4) (list_all has_sides m.sizes.items) may)
+  where
+    of_sizes : (sizes : List Size) → ((nat_le 1 (length sizes) && nat_le (length sizes) 4) ≡ true) × (list_all has_sides sizes ≡ true) → has_sides (mode_size 1 sizes) ≡ true
+    of_sizes [] both = absurd cc
+    of_sizes (s ∷ sizes) both = (and_parts (has_sides s) (list_all has_sides sizes) both.1).0
+
 -- each screen is that of its port
-pub screens_fit : (front : List Port) (ms : List Modes) (k : ℕ) → k ≡ suc (length front) → AllFit (front ++ map initial_port ms) [] (screens k ms)
-screens_fit front [] k is = tt
-screens_fit front (m ∷ ms) k is =
+pub screens_fit : (front : List Port) (ms : List Modes) (k : ℕ) → k ≡ suc (length front) → list_all may_have ms ≡ true → AllFit (front ++ map initial_port ms) [] (screens k ms)
+screens_fit front [] k is may = tt
+screens_fit front (m ∷ ms) k is may =
     let p = initial_port m in
     let ports = front ++ p ∷ map initial_port ms in
     let first : StreamFits ports [] (screen (k, m)) = record {
-      named = le-leb k (length ports) (omega (arith, is, length-append front (p ∷ map initial_port ms)));
+      sides = mode_sides m (and_parts (may_have m) (list_all may_have ms) may).0;
       screen =
           let here : nth k ports ≡ Some p = rw is (at_front front p (map initial_port ms)) in
           subst (λ (o : Option Port). IfSome o (IsScreen (screen (k, m)).buffers)) (sym here) (refl, refl);
       read = λ h. cc;
     } in
     let regroup : (front ++ p ∷ []) ++ map initial_port ms ≡ ports = append_assoc front (p ∷ []) (map initial_port ms) in
-    let later = screens_fit (front ++ p ∷ []) ms (k + 1) (omega (arith, is, length-append front (p ∷ []))) in
+    let later = screens_fit (front ++ p ∷ []) ms (k + 1) (omega (arith, is, length-append front (p ∷ []))) (and_parts (may_have m) (list_all may_have ms) may).1 in
     (first, subst (λ (ps : List Port). AllFit ps [] (screens (k + 1) ms)) regroup later)
 
 pub all_at : {A : Type 0} (p : A → Bool) (xs : List A) (i : ℕ) (d : A) → i < length xs → list_all p xs ≡ true → p (get_or xs i d) ≡ true
@@ -142,20 +152,37 @@ screens_bytes k (m ∷ ms) may =
     let each = and_parts (may_have m) (list_all may_have ms) may in
     omega (arith, screens_bytes (k + 1) ms each.1, screen_bytes m each.0, sum_by-cons (λ (s : KeptStream). buffer_bytes s.buffers) (screen (k, m)) (screens (k + 1) ms))
 
+-- no objects fit a store without handles
+none_fit : (store : StoreView) → store.others ≡ [] → Fits no_objects store
+none_fit store none =
+    record {
+      handles = record {
+        rising = rw none (omega arith);
+        devices = rw none refl;
+        contexts = rw none refl;
+        sources = rw none refl;
+        masks = rw none refl;
+        elements = tt;
+        owned = rw none refl;
+      };
+      streams = record { sources = tt; masks = tt; contexts = tt };
+    }
+
 -- what holds of the machine whose ports all stand open
-pub sound_when_open : (m : Inside) (ms : List Modes) → IsOpen m.store m.ports.items ms → length m.ports.items ≤ 4 → list_all may_have ms ≡ true → m.frame ≡ None → IsSound m
-sound_when_open m ms opened few may none =
+pub sound_when_open : (m : Inside) (ms : List Modes) → IsOpen m.store m.ports.items ms → length m.ports.items ≤ 4 → list_all may_have ms ≡ true → m.core ≡ no_objects → m.frame ≡ None → IsSound m
+sound_when_open m ms opened few may empty none =
     let frame : Option Running = option_map running_of m.frame in
     let no_frame : frame ≡ None = ap (λ (f : Option Frame). option_map running_of f) none in
     let contents-are : contents_of frame ≡ [] = ap contents_of no_frame in
     record {
-      others = opened.others;
+      fits = rw empty (none_fit m.store opened.others);
+      others = rw opened.others refl;
       numbered = rw (opened.streams, opened.numbered) (screens_numbered 0 1 (length ms) ms (omega arith) (omega arith));
       few = few;
       screens = omega (arith, opened.numbered, length-map m.ports.items port_of, length-map ms initial_port, ap length opened.ports);
       ports = subst (λ (f : Option Running). PortsFit f 1 m.ports.items) (sym no_frame) opened.fit;
       small = rw opened.streams (omega (arith, screens_bytes 1 ms may, length-map m.ports.items port_of, length-map ms initial_port, ap length opened.ports));
-      streams = rw (contents-are, opened.ports, opened.streams) (screens_fit [] ms 1 refl);
+      streams = rw (contents-are, opened.ports, opened.streams) (screens_fit [] ms 1 refl may);
       frame = rw no_frame tt;
       once = rw contents-are tt;
       known = rw contents-are tt;
@@ -182,13 +209,14 @@ first_of sizes m d is may =
     ap (λ (xs : List Size). get_or xs 0 d) is ∙ first_mode m.sizes.items d (omega (arith, some))
 
 -- the machine whose declared ports stand open is as it opens
-pub opening_is : (m : Inside) (ports : Ports) → IsOpen m.store m.ports.items ports.modes.items → m.begun ≡ 0 → m.frame ≡ None → state_of m ≡ opening ports
-opening_is m ports opened begun none =
+pub opening_is : (m : Inside) (ports : Ports) → IsOpen m.store m.ports.items ports.modes.items → m.core ≡ no_objects → m.begun ≡ 0 → m.frame ≡ None → state_of m ≡ opening ports
+opening_is m ports opened empty begun none =
+    let with_core : CoreState → State = λ core. record (state_of m) { core = core } in
     let state : ℕ → ℕ → ℕ → List KeptStream → List Port → Option Running → State = λ made numbered begun streams ps frame.
-    record { made = made; numbered = numbered; begun = begun; streams = streams; display = record { ports = ps }; frame = frame } in
+    record { made = made; numbered = numbered; begun = begun; streams = streams; core = no_objects; display = record { ports = ps }; frame = frame } in
     let ps = map port_of m.ports.items in
     let frame = option_map running_of m.frame in
-    ap (λ (n : ℕ). state n m.store.numbered m.begun m.store.streams ps frame) opened.made
+    ap with_core empty ∙ ap (λ (n : ℕ). state n m.store.numbered m.begun m.store.streams ps frame) opened.made
     ∙ ap (λ (n : ℕ). state 0 n m.begun m.store.streams ps frame) opened.numbered
     ∙ ap (λ (n : ℕ). state 0 (length ports.modes.items) n m.store.streams ps frame) begun
     ∙ ap (λ (ss : List KeptStream). state 0 (length ports.modes.items) 0 ss ps frame) opened.streams

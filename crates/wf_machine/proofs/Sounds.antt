@@ -1,50 +1,68 @@
 -- What holds of the machine holds after each call on streams.
-use Rattle.std.proofs.Common.{◌≡◌, ℕ, ◌+◌, ◌<◌, ◌≤◌, Bool, true, false, not, ◌||◌, ◌==◌, List, [], ◌∷◌, ◌++◌, length, map, Option, Result, Ok, Err, refl, sym, ap, subst, ◌∙◌, arith}
-use Rattle.std.specs.Prelude.{nat_le, nat_lt, sum_by, ℤ}
-use Rattle.std.specs.Option.{option_map}
-use Rattle.std.proofs.lemmas.Bool.{ltb-false}
-use Rattle.std.proofs.lemmas.Bool.Decides.{nat_tests}
+use Rattle.std.proofs.Common.{◌≡◌, ℕ, ◌+◌, ◌≤◌, true, false, ◌||◌, ◌==◌, List, [], ◌∷◌, ◌++◌, length, map, cond, Option, Some, None, refl, sym, ap, subst, ◌∙◌, arith}
+use Rattle.std.specs.Prelude.{nat_le, nat_lt, ℤ, pos, negsuc, ◌&&◌}
+use Rattle.std.specs.Option.{option_map, IfSome}
+use Rattle.std.proofs.lemmas.Bool.{and_from, and_parts, ltb-false}
 use Rattle.std.proofs.lemmas.List.{length-map}
 use Rattle.std.proofs.lemmas.List.Sums.{sum_by_push}
 use Rattle.wf_words.specs.Whole.{count_of}
 use Rattle.wf_pixel.specs.declared.Size.{Size}
 use Rattle.wf_pixel.specs.declared.Format.{Format}
+use Rattle.wf_pixel.specs.Choice.{has_sides, is_between, is_side}
 use Rattle.wf_life.specs.Handles.{is_full}
 use Rattle.wf_stream.specs.Buffers.{Buffers, buffer_bytes, fresh}
-use Rattle.wf_stream.specs.Streams.{KeptStream, StoreView, IsNumbered, change_stream, has_no_room, held, with_live_stream}
+use Rattle.wf_stream.specs.Streams.{KeptStream, StoreView, buffers_at, change_stream, has_no_room, held, stream_at, unnamed, with_live_stream}
 use Rattle.wf_calls.specs.declared.code.Code.TheVariants as code
+use Rattle.wf_calls.specs.declared.call.JobKind.{JobKind}
+use Rattle.wf_calls.specs.declared.call.JobKind.TheVariants as kind
 use Rattle.wf_calls.specs.declared.call.Reply.{Reply}
-use Rattle.wf_model.specs.declared.Content.{Content}
 use Rattle.wf_model.specs.State.{Port, Running, State}
-use Rattle.wf_model.specs.Names.{settle}
 use Rattle.wf_model.specs.Outcome.{answer}
-use Rattle.wf_model.specs.Streams.{is_stream, new_buffers, stream_made, stream_new, stream_step}
-use Rattle.wf_machine.specs.declared.machine.Machine.TheInside.{Inside}
-use Rattle.wf_machine.specs.Fitting.{contents_of}
+use Rattle.wf_model.specs.Streams.{is_stream, is_wide_side, new_buffers, size_of, stream_made, stream_new, stream_step}
+use Rattle.wf_machine.specs.declared.parts.Parts.TheInside.{Inside}
+use Rattle.wf_machine.specs.Fitting.{FrameFits, IsOfTarget, KindFits, contents_of}
 use Rattle.wf_machine.specs.Inside.{IsSound, state_of}
 use Rattle.wf_machine.specs.Ports.{port_of, running_of}
-use Rattle.wf_machine.proofs.StillFitting.{KeepsRead, all_kept, all_push, bytes_kept, known_more, new_fits, numbered_kept, numbered_push}
-use Rattle.wf_machine.proofs.Settling.{settles}
-
--- nothing is dropped of a state that is sound
-pub settled : (m : Inside) → IsSound m → settle (state_of m) ≡ state_of m
-settled m sound = settles (state_of m) (contents_of (option_map running_of m.frame)) m.store.numbered sound.numbered sound.streams
+use Rattle.wf_machine.proofs.Drawing.{frame_unnamed}
+use Rattle.wf_machine.proofs.Mapped.{SeenSame, bytes_mapped, changed_at, changed_keeps, numbered_mapped, seen_mapped, unnamed_keeps}
+use Rattle.wf_machine.proofs.StillComposed.{still_fits}
+use Rattle.wf_machine.proofs.StillFitting.{KeepsRead, all_kept, all_push, all_unnamed, known_more, new_fits, numbered_push, shape_kept}
 
 -- the machine with other buffers of a stream
 abbrev pub with_buffers : Inside → ℕ → (Buffers → Buffers) → Inside
 with_buffers m n f = record m { store = record m.store { streams = change_stream n f m.store.streams } }
 
-pub sound_kept : (m : Inside) (n : ℕ) (f : Buffers → Buffers) → KeepsRead f → IsSound m → IsSound (with_buffers m n f)
-sound_kept m n f keeps sound =
+pub sound_kept : (m : Inside) (n : ℕ) (f : Buffers → Buffers) → KeepsRead f → IfSome (option_map running_of m.frame) (FrameFits (map port_of m.ports.items) (change_stream n f m.store.streams)) → IsSound m → IsSound (with_buffers m n f)
+sound_kept m n f keeps frame sound =
+    let shape = changed_keeps n f (shape_kept f keeps) in
     record {
+      fits = still_fits m.core m.store (with_buffers m n f).store refl (omega arith) (λ k within. seen_mapped (changed_at n f) shape k m.store.streams) sound.fits;
       others = sound.others;
-      numbered = numbered_kept f n 0 m.store.numbered m.store.streams sound.numbered;
+      numbered = numbered_mapped (changed_at n f) shape 0 m.store.numbered m.store.streams sound.numbered;
       few = sound.few;
       screens = sound.screens;
       ports = sound.ports;
-      small = omega (arith, sound.small, bytes_kept f n m.store.streams keeps);
+      small = omega (arith, sound.small, bytes_mapped (changed_at n f) shape m.store.streams);
       streams = all_kept f n (map port_of m.ports.items) (contents_of (option_map running_of m.frame)) m.store.streams keeps sound.streams;
-      frame = sound.frame;
+      frame = frame;
+      once = sound.once;
+      known = sound.known;
+    }
+
+-- the machine without a stream's handle
+pub sound_unnamed : (m : Inside) (handle : ℕ) → IsSound m → IsSound (record m { store = record m.store { streams = map (unnamed handle) m.store.streams } })
+sound_unnamed m handle sound =
+    let keeps = unnamed_keeps handle in
+    record {
+      fits = still_fits m.core m.store (record m.store { streams = map (unnamed handle) m.store.streams }) refl (omega arith) (λ k within. seen_mapped (unnamed handle) keeps k m.store.streams) sound.fits;
+      others = sound.others;
+      numbered = numbered_mapped (unnamed handle) keeps 0 m.store.numbered m.store.streams sound.numbered;
+      few = sound.few;
+      screens = sound.screens;
+      ports = sound.ports;
+      small = omega (arith, sound.small, bytes_mapped (unnamed handle) keeps m.store.streams);
+      streams = all_unnamed handle (map port_of m.ports.items) (contents_of (option_map running_of m.frame)) m.store.streams sound.streams;
+      frame = frame_unnamed handle (map port_of m.ports.items) m.store.streams (option_map running_of m.frame) sound.frame;
       once = sound.once;
       known = sound.known;
     }
@@ -56,30 +74,63 @@ room new streams free =
       | false ↦ λ small. ltb-false 134217728 ((held streams).bytes + buffer_bytes new) small
     ] free
 
+-- a stream that is found is found still beside one more
+found_pushed : (n : ℕ) (ss : List KeptStream) (t : KeptStream) → SeenSame (buffers_at n ss) (buffers_at n (ss ++ t ∷ []))
+found_pushed n [] t b found = absurd cc
+found_pushed n (s ∷ ss) t b found =
+    elim (s.number == n) as (λ x. option_map (λ (u : KeptStream). u.buffers) (cond x (Some s) (stream_at n ss)) ≡ Some b
+    → (c : Buffers) × (option_map (λ (u : KeptStream). u.buffers) (cond x (Some s) (stream_at n (ss ++ t ∷ []))) ≡ Some c) × (c.size ≡ b.size) × (c.format ≡ b.format)) [
+      | true ↦ λ is. (b, is, refl, refl)
+      | false ↦ λ is. found_pushed n ss t b is
+    ] found
+
+frame_pushed : (ports : List Port) (ss : List KeptStream) (t : KeptStream) (o : Option Running) → IfSome o (FrameFits ports ss) → IfSome o (FrameFits ports (ss ++ t ∷ []))
+frame_pushed ports ss t None fits = tt
+frame_pushed ports ss t (Some f) fits = of_kind f.kind fits
+  where
+    of_target : (target : ℕ) (us : List KeptStream) → IsOfTarget (buffers_at target us) f.size f.format → IsOfTarget (buffers_at target (us ++ t ∷ [])) f.size f.format
+    of_target target [] is = absurd is
+    of_target target (s ∷ us) is =
+        elim (s.number == target) as (λ x. IsOfTarget (option_map (λ (u : KeptStream). u.buffers) (cond x (Some s) (stream_at target us))) f.size f.format
+        → IsOfTarget (option_map (λ (u : KeptStream). u.buffers) (cond x (Some s) (stream_at target (us ++ t ∷ [])))) f.size f.format) [ true ↦ λ at. at | false ↦ λ at. of_target target us at ] is
+
+    of_kind : (k : JobKind) → KindFits ports ss f.size f.format k → KindFits ports (ss ++ t ∷ []) f.size f.format k
+    of_kind (kind.Context handle target) is = of_target target ss is
+    of_kind (kind.Port port) is = is
+
 -- the machine with one more stream
-pub sound_made : (m : Inside) (size : Size) (format : Format) (buffers : ℕ) → has_no_room (fresh size format buffers) m.store.streams ≡ false → IsSound m → IsSound (record m { store = with_live_stream (fresh size format buffers) m.store })
-sound_made m size format buffers free sound =
+pub sound_made : (m : Inside) (size : Size) (format : Format) (buffers : ℕ) → has_sides size ≡ true → has_no_room (fresh size format buffers) m.store.streams ≡ false → IsSound m → IsSound (record m { store = with_live_stream (fresh size format buffers) m.store })
+sound_made m size format buffers sides free sound =
     let new : KeptStream = record { number = m.store.numbered + 1; handle = m.store.made + 1; buffers = fresh size format buffers } in
     let ports = map port_of m.ports.items in
     let contents = contents_of (option_map running_of m.frame) in
-    let live : (new.handle == 0) ≡ false = grind (arith, nat_tests) in
     let few : length ports ≤ m.store.numbered = omega (arith, sound.screens, length-map m.ports.items port_of) in
     record {
+      fits = still_fits m.core m.store (with_live_stream (fresh size format buffers) m.store) refl (omega arith) (λ k within. found_pushed k m.store.streams new) sound.fits;
       others = sound.others;
       numbered = numbered_push 0 m.store.numbered m.store.streams new sound.numbered refl;
       few = sound.few;
       screens = omega (arith, sound.screens);
       ports = sound.ports;
       small = omega (arith, room (fresh size format buffers) m.store.streams free, sum_by_push (λ (s : KeptStream). buffer_bytes s.buffers) m.store.streams new);
-      streams = all_push ports contents m.store.streams new sound.streams (new_fits ports contents m.store.numbered new few sound.known refl live refl);
-      frame = sound.frame;
+      streams = all_push ports contents m.store.streams new sound.streams (new_fits ports contents m.store.numbered new few sound.known refl sides refl);
+      frame = frame_pushed ports m.store.streams new (option_map running_of m.frame) sound.frame;
       once = sound.once;
       known = known_more m.store.numbered contents sound.known;
     }
 
--- what makes a stream
-
 -- a call that makes a stream
+
+-- the sides of the stream that it makes
+pub made_sides : (w h b : ℤ) → is_stream w h b ≡ true → has_sides (size_of w h) ≡ true
+made_sides w h b is =
+    let both = (and_parts (is_wide_side w && is_wide_side h) (is_between (pos 2) (pos 4) b) is).0 in
+    let each = and_parts (is_wide_side w) (is_wide_side h) both in
+    and_from (is_side (count_of w)) (is_side (count_of h)) (side w each.0) (side h each.1)
+  where
+    side : (z : ℤ) → is_wide_side z ≡ true → is_side (count_of z) ≡ true
+    side (pos n) is = is
+    side (negsuc n) is = absurd cc
 
 module _ (w h b : ℤ) (format : Format) (s : State) (is : is_stream w h b ≡ true) where
   pub limited : (has_no_room (new_buffers w h format b) s.streams || is_full s.made) ≡ true → stream_step s (stream_new w h format b false s) ≡ (s, answer code.Limit 0)
@@ -88,7 +139,7 @@ module _ (w h b : ℤ) (format : Format) (s : State) (is : is_stream w h b ≡ t
   pub unmade : (has_no_room (new_buffers w h format b) s.streams || is_full s.made) ≡ false → stream_step s (stream_new w h format b true s) ≡ (s, answer code.OutOfMemory 0)
   unmade free = rw (is, free) refl
 
-  pub made : has_no_room (new_buffers w h format b) s.streams ≡ false → is_full s.made ≡ false → stream_step s (stream_new w h format b false s) ≡ (settle (stream_made (new_buffers w h format b) s).0, answer code.Ok (s.made + 1))
+  pub made : has_no_room (new_buffers w h format b) s.streams ≡ false → is_full s.made ≡ false → stream_step s (stream_new w h format b false s) ≡ ((stream_made (new_buffers w h format b) s).0, answer code.Ok (s.made + 1))
   made free few = rw (is, free, few) refl
 
 -- a call of the machine as it is kept is one of the machine as it is seen
@@ -101,10 +152,9 @@ module _ (m : Inside) (s : State) (seen : state_of m ≡ s) (step : State → Re
       (ap (λ (x : Reply). step (state_of m) x) answered ∙ is
       ∙ ap (λ (v : StoreView). (state_of (record m { store = v }), was)) (sym same) ∙ ap (λ (x : Reply). (state_of (record m { store = left }), x)) (sym answered))
 
-  -- the store was left so, and nothing is dropped of it
-  pub leaves : (left now : StoreView) (r was : Reply) → left ≡ now → r ≡ was → IsSound (record m { store = now }) → step (state_of m) was ≡ (settle (state_of (record m { store = now })), was) → step s r ≡ (state_of (record m { store = left }), r)
-  leaves left now r was same answered sound is =
+  -- the store was left so
+  pub leaves : (left now : StoreView) (r was : Reply) → left ≡ now → r ≡ was → step (state_of m) was ≡ (state_of (record m { store = now }), was) → step s r ≡ (state_of (record m { store = left }), r)
+  leaves left now r was same answered is =
       subst (λ (t : State). step t r ≡ (state_of (record m { store = left }), r)) seen
       (ap (λ (x : Reply). step (state_of m) x) answered ∙ is
-      ∙ ap (λ (t : State). (t, was)) (settled (record m { store = now }) sound)
       ∙ ap (λ (v : StoreView). (state_of (record m { store = v }), was)) (sym same) ∙ ap (λ (x : Reply). (state_of (record m { store = left }), x)) (sym answered))

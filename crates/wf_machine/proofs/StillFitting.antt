@@ -1,16 +1,17 @@
 -- Streams fit still when one is added or its buffers change.
-use Rattle.std.proofs.Common.{◌≡◌, ◌≢◌, ℕ, zero, suc, ◌+◌, ◌*◌, ◌<◌, ◌≤◌, Bool, true, false, not, cond, ◌==◌, ◌||◌, List, [], ◌∷◌, ◌++◌, length, Option, Some, None, refl, sym, ap, subst, ◌∙◌, arith}
-use Rattle.std.specs.Prelude.{slice_get, find, nat_le, IfSome, sum_by}
+use Rattle.std.proofs.Common.{◌≡◌, ℕ, zero, suc, ◌+◌, ◌<◌, ◌≤◌, true, false, cond, ◌==◌, List, [], ◌∷◌, ◌++◌, length, map, Option, Some, None, refl, sym, ◌∙◌, arith}
+use Rattle.std.specs.Prelude.{IfSome}
 use Rattle.std.proofs.lemmas.Bool.Decides.{nat_tests}
-use Rattle.std.proofs.lemmas.List.Sums.{sum_by-cons, sum_by_push}
 use Rattle.std.proofs.lemmas.Option.{slice_get_past}
 use Rattle.wf_words.specs.Keyed.{nth}
-use Rattle.wf_stream.specs.Buffers.{Buffers, acquired, away, buffer_bytes, discarded, never, posted}
-use Rattle.wf_stream.specs.Streams.{KeptStream, IsNumbered, change_stream, held}
+use Rattle.wf_pixel.specs.Choice.{has_sides}
+use Rattle.wf_stream.specs.Buffers.{Buffers, acquired, discarded, never, posted}
+use Rattle.wf_stream.specs.Streams.{KeptStream, IsNumbered, change_stream, unnamed}
 use Rattle.wf_image.specs.Bitmap.{Bitmap}
 use Rattle.wf_model.specs.declared.Content.{Content}
 use Rattle.wf_model.specs.State.{Port}
-use Rattle.wf_machine.specs.Fitting.{AllFit, AreNumbered, IsRead, IsScreen, StreamFits, content_at, is_named}
+use Rattle.wf_machine.specs.Fitting.{AllFit, AreNumbered, IsRead, IsScreen, StreamFits, content_at}
+use Rattle.wf_machine.proofs.Latches.{KeepsShape}
 
 -- a change of buffers that keeps the size, the format, the number of buffers and what is read
 pub record KeepsRead (f : Buffers → Buffers) : Type 0 where
@@ -28,6 +29,9 @@ discarded_keeps = record { size = λ b. refl; format = λ b. refl; buffers = λ 
 pub posted_keeps : (image : Bitmap) → KeepsRead (posted image)
 posted_keeps image = record { size = λ b. refl; format = λ b. refl; buffers = λ b. refl; read = λ b. refl }
 
+pub shape_kept : (f : Buffers → Buffers) → KeepsRead f → KeepsShape f
+shape_kept f keeps = record { size = keeps.size; format = keeps.format; buffers = keeps.buffers }
+
 -- what is said of the sizes, the formats and the read images of buffers holds of changed ones
 read_kept : (f : Buffers → Buffers) (b : Buffers) (o : Option Content) → KeepsRead f → IsRead b o → IsRead (f b) o
 read_kept f b None keeps read = λ h. read (sym (keeps.read b) ∙ h)
@@ -40,7 +44,7 @@ screen_kept f b (Some p) keeps is = (keeps.size b ∙ is.0, keeps.format b ∙ i
 fits_kept : (f : Buffers → Buffers) (ports : List Port) (contents : List Content) (s : KeptStream) → KeepsRead f → StreamFits ports contents s → StreamFits ports contents (record s { buffers = f s.buffers })
 fits_kept f ports contents s keeps fits =
     record {
-      named = fits.named;
+      sides = rw (keeps.size s.buffers) fits.sides;
       screen = screen_kept f s.buffers (nth s.number ports) keeps fits.screen;
       read = read_kept f s.buffers (content_at s.number contents) keeps fits.read;
     }
@@ -49,21 +53,6 @@ pub all_kept : (f : Buffers → Buffers) (n : ℕ) (ports : List Port) (contents
 all_kept f n ports contents [] keeps fit = tt
 all_kept f n ports contents (s ∷ streams) keeps fit =
     (elim (s.number == n) as (λ b. StreamFits ports contents (cond b (record s { buffers = f s.buffers }) s)) [ true ↦ fits_kept f ports contents s keeps fit.0 | false ↦ fit.0 ], all_kept f n ports contents streams keeps fit.1)
-
-pub numbered_kept : (f : Buffers → Buffers) (n low high : ℕ) (streams : List KeptStream) → IsNumbered low streams high → IsNumbered low (change_stream n f streams) high
-numbered_kept f n low high [] rising = rising
-numbered_kept f n low high (s ∷ streams) rising =
-    let later = numbered_kept f n s.number high streams rising.1 in
-    elim (s.number == n) as (λ b. (low < (cond b (record s { buffers = f s.buffers }) s).number) × IsNumbered (cond b (record s { buffers = f s.buffers }) s).number (change_stream n f streams) high) [ true ↦ (rising.0, later) | false ↦ (rising.0, later) ]
-
-pub bytes_kept : (f : Buffers → Buffers) (n : ℕ) (streams : List KeptStream) → KeepsRead f → (held (change_stream n f streams)).bytes ≡ (held streams).bytes
-bytes_kept f n [] keeps = refl
-bytes_kept f n (s ∷ streams) keeps =
-    let each : KeptStream → ℕ = λ t. buffer_bytes t.buffers in
-    let changed : KeptStream = record s { buffers = f s.buffers } in
-    let same : each changed ≡ each s = rw (keeps.size s.buffers, keeps.format s.buffers, keeps.buffers s.buffers) refl in
-    let here : each (cond (s.number == n) changed s) ≡ each s = elim (s.number == n) as (λ b. each (cond b changed s) ≡ each s) [ true ↦ same | false ↦ refl ] in
-    sum_by-cons each (cond (s.number == n) changed s) (change_stream n f streams) ∙ ap (λ (k : ℕ). k + sum_by each (change_stream n f streams)) here ∙ ap (λ (k : ℕ). each s + k) (bytes_kept f n streams keeps) ∙ sym (sum_by-cons each s streams)
 
 -- no content is of a number above all
 pub content_above : (n numbered : ℕ) (contents : List Content) → AreNumbered numbered contents → numbered < n → content_at n contents ≡ None
@@ -85,14 +74,20 @@ pub all_push : (ports : List Port) (contents : List Content) (streams : List Kep
 all_push ports contents [] s fit new = (new, tt)
 all_push ports contents (t ∷ streams) s fit new = (fit.0, all_push ports contents streams s fit.1 new)
 
--- a new stream under a handle
-pub new_fits : (ports : List Port) (contents : List Content) (numbered : ℕ) (s : KeptStream) → length ports ≤ numbered → AreNumbered numbered contents → s.number ≡ numbered + 1 → (s.handle == 0) ≡ false → s.buffers.read ≡ never → StreamFits ports contents s
-new_fits ports contents numbered s many known number live never-is =
+-- a new stream
+pub new_fits : (ports : List Port) (contents : List Content) (numbered : ℕ) (s : KeptStream) → length ports ≤ numbered → AreNumbered numbered contents → s.number ≡ numbered + 1 → has_sides s.buffers.size ≡ true → s.buffers.read ≡ never → StreamFits ports contents s
+new_fits ports contents numbered s many known number sides never-is =
     record {
-      named = rw live refl;
+      sides = sides;
       screen = rw (nth_above s.number ports (omega (arith, number))) tt;
       read = rw (content_above s.number numbered contents known (omega (arith, number))) (λ h. (let no = sym never-is ∙ h in cc));
     }
+
+-- a stream whose handle is dead
+pub all_unnamed : (handle : ℕ) (ports : List Port) (contents : List Content) (streams : List KeptStream) → AllFit ports contents streams → AllFit ports contents (map (unnamed handle) streams)
+all_unnamed handle ports contents [] fit = tt
+all_unnamed handle ports contents (s ∷ streams) fit =
+    (elim (s.handle == handle) as (λ b. StreamFits ports contents (cond b (record s { handle = 0 }) s)) [ true ↦ record { sides = fit.0.sides; screen = fit.0.screen; read = fit.0.read } | false ↦ fit.0 ], all_unnamed handle ports contents streams fit.1)
 
 pub numbered_push : (low high : ℕ) (streams : List KeptStream) (s : KeptStream) → IsNumbered low streams high → s.number ≡ high + 1 → IsNumbered low (streams ++ s ∷ []) (high + 1)
 numbered_push low high [] s rising is = (omega (arith, is, rising), omega (arith, is))

@@ -1,19 +1,25 @@
 -- What holds of the streams, of the ports and of the running frame beside one another.
-use Rattle.std.specs.Prelude.{◌≡◌, ◌≢◌, ℕ, ◌+◌, ◌≤◌, Bool, false, not, ◌||◌, ◌==◌, nat_le, List, [], ◌∷◌, length, find, Option, Some, None, IfSome, IsSomeAnd, IsTrue, if◌then◌else◌}
-use Rattle.std.specs.List.{list_all}
+use Rattle.std.specs.Prelude.{◌≡◌, ◌≢◌, ℕ, ◌+◌, ◌-◌, ◌<◌, ◌≤◌, Bool, false, ◌==◌, List, [], ◌∷◌, length, map, slice_get, find, Option, Some, None, IfSome, IsSomeAnd, IsTrue, if◌then◌else◌}
+use Rattle.std.specs.List.{list_all, AllByRecursion}
 use Rattle.wf_words.specs.Keyed.{nth}
+use Rattle.wf_pixel.specs.declared.Format.{Format}
 use Rattle.wf_pixel.specs.declared.Format.TheVariants.{Rgba8Pre, Rgbx8}
-use Rattle.wf_pixel.specs.Choice.{has_sides}
+use Rattle.wf_pixel.specs.declared.Size.{Size}
+use Rattle.wf_pixel.specs.Choice.{has_sides, is_a8}
+use Rattle.wf_image.specs.Bitmap.{Bitmap}
 use Rattle.wf_stream.specs.Buffers.{Buffers, away}
-use Rattle.wf_stream.specs.Streams.{KeptStream}
+use Rattle.wf_stream.specs.Streams.{KeptStream, buffers_at}
+use Rattle.wf_scene.specs.declared.Scene.{Scene}
 use Rattle.wf_calls.specs.declared.call.Job.{Job}
 use Rattle.wf_calls.specs.declared.call.JobKind.{JobKind}
 use Rattle.wf_calls.specs.declared.call.JobKind.TheVariants as kind
 use Rattle.wf_model.specs.declared.Content.{Content}
 use Rattle.wf_model.specs.Frames.{is_of_frame}
 use Rattle.wf_model.specs.State.{Port, Running, mode_size}
+use Rattle.wf_core.specs.Fits.{LayerFits}
 use Rattle.wf_machine.specs.declared.port.Port as declared
-use Rattle.wf_machine.specs.Ports.{HoldsBut}
+use Rattle.wf_machine.specs.Latching.{IsOutFrom}
+use Rattle.wf_machine.specs.Ports.{HoldsBut, IsFrameImage, port_of}
 
 -- what the running frame holds of the streams
 abbrev pub contents_of : Option Running → List Content
@@ -38,10 +44,6 @@ abbrev pub AreNumbered : ℕ → List Content → Type 0
 AreNumbered numbered [] = Unit {0}
 AreNumbered numbered (c ∷ contents) = (c.stream ≤ numbered) × AreNumbered numbered contents
 
--- a stream that a live handle or a port names
-abbrev pub is_named : ℕ → KeptStream → Bool
-is_named ports s = not (s.handle == 0) || nat_le s.number ports
-
 -- the buffers of a port's screen
 abbrev pub IsScreen : Buffers → Port → Type 0
 IsScreen b p = (b.size ≡ mode_size 1 p.modes) × (b.format ≡ Rgbx8)
@@ -53,7 +55,7 @@ IsRead b (Some c) = (b.read ≡ away) × (b.size ≡ c.size) × (b.format ≡ c.
 
 -- what holds of a stream that is kept
 pub record StreamFits (ports : List Port) (contents : List Content) (s : KeptStream) : Type 0 where
-  pub named : IsTrue (is_named (length ports) s)
+  pub sides : IsTrue (has_sides s.buffers.size)
   pub screen : IfSome (nth s.number ports) (IsScreen s.buffers)
   pub read : IsRead s.buffers (content_at s.number contents)
 
@@ -61,12 +63,13 @@ abbrev pub AllFit : List Port → List Content → List KeptStream → Type 0
 AllFit ports contents [] = Unit {0}
 AllFit ports contents (s ∷ streams) = StreamFits ports contents s × AllFit ports contents streams
 
--- the mode of a port whose image is away: the first, where its frame runs, and else none
+-- the mode of a port whose image is away: the first, where its own frame runs, and else none
 abbrev pub away_of : Option Running → ℕ → ℕ
 away_of None port = 0
 away_of (Some f) port = of_kind f.kind
   where
     of_kind : JobKind → ℕ
+    of_kind (kind.Context handle target) = 0
     of_kind (kind.Port p) = if p == port then 1 else 0
 
 -- what holds of a port, which is counted from 1
@@ -79,9 +82,36 @@ abbrev pub PortsFit : Option Running → ℕ → List declared.Port → Type 0
 PortsFit frame number [] = Unit {0}
 PortsFit frame number (p ∷ ports) = PortFits frame number p × PortsFit frame (number + 1) ports
 
--- the running frame's image is that of its port
-abbrev pub IsOfPort : List Port → Running → Type 0
-IsOfPort ports f = of_kind f.kind
-  where
-    of_kind : JobKind → Type 0
-    of_kind (kind.Port p) = IsSomeAnd (nth p ports) (λ port. (f.size ≡ mode_size 1 port.modes) × (f.format ≡ Rgba8Pre))
+-- the image of the port at a place is away in a frame
+abbrev pub AwaitsImage : ℕ → List declared.Port → Type 0
+AwaitsImage place ports = (frame : Running) × (frame.kind ≡ kind.Port (place + 1)) × PortsFit (Some frame) 1 ports
+
+-- a frame draws into an image of a port's first mode
+abbrev pub IsOfPort : Option Port → Size → Format → Type 0
+IsOfPort o size format = IsSomeAnd o (λ port. (size ≡ mode_size 1 port.modes) × (format ≡ Rgba8Pre))
+
+-- a frame draws into the write buffer of a stream, which is out
+abbrev pub IsOfTarget : Option Buffers → Size → Format → Type 0
+IsOfTarget o size format = IsSomeAnd o (λ b. IsTrue b.out × (size ≡ b.size) × (format ≡ b.format))
+
+-- the image of a frame of a kind is that of its port, or of the target of its context, which is kept
+abbrev pub KindFits : List Port → List KeptStream → Size → Format → JobKind → Type 0
+KindFits ports streams size format (kind.Context handle target) = IsOfTarget (buffers_at target streams) size format
+KindFits ports streams size format (kind.Port p) = IsOfPort (nth p ports) size format
+
+-- and so is that of the running frame
+abbrev pub FrameFits : List Port → List KeptStream → Running → Type 0
+FrameFits ports streams f = KindFits ports streams f.size f.format f.kind
+
+-- what a frame composes: each layer fits the streams, and the target is a kept stream of pixels of the scene's size
+pub record IsComposable (streams : List KeptStream) (target : ℕ) (scene : Scene) : Type 0 where
+  pub target_is : IsSomeAnd (buffers_at target streams) (λ b. (b.size ≡ scene.size) × (is_a8 b.format ≡ false))
+  pub layers : AllByRecursion (LayerFits streams) scene.layers.items
+
+-- the image of a frame that ends can be handed on: to its target, of which it is the write buffer, or back to its port
+abbrev pub IsDue : List KeptStream → List declared.Port → JobKind → Bitmap → Type 0
+IsDue streams ports (kind.Context handle target) image =
+    IsOutFrom streams (record { stream = target; image = image }) × PortsFit None 1 ports
+IsDue streams ports (kind.Port p) image =
+    (1 ≤ p) × (p - 1 < length ports) × AwaitsImage (p - 1) ports
+    × IfSome (slice_get (map port_of ports) (p - 1)) (λ port. IsFrameImage (mode_size 1 port.modes) (Some image))

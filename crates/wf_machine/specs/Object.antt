@@ -1,5 +1,5 @@
 -- The machine as an object with a history: what a call may answer, and what it leaves.
-use Rattle.std.specs.Prelude.{◌≡◌, ℕ, ◌≤◌, Bool, true, false, not, ◌&&◌}
+use Rattle.std.specs.Prelude.{◌≡◌, ℕ, ◌≤◌, ◌⊎◌, Bool, true, false, not, ◌&&◌, IsTrue}
 use Rattle.wf_pixel.specs.Choice.{is_a8}
 use Rattle.wf_image.specs.Bitmap.{Bitmap}
 use Rattle.wf_calls.specs.declared.call.Call.{Call}
@@ -10,11 +10,14 @@ use Rattle.wf_calls.specs.declared.call.JobKind.TheVariants as kind
 use Rattle.wf_calls.specs.declared.call.Payload.{Payload}
 use Rattle.wf_calls.specs.declared.call.Payload.TheVariants as payload
 use Rattle.wf_calls.specs.declared.call.Reply.{Reply}
+use Rattle.wf_calls.specs.declared.code.Code.{Code}
 use Rattle.wf_calls.specs.Codes.{is_out_of_memory, is_ok_code}
 use Rattle.wf_model.specs.State.{State}
 use Rattle.wf_model.specs.Picture.{Fits}
 use Rattle.wf_model.specs.Frames.{is_running}
-use Rattle.wf_model.specs.Step.{step}
+use Rattle.wf_model.specs.Composition.{change_register, recorded}
+use Rattle.wf_model.specs.Names.{kept}
+use Rattle.wf_model.specs.Step.{act, step}
 
 -- a call that begins a frame
 abbrev pub is_begin : Call → Bool
@@ -47,12 +50,13 @@ pub record SameJob (is_new : Bool) (wanted job : Job) : Type 0 where
   pub contents : job.contents ≡ wanted.contents
   pub image : SameImage is_new wanted.kind wanted.image job.image
 
--- a frame is of one of the four ports that there are at most
+-- a frame is of a context, or of one of the four ports that there are at most
 abbrev pub IsOfSomePort : JobKind → Type 0
+IsOfSomePort (kind.Context handle target) = Unit {0}
 IsOfSomePort (kind.Port port) = (1 ≤ port) × (port ≤ 4)
 
 -- a Job that can be painted and shown: scene and contents fit, the image has the scene's size, with 4 bytes for each
--- pixel, and its port is one of those that there may be
+-- pixel, and a port that it is of is one of those that there may be
 pub record IsPaintable (job : Job) : Type 0 where
   pub port : IsOfSomePort job.kind
   pub fits : Fits job.scene job.contents
@@ -77,3 +81,18 @@ pub record IsAnswer (wanted reply : Reply) : Type 0 where
 -- what a call may answer: what the step answers
 abbrev pub MayAnswer : State → ℕ → Call → Reply → Type 0
 MayAnswer h client c reply = IsAnswer (answered_step h client c reply).1 reply
+
+-- what a call does, before streams without a name are dropped: what it leaves, and what it answers
+pub record IsAct (h : State) (c : Call) (left : State) (reply : Reply) : Type 0 where
+  pub left_is : left ≡ (act h c (is_out_of_memory reply.code)).0
+  pub answer : IsAnswer (act h c (is_out_of_memory reply.code)).1 reply
+
+-- each stream that is kept has a name
+abbrev pub IsSettled : State → Type 0
+IsSettled h = h.streams ≡ kept h
+
+-- a refusal leaves all as it was, but that the register of a device takes the code where it is empty
+abbrev pub IsRefusal : State → State → Code → Type 0
+IsRefusal h left c =
+    IsTrue (not (is_ok_code c))
+    → (left ≡ h) ⊎ ((d : ℕ) × (left ≡ record h { core = change_register d (recorded c) h.core }))

@@ -1,8 +1,8 @@
 //! The running frame.
 
-ghost use Rattle.std.specs.Prelude.{◌≡◌};
+ghost use Rattle.std.specs.Prelude.{◌≡◌, option_map};
 ghost use Rattle.std.specs.List.{list_all};
-ghost use Rattle.wf_model.specs.Frames.{has_shape, is_of_frame, same_kind};
+ghost use Rattle.wf_model.specs.Frames.{has_shape, is_of_frame, is_target, same_kind};
 ghost use Rattle.wf_image.specs.Contents.{image_of};
 ghost use Rattle.wf_machine.specs.Ports.{running_of};
 
@@ -36,13 +36,34 @@ impl Frame {
     }
 }
 
-/// Whether two frames are of one port.
+/// Whether two frames are of one port, or of one context with one target.
 fn is_same_kind(first: JobKind, second: JobKind) -> bool
     ensures { result ≡ same_kind first second }
 {
-    let JobKind::Port { port: first } = first;
-    let JobKind::Port { port: second } = second;
-    first == second
+    match (first, second) {
+        (
+            JobKind::Context { handle, target },
+            JobKind::Context {
+                handle: other,
+                target: into,
+            },
+        ) => handle == other && target == into,
+        (JobKind::Port { port }, JobKind::Port { port: other }) => port == other,
+        _ => false,
+    }
+}
+
+/// Whether a stream is the target of the running frame.
+pub(crate) fn is_target(frame: &Option<Frame>, stream: u32) -> bool
+    ensures { result ≡ is_target stream (option_map running_of frame.now) }
+{
+    match frame {
+        Some(frame) => match frame.kind {
+            JobKind::Context { target, .. } => target == stream,
+            JobKind::Port { .. } => false,
+        },
+        None => false,
+    }
 }
 
 /// Whether there is an image of each of these sizes and formats.

@@ -1,22 +1,28 @@
 //! Frames: they begin, and they end.
 
-ghost use Rattle.std.specs.Prelude.{◌≡◌, ◌<◌, ◌+◌, ◌-◌, ◌^◌, Some, None, IfSome, IfNone, MatchOption, length, map, slice_get};
-ghost use Rattle.wf_words.specs.Keyed.{nth};
+ghost use Rattle.std.specs.Prelude.{◌≡◌, ◌<◌, ◌+◌, ◌-◌, ◌^◌, Some, None, IfSome, IsSome, MatchOption, length, map, slice_get};
+ghost use Rattle.wf_words.specs.Keyed.{is_in, nth};
+ghost use Rattle.wf_stream.specs.Streams.{buffers_at};
 ghost use Rattle.wf_words.specs.Whole.{count_of};
 ghost use Rattle.wf_model.specs.Display.{scene_of_port};
-ghost use Rattle.wf_model.specs.Frames.{begin_next, begin_port, begun_port, end};
-ghost use Rattle.wf_model.specs.State.{Port};
-ghost use Rattle.wf_machine.specs.Fitting.{is_of_running};
+ghost use Rattle.wf_model.specs.Frames.{begin_context, begin_next, begin_port, begun_port, delivered, end, scene_streams, target_refusal};
+ghost use Rattle.wf_model.specs.Outcome.{answer};
+ghost use Rattle.wf_machine.specs.Fitting.{IsComposable, IsDue, PortsFit, is_of_running};
+ghost use Rattle.wf_machine.specs.Latching.{AreAtHome};
 ghost use Rattle.wf_machine.specs.Object.{IsAnswer};
 ghost use Rattle.wf_machine.specs.Ports.{port_of};
 
 use crate::frame::Frame;
-use crate::latching::{bring_home, latch_scene};
-use crate::machine::Machine;
-use crate::port::{put_image, take_image};
+use crate::latching::{bring_home, latch_scene, names};
+use crate::parts::Parts;
+use crate::port::{Port, put_image, take_image};
 use crate::replies::{done, refused};
 use crate::scenes::scene_of_port;
+use crate::streams::{acquire_image, post_to};
 use wf_calls::{Code, Job, JobKind, Payload, Reply};
+use wf_core::Shown;
+use wf_image::{Canvas, Image};
+use wf_stream::Store;
 
 /// A Job that comes back: it is not the running frame's.
 fn handed_back(job: Job) -> Reply
@@ -29,23 +35,116 @@ fn handed_back(job: Job) -> Reply
     }
 }
 
-/// The number of a port's frame's port.
-fn port_of_frame(kind: JobKind) -> u32
-    ensures { kind ≡ JobKind.Port result }
+/// A refusal of a context's frame, whose value is the context's handle.
+fn refused_for(handle: u32, code: Code) -> Reply
+    ensures { result ≡ answer code handle }
 {
-    let JobKind::Port { port } = kind;
-    port
+    Reply {
+        code,
+        value: handle,
+        payload: Payload::Nothing,
+    }
 }
 
-impl Machine {
-    /// Begins a frame of the next active context. There is none yet.
-    pub(crate) fn begin_next(&self, after: u32) -> Reply
-        ensures { begin_next after self.now ≡ (self.now, result) }
+/// Why no frame of a scene can be drawn into a stream that is kept, if so.
+fn target_refusal(store: &Store, shown: &Shown) -> Option<Code>
+    requires kept { IsSome (buffers_at shown.now.target store.now.streams) }
+    requires home { AreAtHome store.now.streams }
+    ensures { IfSome (buffers_at shown.now.target store.now.streams) (λ b. result ≡ target_refusal (is_in shown.now.target (scene_streams shown.now.scene)) b) }
+{
+    let Some(stream) = store.get(shown.target) else {
+        unreachable!()
+    };
+    if stream.is_out() {
+        Some(Code::Busy)
+    } else if !stream.roomy(names(&shown.scene, shown.target)) {
+        Some(Code::NoBuffer)
+    } else {
+        None
+    }
+}
+
+/// Hands the image of a frame that ends on: to the target of its context, as the newest image, or back to its port.
+fn deliver(store: &mut Store, ports: &mut Vec<Port>, kind: JobKind, image: Image)
+    requires { IsDue store.old.streams ports.old.items kind image }
+    ensures store { store.new ≡ record store.old { streams = delivered kind image store.old.streams } }
+    ensures modes { map port_of ports.new.items ≡ map port_of ports.old.items }
+    ensures there { PortsFit None 1 ports.new.items }
+{
+    match kind {
+        JobKind::Context { target, .. } => post_to(
+            store,
+            Canvas {
+                stream: target,
+                image,
+            },
+        ),
+        JobKind::Port { port } => put_image(ports, (port - 1) as usize, image),
+    }
+}
+
+impl Parts {
+    /// Begins a frame of the next active context, if there is one.
+    pub(crate) fn begin_next(&mut self, after: u32) -> Reply
+        ensures left { self.new ≡ (begin_next after self.old).0 }
+        ensures answer { IsAnswer (begin_next after self.old).1 result }
     {
         if self.frame.is_some() {
-            refused(Code::Busy)
-        } else {
-            done(0)
+            return refused(Code::Busy);
+        }
+        match self.core.next(after) {
+            Some((handle, shown)) => self.begin_context(handle, shown),
+            None => done(0),
+        }
+    }
+
+    /// Begins a frame of a context that is live, while none runs.
+    fn begin_context(&mut self, handle: u32, shown: Shown) -> Reply
+        requires free { self.old.frame ≡ None }
+        requires fits { IsComposable self.old.streams shown.target shown.scene }
+        ensures left { self.new ≡ (begin_context handle shown.target shown.scene self.old).0 }
+        ensures answer { IsAnswer (begin_context handle shown.target shown.scene self.old).1 result }
+    {
+        if let Some(code) = target_refusal(&self.store, &shown) {
+            return refused_for(handle, code);
+        }
+        if self.begun == u64::MAX {
+            return refused_for(handle, Code::Limit);
+        }
+        self.compose_into(handle, shown)
+    }
+
+    /// Begins a frame of a context whose target has a free buffer.
+    fn compose_into(&mut self, handle: u32, shown: Shown) -> Reply
+        requires free { self.old.frame ≡ None }
+        requires few { self.old.begun < 2 ^ 64 - 1 }
+        requires fits { IsComposable self.old.streams shown.target shown.scene }
+        requires roomy { IfSome (buffers_at shown.target self.old.streams) (λ b. target_refusal (is_in shown.target (scene_streams shown.scene)) b ≡ None) }
+        ensures left { self.new ≡ (begin_context handle shown.target shown.scene self.old).0 }
+        ensures answer { IsAnswer (begin_context handle shown.target shown.scene self.old).1 result }
+    {
+        let target = shown.target;
+        let (contents, shapes) = latch_scene(&mut self.store, &shown.scene).into_parts();
+        let image = acquire_image(&mut self.store, target);
+        self.begun += 1;
+        let kind = JobKind::Context { handle, target };
+        self.frame = Some(Frame {
+            number: self.begun,
+            kind,
+            size: image.size(),
+            format: image.format(),
+            contents: shapes,
+        });
+        Reply {
+            code: Code::Ok,
+            value: handle,
+            payload: Payload::Job(Job {
+                number: self.begun,
+                kind,
+                scene: shown.scene,
+                contents,
+                image,
+            }),
         }
     }
 
@@ -68,7 +167,7 @@ impl Machine {
         let Some(place) = self.place_of(port) else {
             return refused(Code::BadHandle);
         };
-        if self.frame.is_some() {
+        if !self.frame.is_none() {
             return refused(Code::Busy);
         }
         if self.begun == u64::MAX {
@@ -129,9 +228,8 @@ impl Machine {
         if !self.is_of_running(&job) {
             return handed_back(job);
         }
-        let port = port_of_frame(job.kind);
         bring_home(&mut self.store, job.contents);
-        put_image(&mut self.ports, (port - 1) as usize, job.image);
+        deliver(&mut self.store, &mut self.ports, job.kind, job.image);
         self.frame = None;
         done(0)
     }

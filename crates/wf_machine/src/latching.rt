@@ -1,6 +1,8 @@
 //! The images that a frame takes from the streams of its scene, and their way home.
 
-ghost use Rattle.std.specs.Prelude.{◌≡◌, ◌<◌, ◌≤◌, ◌+◌, ◌++◌, ◌∷◌, [], length, map, None, IfSome};
+ghost use Rattle.std.specs.Prelude.{◌≡◌, ◌==◌, ◌||◌, ◌<◌, ◌≤◌, ◌+◌, ◌++◌, ◌∷◌, [], length, map, None, IfSome};
+ghost use Rattle.std.specs.List.{list_any};
+ghost use Rattle.wf_words.specs.Keyed.{is_in};
 ghost use Rattle.wf_image.specs.Contents.{image_of};
 ghost use Rattle.wf_stream.specs.Buffers.{latched, returned};
 ghost use Rattle.wf_stream.specs.Streams.{change_stream, stream_at, IsNumbered};
@@ -11,7 +13,7 @@ use arrayvec::ArrayVec;
 use std::marker::Model;
 use wf_image::{Contents, Image};
 use wf_model::Content;
-use wf_scene::Scene;
+use wf_scene::{Layer, Scene};
 use wf_stream::Store;
 
 /// The images that a frame took so far, and the size and format of each, in the same order.
@@ -110,6 +112,22 @@ pub(crate) fn latch_scene(store: &mut Store, scene: &Scene) -> Latched
         images.take(store, layer.mask);
     }
     images
+}
+
+/// Whether a layer shows a stream, or has it as its mask.
+fn any_names(layers: &[Layer], number: u32) -> bool
+    ensures { result ≡ list_any (λ l. (l.stream == number) || (l.mask == number)) layers.now }
+{
+    layers
+        .iter()
+        .any(|layer| layer.stream == number || layer.mask == number)
+}
+
+/// Whether a scene names a stream.
+pub(crate) fn names(scene: &Scene, number: u32) -> bool
+    ensures { result ≡ is_in number (scene_streams scene.now) }
+{
+    any_names(scene.layers.as_slice(), number)
 }
 
 /// Brings the images of a frame home to their streams.

@@ -6,9 +6,12 @@ mod frame;
 mod frames;
 mod latching;
 mod machine;
+mod parts;
 mod port;
 mod replies;
 mod scenes;
+mod screens;
+mod settling;
 mod streams;
 #[cfg(test)]
 mod tests;

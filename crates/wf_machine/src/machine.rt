@@ -2,36 +2,48 @@
 
 ghost use Rattle.std.specs.Prelude.{◌≡◌, IfOk, IsTrue};
 ghost use Rattle.wf_stream.specs.Streams.{held};
+ghost use Rattle.wf_calls.specs.Codes.{is_ok_code};
 ghost use Rattle.wf_calls.specs.PortRules.{may_declare};
+ghost use Rattle.wf_model.specs.Names.{kept};
 ghost use Rattle.wf_model.specs.State.{opening};
+ghost use Rattle.wf_machine.specs.Object.{IsRefusal, MayAnswer, after, is_begin, is_ready};
 
-use crate::frame::Frame;
-use crate::port::Port;
+use crate::parts::Parts;
 use std::alloc::Global;
 use std::marker::Model;
-use wf_calls::Ports;
-use wf_stream::{Held, Store};
+use wf_calls::{Call, Code, Ports, Reply};
+use wf_stream::Held;
 use wf_words::NoMemory;
 
-/// Everything that the clients call: the streams, the ports, and the frame that runs.
+/// Everything that the clients call. Between two calls it keeps just the streams that something names.
 #[derive(Drop)]
 pub struct Machine {
-    pub(crate) store: Store,
-    pub(crate) ports: Vec<Port>,
-    pub(crate) begun: u64,
-    pub(crate) frame: Option<Frame>,
+    parts: Parts,
 }
 
 impl Model for Machine {
     ghost use Rattle.wf_model.specs.State.{State};
+    ghost use Rattle.wf_machine.specs.Object.{IsSettled};
 
     ghost Value = { State };
 
-    ghost use Rattle.wf_machine.specs.Inside.{state_of, IsSound};
+    ghost view = { λ m. m.parts };
 
-    ghost view = { state_of };
+    ghost invariant = { λ m. IsSettled m.parts };
+}
 
-    ghost invariant = { IsSound };
+/// Whether a call begins a frame.
+fn is_begin(call: &Call) -> bool
+    ensures { result ≡ is_begin call.now }
+{
+    matches!(call, Call::BeginNext { .. } | Call::BeginPort { .. })
+}
+
+/// Whether a call was carried out.
+fn is_ok(code: Code) -> bool
+    ensures { result ≡ is_ok_code code }
+{
+    matches!(code, Code::Ok)
 }
 
 impl Machine {
@@ -40,25 +52,38 @@ impl Machine {
         requires { IsTrue (may_declare ports.now) }
         ensures { IfOk result (λ machine. machine ≡ opening ports.now) }
     {
-        let mut store = Store::new(alloc);
-        let mut opened = Vec::with_capacity(alloc, ports.modes.len())?;
-        for modes in ports.modes.as_slice() {
-            let sizes = modes.sizes.as_slice();
-            store.screen(sizes[0])?;
-            opened.push_reserved(Port::new(alloc, sizes)?);
-        }
         Ok(Machine {
-            store,
-            ports: opened,
-            begun: 0,
-            frame: None,
+            parts: Parts::open(alloc, ports)?,
         })
+    }
+
+    /// Runs a client's call, as one indivisible step. A stream that the call leaves without a name is dropped in it. A
+    /// creation for which there is no memory answers OutOfMemory. A refused call leaves all as it was, but that an empty
+    /// error register takes the refusal.
+    pub fn run(&mut self, client: u8, call: Call) -> Reply
+        ensures after { self.new ≡ after self.old client call result }
+        ensures may { MayAnswer self.old client call result }
+        ensures lifetime { self.new.streams ≡ kept self.new }
+        ensures refused { IsRefusal self.old self.new result.code }
+    {
+        let reply = self.parts.act(call);
+        if is_ok(reply.code) {
+            self.parts.settle();
+        }
+        reply
+    }
+
+    /// Whether a call can be answered now: no call that begins a frame waits for the running one.
+    pub fn ready(&self, call: &Call) -> bool
+        ensures { result ≡ is_ready self.now call.now }
+    {
+        !is_begin(call) || self.parts.frame.is_none()
     }
 
     /// How many streams are kept, and the bytes of their buffers.
     pub fn held(&self) -> Held
         ensures { result ≡ held self.now.streams }
     {
-        self.store.held()
+        self.parts.store.held()
     }
 }

@@ -5,7 +5,7 @@ ghost use Rattle.std.specs.List.{list_all};
 ghost use Rattle.wf_pixel.specs.Choice.{has_sides};
 ghost use Rattle.wf_model.specs.State.{Running, mode_size};
 ghost use Rattle.wf_machine.specs.Ports.{HoldsBut, IsFrameImage, port_of};
-ghost use Rattle.wf_machine.specs.Fitting.{PortsFit};
+ghost use Rattle.wf_machine.specs.Fitting.{AwaitsImage, PortsFit};
 
 use arrayvec::ArrayVec;
 use std::alloc::Global;
@@ -78,7 +78,7 @@ pub(crate) fn take_image(ports: &mut Vec<Port>, place: usize) -> Image
 /// Puts the image of a port's frame back, while it runs.
 pub(crate) fn put_image(ports: &mut Vec<Port>, place: usize, image: Image)
     requires within { place < length ports.old.items }
-    requires away { (frame : Running) × (frame.kind ≡ JobKind.Port (place + 1)) × PortsFit (Some frame) 1 ports.old.items }
+    requires away { AwaitsImage place ports.old.items }
     requires shape { IfSome (slice_get (map port_of ports.old.items) place) (λ port. IsFrameImage (mode_size 1 port.modes) (Some image)) }
     ensures modes { map port_of ports.new.items ≡ map port_of ports.old.items }
     ensures there { PortsFit None 1 ports.new.items }

@@ -1,20 +1,22 @@
 //! The calls on streams.
 
-ghost use Rattle.std.specs.Prelude.{◌≡◌, IfOk, IsErrOf, OnErr, OnOk, IsSome, IsTrue, pos, ◌+◌, ◌||◌, false, true, Some};
+ghost use Rattle.std.specs.Prelude.{◌≡◌, IfOk, IfSome, IsErrOf, OnErr, OnOk, IsSome, IsSomeAnd, IsTrue, pos, ◌+◌, ◌||◌, false, true, Some};
 ghost use Rattle.wf_words.specs.Whole.{count_of};
 ghost use Rattle.wf_pixel.specs.Choice.{is_between};
 ghost use Rattle.wf_life.specs.Handles.{is_full};
 ghost use Rattle.wf_calls.specs.Codes.{is_out_of_memory};
 ghost use Rattle.wf_stream.specs.Buffers.{acquired, discarded, is_blocked, posted};
-ghost use Rattle.wf_stream.specs.Streams.{KeptStream, change_stream, has_no_room, held, stream_at, with_live_stream};
-ghost use Rattle.wf_model.specs.Streams.{acquirable, acquire_step, canvas_back, canvas_of, is_out_at_client, is_stream, new_buffers, stat, stream_new, stream_step};
+ghost use Rattle.wf_image.specs.Bitmap.{blank};
+ghost use Rattle.wf_stream.specs.Streams.{KeptStream, buffers_at, change_stream, has_no_room, held, stream_at, with_live_stream};
+ghost use Rattle.wf_model.specs.Streams.{acquirable, acquire_step, canvas_back, canvas_of, is_out_at_client, is_out_of, is_stream, new_buffers, stat, stream_destroy, stream_new, stream_step};
 ghost use Rattle.wf_model.specs.Outcome.{answer};
 ghost use Rattle.wf_machine.specs.Latching.{IsOutFrom};
 
-use crate::machine::Machine;
+use crate::frame::is_target;
+use crate::parts::Parts;
 use crate::replies::{done, refused};
 use wf_calls::{Code, Payload, Reply, StatWord};
-use wf_image::Canvas;
+use wf_image::{Canvas, Image};
 use wf_life::MakeStop;
 use wf_pixel::{Format, Size};
 use wf_stream::{Refused, Store};
@@ -81,8 +83,23 @@ fn acquire_from(store: &mut Store, number: u32) -> Result<Canvas, Refused>
     }
 }
 
+/// Takes the write buffer of a stream that is kept and has a free one.
+pub(crate) fn acquire_image(store: &mut Store, number: u32) -> Image
+    requires { IsSomeAnd (buffers_at number store.old.streams) (λ b. (b.out ≡ false) × (is_blocked b ≡ false)) }
+    ensures image { IfSome (buffers_at number store.old.streams) (λ b. result ≡ blank b.size b.format) }
+    ensures acquired { store.new ≡ record store.old { streams = change_stream number acquired store.old.streams } }
+{
+    match store.get_mut(number) {
+        Some(stream) => match stream.acquire(number) {
+            Ok(canvas) => canvas.image,
+            Err(_) => unreachable!(),
+        },
+        None => unreachable!(),
+    }
+}
+
 /// Makes a write buffer the newest image of its stream.
-fn post_to(store: &mut Store, canvas: Canvas)
+pub(crate) fn post_to(store: &mut Store, canvas: Canvas)
     requires { IsOutFrom store.old.streams canvas }
     ensures { store.new ≡ record store.old { streams = change_stream canvas.stream (posted canvas.image) store.old.streams } }
 {
@@ -112,7 +129,21 @@ fn handed_back(canvas: Canvas) -> Reply
     }
 }
 
-impl Machine {
+/// A canvas has the shape of a kept stream whose write buffer is out.
+fn is_out_of(store: &Store, canvas: &Canvas) -> bool
+    ensures { result ≡ is_out_of canvas.now (stream_at canvas.now.stream store.now.streams) }
+{
+    match store.get(canvas.stream) {
+        Some(stream) => {
+            stream.is_out()
+                && stream.size() == canvas.image.size()
+                && stream.format() == canvas.image.format()
+        }
+        None => false,
+    }
+}
+
+impl Parts {
     /// Makes a stream.
     pub(crate) fn stream_new(
         &mut self,
@@ -132,6 +163,17 @@ impl Machine {
             Err(MakeStop::NoMemory) => return refused(Code::OutOfMemory),
         };
         done(handle)
+    }
+
+    /// Ends the life of a stream's handle. The stream is kept while something else names it.
+    pub(crate) fn stream_destroy(&mut self, stream: u32) -> Reply
+        ensures { stream_step self.old (stream_destroy stream self.old) ≡ (self.new, result) }
+    {
+        let Ok(_) = self.store.number(stream) else {
+            return refused(Code::BadHandle);
+        };
+        self.store.kill(stream);
+        done(0)
     }
 
     /// What is kept.
@@ -164,18 +206,11 @@ impl Machine {
         }
     }
 
-    /// A canvas is the write buffer of a kept stream, out at a client.
+    /// A canvas is the write buffer of a kept stream, out at a client: not at the running frame.
     fn is_out_at_client(&self, canvas: &Canvas) -> bool
         ensures { result ≡ is_out_at_client canvas.now self.now }
     {
-        match self.store.get(canvas.stream) {
-            Some(stream) => {
-                stream.is_out()
-                    && stream.size() == canvas.image.size()
-                    && stream.format() == canvas.image.format()
-            }
-            None => false,
-        }
+        !is_target(&self.frame, canvas.stream) && is_out_of(&self.store, canvas)
     }
 
     /// Makes a write buffer the newest image of its stream.

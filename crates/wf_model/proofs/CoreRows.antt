@@ -8,7 +8,8 @@ use Rattle.wf_scene.specs.declared.attributes.ContextAttr.TheVariants as attr
 use Rattle.wf_calls.specs.Codes.{code_number}
 use Rattle.wf_calls.specs.declared.call.Reply.{Reply}
 use Rattle.wf_model.specs.Outcome.{Outcome}
-use Rattle.wf_model.specs.Composition.{CoreSide, no_objects, core_answer, core_names}
+use Rattle.wf_model.specs.Composition.{CoreSide, no_objects, core_answer}
+use Rattle.wf_model.specs.Names.{core_names}
 use Rattle.wf_model.specs.Core as core
 
 -- a machine with one port of 4 by 2, whose screen is stream 1

@@ -1,5 +1,5 @@
 -- The objects of composition: devices, contexts, sources and masks, and how they are found and changed.
-use Rattle.std.specs.Prelude.{ℕ, ◌+◌, Bool, ◌&&◌, ◌==◌, List, [], ◌∷◌, ◌++◌, map, flat_map, find, Option, Some, None, Result, Ok, Err}
+use Rattle.std.specs.Prelude.{ℕ, ◌+◌, Bool, ◌&&◌, ◌==◌, List, [], find, Option, Some, None, Result, Ok, Err}
 use Rattle.std.specs.List.{list_any}
 use Rattle.wf_words.specs.Keyed.{at_key, change}
 use Rattle.wf_stream.specs.Streams.{KeptStream, stream_at, stream_of}
@@ -13,7 +13,6 @@ use Rattle.wf_calls.specs.declared.call.Reply.{Reply}
 use Rattle.wf_model.specs.declared.Device.{Device}
 use Rattle.wf_model.specs.declared.Context.{Context}
 use Rattle.wf_model.specs.declared.Source.{Source}
-use Rattle.wf_model.specs.Names.{layer_names}
 use Rattle.wf_model.specs.Outcome.{Outcome, found, answer}
 
 -- each list by rising handle
@@ -33,14 +32,6 @@ pub record CoreSide : Type 0 where
   pub streams : List KeptStream
   pub core : CoreState
   pub display_sources : ℕ
-
--- what names a stream: the live sources and masks, and the live contexts by their targets and committed scenes
-
-abbrev pub context_names : Context → List ℕ
-context_names c = c.target ∷ flat_map layer_names c.committed.layers.items
-
-abbrev pub core_names : CoreState → List ℕ
-core_names core = map (λ s. s.stream) core.sources ++ map (λ m. m.stream) core.masks ++ flat_map context_names core.contexts
 
 -- objects and their owners
 

@@ -1,5 +1,5 @@
 -- The calls of composition: for each the refusals in their order, and then the effect and the value.
-use Rattle.std.specs.Prelude.{ℕ, ◌+◌, ◌*◌, Bool, true, false, not, ◌&&◌, ◌||◌, ◌==◌, nat_le, ℤ, List, [], ◌∷◌, ◌++◌, length, find, Option, None, Some, Result, Ok, Err, if◌then◌else◌}
+use Rattle.std.specs.Prelude.{ℕ, ◌+◌, ◌*◌, Bool, true, false, not, ◌&&◌, ◌||◌, ◌==◌, nat_le, ℤ, List, [], ◌∷◌, ◌++◌, length, filter, find, Option, None, Some, Result, Ok, Err, if◌then◌else◌}
 use Rattle.std.specs.List.{list_any}
 use Rattle.wf_words.specs.Refusals.{◌>>=◌}
 use Rattle.wf_words.specs.Whole.{count_of}
@@ -27,7 +27,7 @@ use Rattle.wf_model.specs.declared.Device.{Device}
 use Rattle.wf_model.specs.declared.Context.{Context}
 use Rattle.wf_model.specs.declared.Source.{Source}
 use Rattle.wf_model.specs.Outcome.{Outcome, refuse, found}
-use Rattle.wf_model.specs.Composition.{CoreSide, device, context, element_context, is_of_device, live_stream, sight_of, created, change_context, with_cached, change_register}
+use Rattle.wf_model.specs.Composition.{CoreSide, CoreState, device, context, element_context, is_of_device, live_stream, sight_of, created, change_context, with_cached, change_register}
 
 -- the last two refusals of a creation: its own limit or that of all handles, and want of memory
 abbrev pub room : Bool → Bool → CoreSide → Result (Unit {0}) Refusal
@@ -244,3 +244,66 @@ element_below d handle w = do
   c ← element_context d handle w
   n ← by_scene (cached.below handle c.cached)
   Ok (w, n)
+
+-- destruction: what is destroyed is refused from the next call on
+
+-- the objects without an element
+abbrev pub element_destroy : ℕ → ℕ → CoreSide → Outcome CoreSide
+element_destroy d handle w = do
+  _ ← device d w
+  c ← element_context d handle w
+  Ok (record w { core = change_context c.handle (with_cached (cached.forget handle c.cached)) w.core }, 0)
+
+-- a live source or mask of a device
+abbrev pub owned_source : ℕ → ℕ → List Source → CoreSide → Result Source Refusal
+owned_source d handle sources w =
+    found code.BadHandle (find (λ s. (s.handle == handle) && is_of_device d w.core s.context) sources)
+
+abbrev pub without_source : ℕ → List Source → List Source
+without_source handle sources = filter (λ s. not (s.handle == handle)) sources
+
+abbrev pub source_destroy : ℕ → ℕ → CoreSide → Outcome CoreSide
+source_destroy d handle w = do
+  _ ← device d w
+  _ ← owned_source d handle w.core.sources w
+  Ok (record w { core = record w.core { sources = without_source handle w.core.sources } }, 0)
+
+abbrev pub mask_destroy : ℕ → ℕ → CoreSide → Outcome CoreSide
+mask_destroy d handle w = do
+  _ ← device d w
+  _ ← owned_source d handle w.core.masks w
+  Ok (record w { core = record w.core { masks = without_source handle w.core.masks } }, 0)
+
+-- sources or masks but those of a context
+abbrev pub without_those_of : ℕ → List Source → List Source
+without_those_of context sources = filter (λ s. not (s.context == context)) sources
+
+-- the objects without a context and all that is its: its elements are in its cached scene
+abbrev pub without_context : ℕ → CoreState → CoreState
+without_context handle core =
+    record core {
+      contexts = filter (λ c. not (c.handle == handle)) core.contexts;
+      sources = without_those_of handle core.sources;
+      masks = without_those_of handle core.masks;
+    }
+
+abbrev pub context_destroy : ℕ → ℕ → CoreSide → Outcome CoreSide
+context_destroy d handle w = do
+  _ ← device d w
+  _ ← context d handle w
+  Ok (record w { core = without_context handle w.core }, 0)
+
+-- the objects without a device, its contexts and all that is theirs
+abbrev pub without_device : ℕ → CoreState → CoreState
+without_device d core =
+    record {
+      devices = filter (λ x. not (x.handle == d)) core.devices;
+      contexts = filter (λ c. not (c.device == d)) core.contexts;
+      sources = filter (λ s. not (is_of_device d core s.context)) core.sources;
+      masks = filter (λ m. not (is_of_device d core m.context)) core.masks;
+    }
+
+abbrev pub device_destroy : ℕ → CoreSide → Outcome CoreSide
+device_destroy d w = do
+  _ ← device d w
+  Ok (record w { core = without_device d w.core }, 0)

@@ -1,5 +1,5 @@
--- The machine in plain lists and numbers: its state, the picture of a scene, the step of each call, and the objects and
--- the calls of composition, which the step does not have yet.
+-- The machine in plain lists and numbers: its state, what names a stream, the picture of a scene, frames, and the step of
+-- each call.
 pub mod State
 pub mod Names
 pub mod Outcome
@@ -10,3 +10,4 @@ pub mod Streams
 pub mod Step
 pub mod Composition
 pub mod Core
+pub mod Composing

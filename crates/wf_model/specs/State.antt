@@ -11,6 +11,7 @@ use Rattle.wf_calls.specs.declared.call.JobKind.{JobKind}
 use Rattle.wf_calls.specs.declared.ports.Modes.{Modes}
 use Rattle.wf_calls.specs.declared.ports.Ports.{Ports}
 use Rattle.wf_model.specs.declared.Content.{Content}
+use Rattle.wf_model.specs.Composition.{CoreState, no_objects}
 
 -- a port, which shows the screen that is the stream of its own number: the sizes of its modes, of which it shows
 -- the first
@@ -29,13 +30,14 @@ pub record Running : Type 0 where
   pub format : Format
   pub contents : List Content
 
--- how many objects were made, streams were numbered and frames were begun; the streams by rising number; the
--- display; and the running frame
+-- how many objects were made, streams were numbered and frames were begun; the streams by rising number; the objects of
+-- composition; the display; and the running frame
 pub record State : Type 0 where
   pub made : ℕ
   pub numbered : ℕ
   pub begun : ℕ
   pub streams : List KeptStream
+  pub core : CoreState
   pub display : DisplayState
   pub frame : Option Running
 
@@ -58,6 +60,7 @@ opening ports =
       numbered = length ports.modes.items;
       begun = 0;
       streams = map screen (zip (range_with_len 1 (length ports.modes.items)) ports.modes.items);
+      core = no_objects;
       display = record { ports = map initial_port ports.modes.items };
       frame = None;
     }

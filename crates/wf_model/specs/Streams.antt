@@ -1,5 +1,5 @@
 -- The calls on streams.
-use Rattle.std.specs.Prelude.{ℕ, ◌+◌, Bool, false, not, ◌&&◌, ◌||◌, ℤ, pos, [], ◌∷◌, ◌++◌, Option, Some, None, Result, Ok, Err, if◌then◌else◌}
+use Rattle.std.specs.Prelude.{ℕ, ◌+◌, Bool, false, not, ◌&&◌, ◌||◌, ℤ, pos, [], ◌∷◌, ◌++◌, map, Option, Some, None, Result, Ok, Err, if◌then◌else◌}
 use Rattle.wf_words.specs.Refusals.{◌>>=◌}
 use Rattle.wf_words.specs.Whole.{count_of}
 use Rattle.wf_pixel.specs.declared.Size.{Size}
@@ -10,7 +10,7 @@ use Rattle.wf_image.specs.Bitmap.{blank}
 use Rattle.wf_life.specs.Handles.{is_full}
 use Rattle.wf_stream.specs.declared.Held.{Held}
 use Rattle.wf_stream.specs.Buffers.{Buffers, fresh, acquired, is_blocked}
-use Rattle.wf_stream.specs.Streams.{KeptStream, stream_at, stream_of, change_stream, held, has_no_room}
+use Rattle.wf_stream.specs.Streams.{KeptStream, stream_at, stream_of, change_stream, held, has_no_room, unnamed}
 use Rattle.wf_calls.specs.declared.code.Code.TheVariants as code
 use Rattle.wf_calls.specs.declared.code.Refusal.{Refusal}
 use Rattle.wf_calls.specs.declared.call.Payload.TheVariants as payload
@@ -18,7 +18,7 @@ use Rattle.wf_calls.specs.declared.call.Reply.{Reply}
 use Rattle.wf_calls.specs.declared.call.StatWord.{StatWord}
 use Rattle.wf_calls.specs.declared.call.StatWord.TheVariants as stat_word
 use Rattle.wf_model.specs.State.{State}
-use Rattle.wf_model.specs.Names.{settle}
+use Rattle.wf_model.specs.Frames.{is_target}
 use Rattle.wf_model.specs.Outcome.{Outcome, refuse, found, answer}
 
 abbrev pub size_of : ℤ → ℤ → Size
@@ -68,31 +68,38 @@ acquirable handle h = do
   _ ← refuse code.NoBuffer (is_blocked s.buffers)
   Ok s
 
--- a canvas is the write buffer of a kept stream, out at a client
+-- a canvas has the shape of a stream whose write buffer is out
+abbrev pub is_out_of : Canvas → Option KeptStream → Bool
+is_out_of canvas None = false
+is_out_of canvas (Some s) =
+    s.buffers.out && same_size canvas.image.size s.buffers.size && same_format canvas.image.format s.buffers.format
+
+-- a canvas is the write buffer of a kept stream, out at a client: not at the running frame
 abbrev pub is_out_at_client : Canvas → State → Bool
-is_out_at_client canvas h = is_of (stream_at canvas.stream h.streams)
-  where
-    is_of : Option KeptStream → Bool
-    is_of None = false
-    is_of (Some s) =
-        s.buffers.out && same_size canvas.image.size s.buffers.size && same_format canvas.image.format s.buffers.format
+is_out_at_client canvas h = not (is_target canvas.stream h.frame) && is_out_of canvas (stream_at canvas.stream h.streams)
 
 -- a canvas comes back to its stream, or to its client
 abbrev pub canvas_back : Canvas → (Buffers → Buffers) → State → State × Reply
 canvas_back canvas f h =
-    if is_out_at_client canvas h then (settle (with_stream canvas.stream f h), answer code.Ok 0)
+    if is_out_at_client canvas h then (with_stream canvas.stream f h, answer code.Ok 0)
     else (h, record { code = code.BadHandle; value = 0; payload = payload.Canvas canvas })
 
 abbrev pub stat : StatWord → Held → ℕ
 stat stat_word.Streams held = held.streams
 stat stat_word.Bytes held = held.bytes
 
--- a call that makes a stream
+-- the handle of a stream is dead; the stream is kept while something else names it
+abbrev pub stream_destroy : ℕ → State → Outcome State
+stream_destroy handle h = do
+  _ ← live_stream handle h
+  Ok (record h { streams = map (unnamed handle) h.streams }, 0)
+
+-- a call that makes or destroys a stream
 abbrev pub stream_step : State → Outcome State → State × Reply
-stream_step h (Ok done) = (settle done.0, answer code.Ok done.1)
+stream_step h (Ok done) = (done.0, answer code.Ok done.1)
 stream_step h (Err r) = (h, answer r.code r.value)
 
 abbrev pub acquire_step : State → Result KeptStream Refusal → State × Reply
 acquire_step h (Ok s) =
-    (settle (with_stream s.number acquired h), record { code = code.Ok; value = 0; payload = payload.Canvas (canvas_of s) })
+    (with_stream s.number acquired h, record { code = code.Ok; value = 0; payload = payload.Canvas (canvas_of s) })
 acquire_step h (Err r) = (h, answer r.code r.value)

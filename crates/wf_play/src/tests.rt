@@ -1,5 +1,7 @@
 //! Worked scripts, their films and their notes, through the top call.
 
+mod scenes;
+
 use crate::{Open, Report, Status, play};
 use std::sync::Wait;
 use std::test::Fail;

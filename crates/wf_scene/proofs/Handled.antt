@@ -2,13 +2,15 @@
 use Rattle.std.proofs.Common.{◌≡◌, ℕ, ◌<◌, ◌≤◌, Bool, true, false, not, cond, ◌==◌, List, [], ◌∷◌, ◌++◌, length, refl, sym, ◌∙◌, arith}
 use Rattle.std.specs.List.{list_all}
 use Rattle.std.proofs.lemmas.List.{map-append, length-append, length-map}
+use Rattle.std.proofs.lemmas.List.Folds.{list_all-append}
 use Rattle.std.proofs.lemmas.Bool.{or_parts, and_parts, and_from, ne_eqb}
 use Rattle.std.proofs.lemmas.Bool.Decides.{nat_tests}
 use Rattle.wf_words.specs.Keyed.{change, is_in}
 use Rattle.wf_scene.specs.declared.element.Element.{Element}
 use Rattle.wf_scene.specs.Elements.{new_element}
 use Rattle.wf_scene.specs.Order.{AreApart, without, inserted, has_no_room}
-use Rattle.wf_scene.specs.Cached.{CachedScene, IsOrderly, handle_of, handles, is_live, has_element, without_element, add, forget}
+use Rattle.wf_scene.specs.Cached.{CachedScene, IsOrderly, handle_of, handles, is_live, is_placed, has_element, without_element, add, forget}
+use Rattle.wf_scene.specs.Keeping.{KeepsHandle, KeepsPlace}
 use Rattle.wf_scene.proofs.Once.{any_key}
 use Rattle.wf_scene.proofs.Kept.{apart_without, apart_inserted, absent_less, in_less, all_without, all_inserted, length_without, length_inserted}
 
@@ -22,7 +24,7 @@ handles_without h [] = refl
 handles_without h (e ∷ es) = let later = handles_without h es in grind (arith, nat_tests, later)
 
 -- a change that keeps the handle of an element keeps all handles
-pub handles_changed : (h : ℕ) (f : Element → Element) (es : List Element) → ((e : Element) → (f e).handle ≡ e.handle) → handles (change handle_of h f es) ≡ handles es
+pub handles_changed : (h : ℕ) (f : Element → Element) (es : List Element) → KeepsHandle f → handles (change handle_of h f es) ≡ handles es
 handles_changed h f [] keeps = refl
 handles_changed h f (e ∷ es) keeps =
     let later = handles_changed h f es keeps in
@@ -70,6 +72,21 @@ length_less : (h : ℕ) (es : List Element) → length (without_element h es) �
 length_less h [] = omega arith
 length_less h (e ∷ es) = let later = length_less h es in grind (arith, nat_tests, later)
 
+-- a test that each element passes
+module _ (q : Element → Bool) where
+  -- is passed by each without one
+  all_left : (h : ℕ) (es : List Element) → list_all q es ≡ true → list_all q (without_element h es) ≡ true
+  all_left h [] all = refl
+  all_left h (e ∷ es) all = let later = all_left h es in grind (arith, nat_tests, later, all)
+
+  -- and by each after a change that keeps it
+  all_changed : (h : ℕ) (f : Element → Element) (es : List Element) → ((e : Element) → q e ≡ true → q (f e) ≡ true) → list_all q es ≡ true → list_all q (change handle_of h f es) ≡ true
+  all_changed h f [] keeps all = refl
+  all_changed h f (e ∷ es) keeps all =
+      let later = all_changed h f es keeps in
+      let kept = keeps e in
+      grind (arith, nat_tests, later, kept, all)
+
 -- each call leaves a cached scene orderly
 
 module _ (c : CachedScene) (orderly : IsOrderly c) where
@@ -79,6 +96,7 @@ module _ (c : CachedScene) (orderly : IsOrderly c) where
         apart = orderly.apart;
         named = orderly.named;
         few = orderly.few;
+        placed = orderly.placed;
         once = apart_inserted h b c.order orderly.once;
         live = all_inserted (λ z. is_in z (handles c.elements)) h b c.order (sym (live_handle h c.elements) ∙ there) orderly.live;
         room = length_inserted h b c.order orderly.once orderly.room room;
@@ -90,6 +108,7 @@ module _ (c : CachedScene) (orderly : IsOrderly c) where
         apart = orderly.apart;
         named = orderly.named;
         few = orderly.few;
+        placed = orderly.placed;
         once = apart_without h c.order orderly.once;
         live = all_without (λ z. is_in z (handles c.elements)) h c.order orderly.live;
         room = omega (arith, orderly.room, length_without h c.order);
@@ -103,6 +122,7 @@ module _ (c : CachedScene) (orderly : IsOrderly c) where
         apart = rw more (apart_more h (handles c.elements) orderly.apart absent);
         named = rw more (absent_more 0 h (handles c.elements) orderly.named (ne_eqb h 0 (omega arith)));
         few = omega (arith, length-append c.elements (new_element h ∷ []), few);
+        placed = list_all-append is_placed c.elements (new_element h ∷ []) ∙ and_from (list_all is_placed c.elements) true orderly.placed refl;
         once = orderly.once;
         live = rw more (all_more h (handles c.elements) c.order orderly.live);
         room = orderly.room;
@@ -115,18 +135,20 @@ module _ (c : CachedScene) (orderly : IsOrderly c) where
         apart = rw less (apart_without h (handles c.elements) orderly.apart);
         named = rw less (absent_less 0 h (handles c.elements) orderly.named);
         few = omega (arith, orderly.few, length_less h c.elements);
+        placed = all_left is_placed h c.elements orderly.placed;
         once = apart_without h c.order orderly.once;
         live = rw less (all_less h (handles c.elements) c.order orderly.live);
         room = omega (arith, orderly.room, length_without h c.order);
       }
 
-  pub orderly_changed : (h : ℕ) (f : Element → Element) → ((e : Element) → (f e).handle ≡ e.handle) → IsOrderly (record c { elements = change handle_of h f c.elements })
-  orderly_changed h f keeps =
+  pub orderly_changed : (h : ℕ) (f : Element → Element) → KeepsHandle f → KeepsPlace f → IsOrderly (record c { elements = change handle_of h f c.elements })
+  orderly_changed h f keeps stays =
       let same = handles_changed h f c.elements keeps in
       record {
         apart = rw same orderly.apart;
         named = rw same orderly.named;
         few = omega (arith, orderly.few, length-map c.elements (λ e. cond (e.handle == h) (f e) e));
+        placed = all_changed is_placed h f c.elements stays orderly.placed;
         once = orderly.once;
         live = rw same orderly.live;
         room = orderly.room;

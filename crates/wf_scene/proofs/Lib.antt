@@ -6,3 +6,4 @@ pub mod Changes
 pub mod Standing
 pub mod Answered
 pub mod Rules
+pub mod Placed

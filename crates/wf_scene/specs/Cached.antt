@@ -1,5 +1,5 @@
 -- The cached scene of a context, and what each call makes of it.
-use Rattle.std.specs.Prelude.{◌≡◌, ℕ, ◌≤◌, Bool, false, not, ◌==◌, ℤ, List, [], ◌∷◌, ◌++◌, map, filter, length, option_and_then, Option, Result, Ok, Err, IsTrue}
+use Rattle.std.specs.Prelude.{◌≡◌, ℕ, ◌≤◌, Bool, false, not, ◌&&◌, ◌==◌, ℤ, List, [], ◌∷◌, ◌++◌, map, filter, length, option_and_then, Option, Result, Ok, Err, IsTrue}
 use Rattle.std.specs.List.{list_any, list_all, position_or_len}
 use Rattle.wf_words.specs.Refusals.{◌>>=◌, refuse_if, found_or}
 use Rattle.wf_words.specs.Keyed.{at_key, change, is_in}
@@ -13,7 +13,7 @@ use Rattle.wf_scene.specs.declared.attributes.ContextAttr.TheVariants as context
 use Rattle.wf_scene.specs.declared.attributes.Refused.{Refused}
 use Rattle.wf_scene.specs.declared.attributes.Refused.TheVariants as refused
 use Rattle.wf_scene.specs.declared.element.Element.{Element}
-use Rattle.wf_scene.specs.Values.{component, turn_of, colour_of, degrees, colour_numbers, at_index}
+use Rattle.wf_scene.specs.Values.{component, is_coordinate, turn_of, colour_of, degrees, colour_numbers, at_index}
 use Rattle.wf_scene.specs.Elements.{new_element, change_of, numbers}
 use Rattle.wf_scene.specs.Order as order
 use Rattle.wf_scene.specs.Order.{AreApart}
@@ -118,12 +118,17 @@ get_context attr index c = found_or refused.IllegalArgument (at_index index (con
 abbrev pub handles : List Element → List ℕ
 handles elements = map handle_of elements
 
--- what holds of every cached scene: no two elements have one handle, and none has 0; no handle is inserted twice, or
--- without a live element
+-- the place of an element's destination is in the range of coordinates
+abbrev pub is_placed : Element → Bool
+is_placed e = is_coordinate e.style.dest.x && is_coordinate e.style.dest.y
+
+-- what holds of every cached scene: no two elements have one handle, and none has 0; each destination is in the range of
+-- coordinates; no handle is inserted twice, or without a live element
 pub record IsOrderly (c : CachedScene) : Type 0 where
   pub apart : AreApart (handles c.elements)
   pub named : is_in 0 (handles c.elements) ≡ false
   pub few : length c.elements ≤ 64
+  pub placed : IsTrue (list_all is_placed c.elements)
   pub once : AreApart c.order
   pub live : IsTrue (list_all (λ handle. is_in handle (handles c.elements)) c.order)
   pub room : length c.order ≤ 32

@@ -4,6 +4,7 @@ use Rattle.wf_pixel.specs.declared.Rect.{Rect}
 use Rattle.wf_pixel.specs.declared.Size.{Size}
 use Rattle.wf_pixel.specs.declared.Rotation.TheVariants.{R0}
 use Rattle.wf_scene.specs.declared.Layer.{Layer}
+use Rattle.wf_scene.specs.Values.{is_coordinate}
 
 abbrev pub nowhere : Rect
 nowhere = record { x = pos 0; y = pos 0; w = 0; h = 0 }
@@ -21,6 +22,10 @@ no_layer =
       transparency = record { alpha = false; source = false; mask = false };
       alpha = 255;
     }
+
+-- the place of a layer's destination is in the range of coordinates
+abbrev pub is_placed_layer : Layer → Bool
+is_placed_layer l = is_coordinate l.dest.x && is_coordinate l.dest.y
 
 -- a rectangle with sides of at least 1 that lies inside an image of a size
 abbrev pub holds_rect : Size → Rect → Bool

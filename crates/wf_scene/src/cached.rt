@@ -1,7 +1,9 @@
 //! The cached scene of a context.
 
-ghost use Rattle.std.specs.Prelude.{◌≡◌, ◌<◌, ◌≤◌, IsTrue, IfOk, OnErr, false, length};
+ghost use Rattle.std.specs.Prelude.{◌≡◌, ◌<◌, ◌≤◌, IsTrue, IfOk, OnErr, false, length, option_map, slice_get};
+ghost use Rattle.std.specs.List.{list_all};
 ghost use Rattle.wf_words.specs.Refusals.{left_by};
+ghost use Rattle.wf_scene.specs.Layers.{is_placed_layer};
 ghost use Rattle.wf_scene.specs.Elements.{may_take};
 ghost use Rattle.wf_scene.specs.Cached as cached;
 ghost use Rattle.wf_scene.specs.Consistent as scene;
@@ -81,6 +83,17 @@ impl Cached {
         ensures orderly { IsOrderly self.now }
     {
         self.elements.iter().any(|e| e.handle == element)
+    }
+
+    /// The handle of the first element, in the order in which they were added.
+    pub fn first(&self) -> Option<u32>
+        ensures first { result ≡ option_map cached.handle_of (slice_get self.now.elements 0) }
+        ensures orderly { IsOrderly self.now }
+    {
+        match self.elements.first() {
+            Some(element) => Some(element.handle),
+            None => None,
+        }
     }
 
     /// One more element, with the initial attributes. Its handle is not 0.
@@ -221,6 +234,7 @@ impl Cached {
     pub fn consistent<L: Look>(&self, look: &L) -> Result<Scene, Fault>
         ensures scene { result ≡ scene.consistent (L.sight look.now) self.now }
         ensures orderly { IsOrderly self.now }
+        ensures placed { IfOk result (λ made. IsTrue (list_all is_placed_layer made.layers.items)) }
     {
         let layers = layers_of(look, &self.elements, self.order.as_slice())?;
         let background = if self.on_screen {

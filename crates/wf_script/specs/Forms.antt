@@ -1,78 +1,77 @@
 -- The forms of event lines: for each verb its word, whether its line binds a name, and the words behind it.
-use Rattle.std.specs.Prelude.{Bool, true, false, List, [], ◌∷◌, codes, option_to_list, Result, Ok}
-use Rattle.wf_words.specs.Refusals.{◌>>=◌, found_or}
+use Rattle.std.specs.Prelude.{Bool, true, false, List, [], ◌∷◌, codes}
 use Rattle.wf_script.specs.declared.form.Form.{Form}
 use Rattle.wf_script.specs.declared.form.Form.TheVariants as form
-use Rattle.wf_script.specs.declared.line.Verb.{Verb}
-use Rattle.wf_script.specs.declared.line.Verb.TheVariants as verb
-use Rattle.wf_script.specs.declared.name.Name.{Name}
-use Rattle.wf_script.specs.declared.rule.Rule.{Rule}
-use Rattle.wf_script.specs.declared.rule.Rule.TheVariants as rule
-use Rattle.wf_script.specs.PaintWords.{paint_of}
-use Rattle.wf_script.specs.Pick.{counted, first, first_as}
-use Rattle.wf_script.specs.Words.{Word, look_up, integer_of, handle_of, formats, stat_words}
+use Rattle.wf_script.specs.declared.verbs.NoHandle.TheVariants as zero
+use Rattle.wf_script.specs.declared.verbs.OneHandle.TheVariants as one
+use Rattle.wf_script.specs.declared.verbs.TwoHandles.TheVariants as two
+use Rattle.wf_script.specs.declared.verbs.ThreeHandles.TheVariants as three
+use Rattle.wf_script.specs.declared.verbs.Destroyed.TheVariants as destroyed
+use Rattle.wf_script.specs.Attributes.{context_get_words, context_set_words, get_words, set_words}
+use Rattle.wf_script.specs.Composition.{no_words, one_handle, screen_words, three_handles, two_handles}
+use Rattle.wf_script.specs.Given.{Given}
+use Rattle.wf_script.specs.Streams.{frame_words, paint_words, stat_words_of, stream_words}
+use Rattle.wf_script.specs.Verbs.{of_none, of_one, of_three, of_two}
+use Rattle.wf_script.specs.Words.{Word}
 
 -- the verbs
 abbrev pub forms : List (Word × Form)
 forms =
-    (codes "stream", form.Stream) ∷ (codes "acquire", form.Acquire) ∷ (codes "post", form.Post) ∷ (codes "discard", form.Discard)
-    ∷ (codes "stat", form.Stat) ∷ (codes "paint", form.Paint) ∷ (codes "frame", form.Frame) ∷ (codes "tick", form.Tick) ∷ []
+    (codes "stream", form.Stream)
+    ∷ (codes "acquire", form.One one.Acquire)
+    ∷ (codes "post", form.Alone zero.Post)
+    ∷ (codes "discard", form.Alone zero.Discard)
+    ∷ (codes "stat", form.Stat)
+    ∷ (codes "paint", form.Paint)
+    ∷ (codes "frame", form.Frame)
+    ∷ (codes "tick", form.Alone zero.Tick)
+    ∷ (codes "device", form.Alone zero.Device)
+    ∷ (codes "error", form.One one.Error)
+    ∷ (codes "screen", form.Screen)
+    ∷ (codes "element", form.Two two.Element)
+    ∷ (codes "source", form.Three three.Source)
+    ∷ (codes "mask", form.Three three.Mask)
+    ∷ (codes "set", form.Set)
+    ∷ (codes "get", form.Get)
+    ∷ (codes "insert", form.Three three.Insert)
+    ∷ (codes "remove", form.Two two.Remove)
+    ∷ (codes "above", form.Two two.Above)
+    ∷ (codes "below", form.Two two.Below)
+    ∷ (codes "cset", form.ContextSet)
+    ∷ (codes "cget", form.ContextGet)
+    ∷ (codes "commit", form.Two two.Commit)
+    ∷ (codes "activate", form.Two two.Activate)
+    ∷ (codes "deactivate", form.Two two.Deactivate)
+    ∷ (codes "del_stream", form.One one.DestroyStream)
+    ∷ (codes "del_device", form.One one.DestroyDevice)
+    ∷ (codes "del_context", form.Two (two.Destroy destroyed.Context))
+    ∷ (codes "del_element", form.Two (two.Destroy destroyed.Element))
+    ∷ (codes "del_source", form.Two (two.Destroy destroyed.Source))
+    ∷ (codes "del_mask", form.Two (two.Destroy destroyed.Mask))
+    ∷ []
 
 -- the forms whose line makes something that a name then stands for
 abbrev pub creates : Form → Bool
 creates form.Stream = true
+creates (form.Alone zero.Device) = true
+creates form.Screen = true
+creates (form.Two two.Element) = true
+creates (form.Three three.Source) = true
+creates (form.Three three.Mask) = true
 creates _ = false
-
--- what the words behind a verb give, with the names that they use, or the rule that they break: their number
--- before what they are
-abbrev pub Given : Type 0
-Given = Result (Verb × List Name) Rule
-
-unfoldable pub stream_words : List Word → Given
-stream_words ws = do
-  _ ← counted 4 ws
-  width ← first_as integer_of ws
-  height ← first_as integer_of width.1
-  format ← first_as (look_up formats) height.1
-  buffers ← first_as integer_of format.1
-  Ok (verb.StreamNew width.0 height.0 format.0 buffers.0, [])
-
-unfoldable pub acquire_words : List Word → Given
-acquire_words ws = do
-  _ ← counted 1 ws
-  stream ← first_as handle_of ws
-  Ok (verb.Acquire stream.0, option_to_list stream.0)
-
-unfoldable pub stat_words_of : List Word → Given
-stat_words_of ws = do
-  _ ← counted 1 ws
-  what ← first_as (look_up stat_words) ws
-  Ok (verb.Stat what.0, [])
-
-unfoldable pub no_words : Verb → List Word → Given
-no_words v ws = do
-  _ ← counted 0 ws
-  Ok (v, [])
-
-unfoldable pub paint_words : List Word → Given
-paint_words ws = do
-  paint ← paint_of ws
-  Ok (verb.Paint paint, [])
-
-unfoldable pub frame_words : List Word → Given
-frame_words ws = do
-  s ← first ws
-  paint ← paint_of s.1
-  stream ← found_or rule.Word (handle_of s.0)
-  Ok (verb.Frame stream paint, option_to_list stream)
 
 -- the words of each form
 abbrev pub arguments : Form → List Word → Given
+arguments (form.Alone v) = no_words (of_none v)
+arguments (form.One v) = one_handle (of_one v)
+arguments (form.Two v) = two_handles (of_two v)
+arguments (form.Three v) = three_handles (of_three v)
 arguments form.Stream = stream_words
-arguments form.Acquire = acquire_words
-arguments form.Post = no_words verb.Post
-arguments form.Discard = no_words verb.Discard
 arguments form.Stat = stat_words_of
 arguments form.Paint = paint_words
 arguments form.Frame = frame_words
-arguments form.Tick = no_words verb.Tick
+arguments form.Screen = screen_words
+arguments form.Set = set_words
+arguments form.Get = get_words
+arguments form.ContextSet = context_set_words
+arguments form.ContextGet = context_get_words

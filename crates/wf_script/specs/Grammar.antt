@@ -13,6 +13,7 @@ use Rattle.wf_script.specs.declared.line.Line.{Line}
 use Rattle.wf_script.specs.declared.name.Name.{Name}
 use Rattle.wf_script.specs.declared.rule.Rule.{Rule}
 use Rattle.wf_script.specs.declared.rule.Rule.TheVariants as rule
+use Rattle.wf_script.specs.declared.verbs.NoHandle.TheVariants as zero
 use Rattle.wf_script.specs.Forms.{arguments, creates, forms}
 use Rattle.wf_script.specs.Rules.{rule_number}
 use Rattle.wf_script.specs.Script.{PlainScript}
@@ -111,7 +112,7 @@ has_its_name form (Some name) = creates form
 
 -- the clock is client 0's
 abbrev pub is_its_client : Form → ℕ → Bool
-is_its_client form.Tick client = client == 0
+is_its_client (form.Alone zero.Tick) client = client == 0
 is_its_client _ client = true
 
 -- the name that a line binds, if it binds one

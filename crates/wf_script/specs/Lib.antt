@@ -1,11 +1,17 @@
 -- Scripts: what one is, its text, and what bytes stand for one.
 pub mod Script
 pub mod Words
+pub mod Table
 pub mod Rules
 pub mod Pick
 pub mod PaintWords
-pub mod Forms
 pub mod Given
+pub mod Verbs
+pub mod Streams
+pub mod Composition
+pub mod Attributes
+pub mod Taken
+pub mod Forms
 pub mod Visible
 pub mod Grammar
 pub mod Seen

@@ -27,6 +27,11 @@ abbrev pub Reads : {A : Type 0} → Result (A × Bor (List ℕ)) Rule → Result
 Reads (Ok x) read = read ≡ Ok (x.0, words_in x.1.now)
 Reads (Err broken) read = read ≡ Err broken
 
+-- a function has read so
+abbrev pub Finds : {A B : Type 0} → (A → B) → Result A Rule → Result B Rule → Type 0
+Finds view (Ok x) read = read ≡ Ok (view x)
+Finds view (Err broken) read = read ≡ Err broken
+
 -- a function that may want memory has read so, unless there was none
 abbrev pub Gives : {A B : Type 0} → (A → B) → Result A LineFault → Result B Rule → Type 0
 Gives view (Ok x) read = read ≡ Ok (view x)

@@ -1,5 +1,5 @@
 -- A script, without where it lies in memory, and what holds of every script.
-use Rattle.std.specs.Prelude.{◌≡◌, ℕ, ◌≤◌, Bool, true, ◌&&◌, nat_lt, List, length, IsTrue}
+use Rattle.std.specs.Prelude.{◌≤◌, Bool, true, ◌&&◌, nat_lt, List, length, IsTrue}
 use Rattle.std.specs.List.{list_all}
 use Rattle.wf_image.specs.Paints.{is_paint}
 use Rattle.wf_calls.specs.declared.ports.Ports.{Ports}

@@ -6,6 +6,10 @@ use Rattle.wf_pixel.specs.Choice.{is_between}
 use Rattle.wf_pixel.specs.declared.Format.{Format}
 use Rattle.wf_pixel.specs.declared.Format.TheVariants.{Rgba8, Rgba8Pre, Rgbx8, A8}
 use Rattle.wf_pixel.specs.declared.Size.{Size}
+use Rattle.wf_scene.specs.declared.attributes.ElementAttr.{ElementAttr}
+use Rattle.wf_scene.specs.declared.attributes.ElementAttr.TheVariants as element
+use Rattle.wf_scene.specs.declared.attributes.ContextAttr.{ContextAttr}
+use Rattle.wf_scene.specs.declared.attributes.ContextAttr.TheVariants as context
 use Rattle.wf_calls.specs.declared.call.StatWord.{StatWord}
 use Rattle.wf_calls.specs.declared.call.StatWord.TheVariants.{Streams, Bytes}
 use Rattle.wf_script.specs.declared.name.Name.{Name}
@@ -127,3 +131,24 @@ formats = (codes "rgba", Rgba8) ∷ (codes "pre", Rgba8Pre) ∷ (codes "rgbx", R
 
 abbrev pub stat_words : List (Word × StatWord)
 stat_words = (codes "streams", Streams) ∷ (codes "bytes", Bytes) ∷ []
+
+abbrev pub element_attrs : List (Word × ElementAttr)
+element_attrs =
+    (codes "dest", element.Dest) ∷ (codes "source", element.Source) ∷ (codes "srcrect", element.SrcRect) ∷ (codes "flip", element.Flip)
+    ∷ (codes "rotation", element.Rotation) ∷ (codes "filter", element.Filter) ∷ (codes "transparency", element.Transparency)
+    ∷ (codes "alpha", element.Alpha) ∷ (codes "mask", element.Mask) ∷ []
+
+abbrev pub context_attrs : List (Word × ContextAttr)
+context_attrs =
+    (codes "rotation", context.Rotation) ∷ (codes "background", context.Background) ∷ (codes "width", context.Width)
+    ∷ (codes "height", context.Height) ∷ (codes "lowest", context.Lowest) ∷ []
+
+-- how a source is scaled
+abbrev pub filters : List (Word × ℤ)
+filters = (codes "none", pos 0) ∷ (codes "faster", pos 1) ∷ (codes "better", pos 2) ∷ []
+
+-- the sum of 1 for `alpha`, 2 for `source` and 4 for `mask`
+abbrev pub transparencies : List (Word × ℤ)
+transparencies =
+    (codes "none", pos 0) ∷ (codes "alpha", pos 1) ∷ (codes "source", pos 2) ∷ (codes "alpha+source", pos 3) ∷ (codes "mask", pos 4)
+    ∷ (codes "alpha+mask", pos 5) ∷ (codes "source+mask", pos 6) ∷ (codes "alpha+source+mask", pos 7) ∷ []

@@ -1,6 +1,8 @@
 //! Scripts: what one is, and how it is read.
 #![tactic(auto)]
 
+mod attributes;
+mod composition;
 mod fault;
 mod form;
 mod given;
@@ -18,10 +20,13 @@ mod reading;
 mod rule;
 mod script;
 mod seen;
+mod streams;
+mod table;
+mod verbs;
 mod words;
 
 pub use fault::ScriptFault;
-pub use line::{Line, Verb};
+pub use line::{Line, Value, Verb};
 pub use name::Name;
 pub use reading::{one_script, parse};
 pub use script::Script;

@@ -4,8 +4,19 @@ use crate::name::Name;
 use wf_calls::StatWord;
 use wf_image::Paint;
 use wf_pixel::Format;
+use wf_scene::{ContextAttr, ElementAttr};
 
-/// What an event line asks for. A stream that is `None` was written `none` and stands for no stream.
+/// What an attribute is set to.
+#[derive(Drop)]
+pub enum Value {
+    /// What a name stands for, of an element's source or mask.
+    Handle(Option<Name>),
+    /// The numbers of any other attribute; those that it does not have are 0.
+    Numbers([i64; 4]),
+}
+
+/// What an event line asks for. A handle that is `None` was written `none` and stands for no object. Numbers are wide,
+/// so that one out of its range reaches the machine, which refuses it.
 #[derive(Drop)]
 pub enum Verb {
     /// A new stream, whose handle the line's name stands for.
@@ -35,6 +46,126 @@ pub enum Verb {
     },
     /// One tick of the clock: every port shows a frame.
     Tick,
+    /// A new device.
+    DeviceNew,
+    /// Tells the code of the device's first refusal since it was asked last.
+    GetError {
+        device: Option<Name>,
+    },
+    /// A new context, whose target is the screen of a port, counted from 1.
+    ScreenContext {
+        device: Option<Name>,
+        port: i64,
+    },
+    /// A new element of a context.
+    ElementNew {
+        device: Option<Name>,
+        context: Option<Name>,
+    },
+    /// A new source of a context, that shows a stream.
+    SourceNew {
+        device: Option<Name>,
+        context: Option<Name>,
+        stream: Option<Name>,
+    },
+    /// A new mask of a context, of a stream of coverage.
+    MaskNew {
+        device: Option<Name>,
+        context: Option<Name>,
+        stream: Option<Name>,
+    },
+    /// Sets an attribute of an element.
+    ElementSet {
+        device: Option<Name>,
+        element: Option<Name>,
+        attr: ElementAttr,
+        value: Value,
+    },
+    /// Asks for a number of an attribute of an element, counted from 0.
+    ElementGet {
+        device: Option<Name>,
+        element: Option<Name>,
+        attr: ElementAttr,
+        index: i64,
+    },
+    /// Puts an element into its context's scene, above another or, above none, to the bottom.
+    ElementInsert {
+        device: Option<Name>,
+        element: Option<Name>,
+        below: Option<Name>,
+    },
+    /// Takes an element out of its context's scene.
+    ElementRemove {
+        device: Option<Name>,
+        element: Option<Name>,
+    },
+    /// Asks which element is next above.
+    ElementAbove {
+        device: Option<Name>,
+        element: Option<Name>,
+    },
+    /// Asks which element is next below.
+    ElementBelow {
+        device: Option<Name>,
+        element: Option<Name>,
+    },
+    /// Sets an attribute of a context.
+    ContextSet {
+        device: Option<Name>,
+        context: Option<Name>,
+        attr: ContextAttr,
+        value: Value,
+    },
+    /// Asks for a number of an attribute of a context, counted from 0.
+    ContextGet {
+        device: Option<Name>,
+        context: Option<Name>,
+        attr: ContextAttr,
+        index: i64,
+    },
+    /// Makes the cached scene of a context the one that is shown.
+    Commit {
+        device: Option<Name>,
+        context: Option<Name>,
+    },
+    /// Lets a context compose a frame at each tick.
+    Activate {
+        device: Option<Name>,
+        context: Option<Name>,
+    },
+    /// Stops that.
+    Deactivate {
+        device: Option<Name>,
+        context: Option<Name>,
+    },
+    /// Destroys a stream. What shows it goes on showing it.
+    StreamDestroy {
+        stream: Option<Name>,
+    },
+    /// Destroys a device with all that is its.
+    DeviceDestroy {
+        device: Option<Name>,
+    },
+    /// Destroys a context with its elements, sources and masks.
+    ContextDestroy {
+        device: Option<Name>,
+        context: Option<Name>,
+    },
+    /// Destroys an element.
+    ElementDestroy {
+        device: Option<Name>,
+        element: Option<Name>,
+    },
+    /// Destroys a source.
+    SourceDestroy {
+        device: Option<Name>,
+        source: Option<Name>,
+    },
+    /// Destroys a mask.
+    MaskDestroy {
+        device: Option<Name>,
+        mask: Option<Name>,
+    },
 }
 
 /// An event line: a client, what it asks for, and the name under which the answer's value is kept.

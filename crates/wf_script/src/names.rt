@@ -1,7 +1,8 @@
 //! Words that stand for names.
 
-ghost use Rattle.std.specs.Prelude.{◌≡◌, ◌&&◌};
+ghost use Rattle.std.specs.Prelude.{◌≡◌, ◌&&◌, IfSome, option_map};
 ghost use Rattle.std.specs.List.{list_all};
+ghost use Rattle.wf_script.specs.Taken.{AreLetters};
 ghost use Rattle.wf_script.specs.Words.{handle_of, is_name, is_name_byte, name_of, starts_as_name};
 
 use crate::name::Name;
@@ -56,14 +57,28 @@ pub(crate) fn name_of(word: &[u8]) -> Option<Name>
     Some(Name::new(text))
 }
 
-/// What a handle's word names, which is nothing for `none`.
-#[tactic(auto, unfolding(crate::specs::Words::handle_of))]
-pub(crate) fn handle_of(word: &[u8]) -> Option<Option<Name>>
-    ensures { result ≡ handle_of word.now }
+/// A handle's word: the name that it is, with the name's letters, or none.
+#[derive(Drop)]
+pub(crate) struct Handle<'a> {
+    pub name: Option<Name>,
+    pub letters: Option<&'a [u8]>,
+}
+
+/// The handle that a word is, which is none for `none`.
+#[tactic(auto, unfolding(crate::specs::Words::handle_of, crate::specs::Words::name_of))]
+pub(crate) fn handle_of(word: &[u8]) -> Option<Handle<'_>>
+    ensures name { option_map (λ h. h.name) result ≡ handle_of word.now }
+    ensures letters { IfSome result (λ h. AreLetters h.letters h.name) }
 {
     if word == NONE {
-        return Some(None);
+        return Some(Handle {
+            name: None,
+            letters: None,
+        });
     }
     let name = name_of(word)?;
-    Some(Some(name))
+    Some(Handle {
+        name: Some(name),
+        letters: Some(word),
+    })
 }

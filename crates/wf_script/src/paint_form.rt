@@ -4,8 +4,10 @@ ghost use Rattle.std.specs.Prelude.{◌≡◌};
 ghost use Rattle.wf_script.specs.PaintWords.{paint_count, paint_forms};
 ghost use Rattle.wf_script.specs.Words.{look_up};
 
+use crate::table::look_up;
+
 /// The forms of paints, one for each word.
-#[derive(Clone, Copy, Debug, PartialEq, Eq)]
+#[derive(Clone, Copy)]
 pub(crate) enum PaintForm {
     Fill,
     Rectangle,
@@ -14,24 +16,21 @@ pub(crate) enum PaintForm {
     Row,
 }
 
+/// The paints.
+const PAINTS: [(&[u8], PaintForm); 5] = [
+    (b"fill", PaintForm::Fill),
+    (b"box", PaintForm::Rectangle),
+    (b"checker", PaintForm::Checker),
+    (b"ramp", PaintForm::Ramp),
+    (b"row", PaintForm::Row),
+];
+
 impl PaintForm {
     /// The form of a paint's word.
     pub(crate) fn of_word(word: &[u8]) -> Option<PaintForm>
         ensures { result ≡ look_up paint_forms word.now }
     {
-        if word == b"fill".as_slice() {
-            Some(PaintForm::Fill)
-        } else if word == b"box".as_slice() {
-            Some(PaintForm::Rectangle)
-        } else if word == b"checker".as_slice() {
-            Some(PaintForm::Checker)
-        } else if word == b"ramp".as_slice() {
-            Some(PaintForm::Ramp)
-        } else if word == b"row".as_slice() {
-            Some(PaintForm::Row)
-        } else {
-            None
-        }
+        look_up(&PAINTS, word)
     }
 
     /// How many words stand behind the paint's word.

@@ -9,6 +9,7 @@ use crate::form::Form;
 use crate::name::Name;
 use crate::names::name_of;
 use crate::rule::Rule;
+use crate::verbs::NoHandle;
 use crate::words::next_word;
 
 /// The words of an event line behind its client: the word before `=`, where there is one, the verb, and what is behind
@@ -63,7 +64,7 @@ pub(crate) fn is_its_client(form: Form, client: u8) -> bool
     ensures { result ≡ is_its_client form client }
 {
     match form {
-        Form::Tick => client == 0,
+        Form::Alone(NoHandle::Tick) => client == 0,
         _ => true,
     }
 }

@@ -3,13 +3,18 @@
 ghost use Rattle.std.specs.Prelude.{◌≡◌, ◌+◌, ◌≤◌, length};
 ghost use Rattle.wf_script.specs.Pick.{counted, first, first_as};
 ghost use Rattle.wf_script.specs.Rules.{FirstWord, Reads};
-ghost use Rattle.wf_script.specs.Words.{count_in, formats, integer_in, integer_of, look_up, stat_words, words_in};
+ghost use Rattle.wf_script.specs.Table.{rows_of};
+ghost use Rattle.wf_script.specs.Taken.{TakesHandle};
+ghost use Rattle.wf_script.specs.Words.{context_attrs, count_in, element_attrs, filters, formats, handle_of, integer_of, look_up, stat_words, transparencies, words_in};
 
-use crate::numbers::{count_in, integer_in, integer_of};
+use crate::names::{Handle, handle_of};
+use crate::numbers::{count_in, integer_of};
 use crate::rule::Rule;
+use crate::table::look_up;
 use crate::words::next_word;
 use wf_calls::StatWord;
 use wf_pixel::Format;
+use wf_scene::{ContextAttr, ElementAttr};
 
 /// How many words a text has.
 pub(crate) fn word_count(text: &[u8]) -> usize
@@ -60,50 +65,113 @@ pub(crate) fn count(low: u32, high: u32, text: &[u8]) -> Result<(u32, &[u8]), Ru
     Ok((count, behind))
 }
 
-/// The format that a word stands for.
-fn format_of(word: &[u8]) -> Option<Format>
-    ensures { result ≡ look_up formats word.now }
+/// A handle.
+pub(crate) fn handle(text: &[u8]) -> Result<(Handle<'_>, &[u8]), Rule>
+    ensures { TakesHandle result (first_as handle_of (words_in text.now)) }
 {
-    if word == b"rgba".as_slice() {
-        Some(Format::Rgba8)
-    } else if word == b"pre".as_slice() {
-        Some(Format::Rgba8Pre)
-    } else if word == b"rgbx".as_slice() {
-        Some(Format::Rgbx8)
-    } else if word == b"a8".as_slice() {
-        Some(Format::A8)
-    } else {
-        None
-    }
+    let (word, behind) = first(text)?;
+    let handle = handle_of(word).ok_or(Rule::Word)?;
+    Ok((handle, behind))
 }
+
+/// What stands beside a word in a table.
+fn among<'a, T: Copy>(rows: &[(&[u8], T)], text: &'a [u8]) -> Result<(T, &'a [u8]), Rule>
+    ensures { Reads result (first_as (look_up (rows_of rows.now)) (words_in text.now)) }
+{
+    let (word, behind) = first(text)?;
+    let found = look_up(rows, word).ok_or(Rule::Word)?;
+    Ok((found, behind))
+}
+
+/// The formats.
+const FORMATS: [(&[u8], Format); 4] = [
+    (b"rgba", Format::Rgba8),
+    (b"pre", Format::Rgba8Pre),
+    (b"rgbx", Format::Rgbx8),
+    (b"a8", Format::A8),
+];
 
 /// A format.
 pub(crate) fn format(text: &[u8]) -> Result<(Format, &[u8]), Rule>
     ensures { Reads result (first_as (look_up formats) (words_in text.now)) }
 {
-    let (word, behind) = first(text)?;
-    let format = format_of(word).ok_or(Rule::Word)?;
-    Ok((format, behind))
+    among(&FORMATS, text)
 }
 
-/// What a word lets count.
-fn stat_word_of(word: &[u8]) -> Option<StatWord>
-    ensures { result ≡ look_up stat_words word.now }
-{
-    if word == b"streams".as_slice() {
-        Some(StatWord::Streams)
-    } else if word == b"bytes".as_slice() {
-        Some(StatWord::Bytes)
-    } else {
-        None
-    }
-}
+/// What may be counted.
+const STAT_WORDS: [(&[u8], StatWord); 2] = [
+    (b"streams", StatWord::Streams),
+    (b"bytes", StatWord::Bytes),
+];
 
 /// What is counted.
 pub(crate) fn stat_word(text: &[u8]) -> Result<(StatWord, &[u8]), Rule>
     ensures { Reads result (first_as (look_up stat_words) (words_in text.now)) }
 {
-    let (word, behind) = first(text)?;
-    let what = stat_word_of(word).ok_or(Rule::Word)?;
-    Ok((what, behind))
+    among(&STAT_WORDS, text)
+}
+
+/// The attributes of an element.
+const ELEMENT_ATTRS: [(&[u8], ElementAttr); 9] = [
+    (b"dest", ElementAttr::Dest),
+    (b"source", ElementAttr::Source),
+    (b"srcrect", ElementAttr::SrcRect),
+    (b"flip", ElementAttr::Flip),
+    (b"rotation", ElementAttr::Rotation),
+    (b"filter", ElementAttr::Filter),
+    (b"transparency", ElementAttr::Transparency),
+    (b"alpha", ElementAttr::Alpha),
+    (b"mask", ElementAttr::Mask),
+];
+
+/// An attribute of an element.
+pub(crate) fn element_attr(text: &[u8]) -> Result<(ElementAttr, &[u8]), Rule>
+    ensures { Reads result (first_as (look_up element_attrs) (words_in text.now)) }
+{
+    among(&ELEMENT_ATTRS, text)
+}
+
+/// The attributes of a context.
+const CONTEXT_ATTRS: [(&[u8], ContextAttr); 5] = [
+    (b"rotation", ContextAttr::Rotation),
+    (b"background", ContextAttr::Background),
+    (b"width", ContextAttr::Width),
+    (b"height", ContextAttr::Height),
+    (b"lowest", ContextAttr::Lowest),
+];
+
+/// An attribute of a context.
+pub(crate) fn context_attr(text: &[u8]) -> Result<(ContextAttr, &[u8]), Rule>
+    ensures { Reads result (first_as (look_up context_attrs) (words_in text.now)) }
+{
+    among(&CONTEXT_ATTRS, text)
+}
+
+/// The ways to scale a source.
+const FILTERS: [(&[u8], i64); 3] = [(b"none", 0), (b"faster", 1), (b"better", 2)];
+
+/// The number of a way to scale a source.
+pub(crate) fn filter(text: &[u8]) -> Result<(i64, &[u8]), Rule>
+    ensures { Reads result (first_as (look_up filters) (words_in text.now)) }
+{
+    among(&FILTERS, text)
+}
+
+/// What makes an element transparent: the sums of 1 for its own alpha, 2 for the source's and 4 for a mask.
+const TRANSPARENCIES: [(&[u8], i64); 8] = [
+    (b"none", 0),
+    (b"alpha", 1),
+    (b"source", 2),
+    (b"alpha+source", 3),
+    (b"mask", 4),
+    (b"alpha+mask", 5),
+    (b"source+mask", 6),
+    (b"alpha+source+mask", 7),
+];
+
+/// The number of what makes an element transparent.
+pub(crate) fn transparency(text: &[u8]) -> Result<(i64, &[u8]), Rule>
+    ensures { Reads result (first_as (look_up transparencies) (words_in text.now)) }
+{
+    among(&TRANSPARENCIES, text)
 }

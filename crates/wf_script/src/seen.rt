@@ -1,8 +1,9 @@
 //! The names that are bound so far, and who sees them.
 
-ghost use Rattle.std.specs.Prelude.{◌≡◌, ◌<◌, ◌++◌, ◌∷◌, ◌==◌, ◌||◌, ◌&&◌, [], ℕ, List, false, length, slice_index_or, OnOk, option_map, option_to_list};
+ghost use Rattle.std.specs.Prelude.{◌≡◌, ◌<◌, ◌++◌, ◌∷◌, ◌==◌, ◌||◌, ◌&&◌, [], ℕ, List, false, length, slice_index_or, OnOk, map, option_map, option_to_list};
 ghost use Rattle.std.specs.List.{list_all, list_any};
 ghost use Rattle.wf_script.specs.declared.line.Line.{Line};
+ghost use Rattle.wf_script.specs.Given.{names_among};
 ghost use Rattle.wf_script.specs.Seen.{SeesAll, sees};
 ghost use Rattle.wf_script.specs.Visible.{is_name_in};
 
@@ -50,7 +51,7 @@ impl<'a> Seen<'a> {
     }
 
     /// Whether a client sees the name, if there is one.
-    pub(crate) fn sees(&self, client: u8, name: Option<&'a [u8]>) -> bool
+    fn sees_one(&self, client: u8, name: Option<&'a [u8]>) -> bool
         requires { client < CLIENTS }
         ensures { result ≡ list_all (sees self.now client) (option_to_list (option_map (λ w. w.now) name.entry)) }
     {
@@ -58,6 +59,17 @@ impl<'a> Seen<'a> {
             Some(name) => self.is_visible(client, name),
             None => true,
         }
+    }
+
+    /// Whether a client sees each of the names.
+    pub(crate) fn sees(&self, client: u8, names: [Option<&'a [u8]>; 3]) -> bool
+        requires { client < CLIENTS }
+        ensures { result ≡ list_all (sees self.now client) (names_among (map (λ o. option_map (λ w. w.now) o) names.entry)) }
+    {
+        let [first, second, third] = names;
+        self.sees_one(client, first)
+            && self.sees_one(client, second)
+            && self.sees_one(client, third)
     }
 
     /// Whether there is a name, and a client sees it.

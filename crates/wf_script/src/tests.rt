@@ -1,5 +1,7 @@
 //! Scripts that are accepted, and the faults of bytes that are none.
 
+mod composition;
+
 use super::*;
 use std::alloc::{AllocError, Global};
 use std::test::Fail;
@@ -10,7 +12,7 @@ use wf_pixel::{Format, Rgba, Size};
 const SMALL: &[u8] = b"WFS1\nport 4x2\n0 tick\nend\n";
 
 /// The fault of a line that breaks a rule; line 0 breaks none, and rules 8 and 9 are of the end and of too many lines.
-fn fault(line: u32, rule: u32) -> Option<ScriptFault> {
+fn broken(line: u32, rule: u32) -> Option<ScriptFault> {
     match (line, rule) {
         (0, _) => None,
         (_, 0) => Some(ScriptFault::Header),
@@ -50,7 +52,7 @@ const FIRST_LINES: [(&[u8], u32, u32); 22] = [
 fn first_lines(rt: HostRuntime) -> Result<(), Fail> {
     for (bytes, line, rule) in FIRST_LINES {
         let found = parse(rt.alloc(), bytes).err();
-        assert_eq!(rt; found, fault(line, rule), "at {bytes:?}");
+        assert_eq!(rt; found, broken(line, rule), "at {bytes:?}");
     }
     Ok(())
 }
@@ -76,7 +78,7 @@ fn cut_short(rt: HostRuntime) -> Result<(), Fail> {
     for length in 0..=SMALL.len() {
         let found = parse(rt.alloc(), &SMALL[..length]).err();
         let (line, rule) = cut_fault(length);
-        assert_eq!(rt; found, fault(line, rule), "at {length}");
+        assert_eq!(rt; found, broken(line, rule), "at {length}");
     }
     Ok(())
 }
@@ -129,7 +131,7 @@ fn bytes_clients_verbs_and_places(rt: HostRuntime) -> Result<(), Fail> {
     for (line, rule) in FRONTS {
         let found = line_fault(rt.alloc(), line)?;
         let place = if rule == 0 { 0 } else { 4 };
-        assert_eq!(rt; found, fault(place, rule), "at {line:?}");
+        assert_eq!(rt; found, broken(place, rule), "at {line:?}");
     }
     Ok(())
 }
@@ -193,7 +195,7 @@ fn counts_words_and_names(rt: HostRuntime) -> Result<(), Fail> {
     for (line, rule) in WORDS {
         let found = line_fault(rt.alloc(), line)?;
         let place = if rule == 0 { 0 } else { 4 };
-        assert_eq!(rt; found, fault(place, rule), "at {line:?}");
+        assert_eq!(rt; found, broken(place, rule), "at {line:?}");
     }
     Ok(())
 }
@@ -239,7 +241,7 @@ fn ports_pipes_and_names(rt: HostRuntime) -> Result<(), Fail> {
         let mut text = Vec::from_slice(rt.alloc(), b"WFS1\n")?;
         text.extend_from_slice(behind)?;
         let found = parse(rt.alloc(), &text).err();
-        assert_eq!(rt; found, fault(line, rule), "at {behind:?}");
+        assert_eq!(rt; found, broken(line, rule), "at {behind:?}");
     }
     Ok(())
 }
@@ -268,7 +270,7 @@ fn many_lines(rt: HostRuntime) -> Result<(), Fail> {
     for (lines, end, line, rule) in cases {
         let text = long_text(rt.alloc(), lines, end)?;
         let found = parse(rt.alloc(), &text).err();
-        assert_eq!(rt; found, fault(line, rule), "at {lines} and {end:?}");
+        assert_eq!(rt; found, broken(line, rule), "at {lines} and {end:?}");
     }
     Ok(())
 }
@@ -338,6 +340,7 @@ fn stands(place: usize, line: &Line) -> bool {
         Verb::Tick => place == 7,
         Verb::Paint(paint) => place < 12 && paints(place, paint),
         Verb::Frame { stream, paint } => is_wp(stream) && paints(place, paint),
+        _ => false,
     }
 }
 

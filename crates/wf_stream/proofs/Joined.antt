@@ -112,7 +112,7 @@ live_split h (l ∷ live) =
     let later = live_split h live in
     grind (arith, nat_tests, later)
 
-live_entries : (h : ℕ) (streams : List KeptStream) → is_live h (live_streams streams) ≡ is_some (stream_of h streams)
+pub live_entries : (h : ℕ) (streams : List KeptStream) → is_live h (live_streams streams) ≡ is_some (stream_of h streams)
 live_entries h [] = refl
 live_entries h (s ∷ streams) =
     let later = live_entries h streams in
@@ -129,11 +129,19 @@ rising_lower low least high [] rising under = omega arith
 rising_lower low least high (l ∷ live) rising under = (omega arith, rising.1)
 
 -- handles that rise still do so where some are left out
-rising_filter : (low high : ℕ) (p : Live → Bool) (live : List Live) → IsRising low live high → IsRising low (filter p live) high
+pub rising_filter : (low high : ℕ) (p : Live → Bool) (live : List Live) → IsRising low live high → IsRising low (filter p live) high
 rising_filter low high p [] rising = rising
 rising_filter low high p (l ∷ live) rising =
     let later = rising_filter l.handle high p live rising.1 in
     elim (p l) as (λ b. IsRising low (cond b (l ∷ filter p live) (filter p live)) high) [ true ↦ (rising.0, later) | false ↦ rising_lower l.handle low high (filter p live) later (omega arith) ]
+
+-- a handle that lives is above the bound
+pub live_above : (low high h : ℕ) (live : List Live) → IsRising low live high → is_live h live ≡ true → low < h
+live_above low high h [] rising is = cc
+live_above low high h (l ∷ live) rising is =
+    let under = rising.0 in
+    let later = λ (is_later : is_live h live ≡ true). live_above l.handle high h live rising.1 is_later in
+    grind (arith, nat_tests, later, under)
 
 -- a first stream is under no handle, or under one that is lower than those behind it
 data First (low high : ℕ) (s : KeptStream) (streams : List KeptStream) : Type 0 where
@@ -147,12 +155,17 @@ first_of_streams low high s streams rising =
       | false ↦ λ is under. named under.0 under.1
     ] refl rising
 
-rest_of_streams : (low high : ℕ) (s : KeptStream) (streams : List KeptStream) → IsRising low (live_streams (s ∷ streams)) high → IsRising low (live_streams streams) high
+pub rest_of_streams : (low high : ℕ) (s : KeptStream) (streams : List KeptStream) → IsRising low (live_streams (s ∷ streams)) high → IsRising low (live_streams streams) high
 rest_of_streams low high s streams rising =
     elim (s.handle == 0) as (λ b. IsRising low (map live_of (cond (not b) (s ∷ filter has_handle streams) (filter has_handle streams))) high → IsRising low (live_streams streams) high) [
       | true ↦ λ under. under
       | false ↦ λ under. rising_lower s.handle low high (live_streams streams) under.1 (omega (arith, under.0))
     ] rising
+
+-- a first stream is not under a handle of those behind it
+pub handle_other : (low high h : ℕ) (s : KeptStream) (streams : List KeptStream) → IsRising low (live_streams (s ∷ streams)) high → 0 < h → is_live h (live_streams streams) ≡ true → (s.handle == h) ≡ false
+handle_other low high h s streams rising some live =
+    elim (first_of_streams low high s streams rising) [ bare is ↦ grind (arith, nat_tests) | named above more ↦ (let up = live_above s.handle high h (live_streams streams) more live in grind (arith, nat_tests, up)) ]
 
 -- a handle below all names nothing
 unnamed_below : (low high h : ℕ) (streams : List KeptStream) → IsRising low (live_streams streams) high → 0 < h → h ≤ low → map (unnamed h) streams ≡ streams
@@ -169,7 +182,7 @@ number_above low high h n (s ∷ streams) rising found =
     let later = λ (found_later : number_of h streams ≡ Some n). number_above s.number high h n streams rising.1 found_later in
     grind (arith, nat_tests, later)
 
-bare_same : (s : KeptStream) → s.handle ≡ 0 → under_handle 0 s ≡ s
+pub bare_same : (s : KeptStream) → s.handle ≡ 0 → under_handle 0 s ≡ s
 bare_same s is = ap (λ (h : ℕ). under_handle h s) (sym is)
 
 -- no stream has a handle that is not found

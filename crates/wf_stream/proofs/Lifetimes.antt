@@ -8,9 +8,9 @@ use Rattle.wf_life.specs.declared.pool.Kept.{Kept}
 use Rattle.wf_life.specs.Pool.{kept_at, count_at, count_of, IsKept, with_value, holding, one_less, released}
 use Rattle.wf_stream.specs.declared.streams.Place.{Place}
 use Rattle.wf_stream.specs.Buffers.{Buffers}
-use Rattle.wf_stream.specs.Handed.{handed}
+use Rattle.wf_stream.specs.Placed.{placed}
 use Rattle.wf_stream.specs.Shelf.{HasNone, KeepsNoOther, AreSole}
-use Rattle.wf_stream.proofs.Shelves.{Slots, Places, at, AgreeBut, set_agrees, kept_inside, lent_slot}
+use Rattle.wf_stream.proofs.Shelves.{Slots, Places, at, AgreeBut, KeepsKey, set_agrees, kept_inside, lent_slot}
 
 -- by whether two keys are one
 by_key : (P : Type 0) (k key : ℕ) → (k ≡ key → P) → (k ≢ key → P) → P
@@ -43,10 +43,10 @@ found_sole n o p (e ∷ es) found sole =
     let later = λ (found_later : lookup (at n) es ≡ Some o). found_sole n o p es found_later sole.1 in
     elim (at n e.0) as (λ b. cond b (Some e.1) (lookup (at n) es) ≡ Some o → count_at o.key p ≡ 1) [ true ↦ λ is. (let same : e.1 ≡ o = cc in subst (λ (x : Place). count_at x.key p ≡ 1) same sole.0) | false ↦ later ] found
 
-pub handed_sole : (n handle : ℕ) (p : Slots) (es : Places) → AreSole p es → AreSole p (handed n handle es)
-handed_sole n handle p [] sole = tt
-handed_sole n handle p (e ∷ es) sole =
-    elim (at n e.0) as (λ b. AreSole p (cond b ((e.0, record e.1 { handle = handle }) ∷ es) (e ∷ handed n handle es))) [ true ↦ sole | false ↦ (sole.0, handed_sole n handle p es sole.1) ]
+pub placed_sole : (n : ℕ) (f : Place → Place) (p : Slots) (es : Places) → KeepsKey f → AreSole p es → AreSole p (placed n f es)
+placed_sole n f p [] same sole = tt
+placed_sole n f p (e ∷ es) same sole =
+    elim (at n e.0) as (λ b. AreSole p (cond b ((e.0, f e.1) ∷ es) (e ∷ placed n f es))) [ true ↦ (subst (λ (k : ℕ). count_at k p ≡ 1) (sym (same e.1)) sole.0, sole.1) | false ↦ (sole.0, placed_sole n f p es same sole.1) ]
 
 -- a loan changes no count
 held_count : (w : Buffers) (slot : Option (Kept Buffers)) → count_of (option_map (holding w) slot) ≡ count_of slot
@@ -98,16 +98,16 @@ pub other_removed : (n : ℕ) (o : Place) (p q : Slots) (es : Places) → lookup
 other_removed n o p q es found free agree no_other k none =
     by_key (kept_at k q ≡ None) k o.key (λ same. ap (λ (m : ℕ). kept_at m q) same ∙ free) (λ apart. agree k apart ∙ no_other k (none_restored n k o es found (λ same. apart (sym same)) none))
 
-none_unhanded : (n handle key : ℕ) (es : Places) → HasNone key (handed n handle es) → HasNone key es
-none_unhanded n handle key [] none = tt
-none_unhanded n handle key (e ∷ es) none =
-    elim (at n e.0) as (λ b. HasNone key (cond b ((e.0, record e.1 { handle = handle }) ∷ es) (e ∷ handed n handle es)) → HasNone key (e ∷ es)) [
-      | true ↦ λ left. left
-      | false ↦ λ left. (left.0, none_unhanded n handle key es left.1)
+none_unplaced : (n : ℕ) (f : Place → Place) (key : ℕ) (es : Places) → KeepsKey f → HasNone key (placed n f es) → HasNone key es
+none_unplaced n f key [] same none = tt
+none_unplaced n f key (e ∷ es) same none =
+    elim (at n e.0) as (λ b. HasNone key (cond b ((e.0, f e.1) ∷ es) (e ∷ placed n f es)) → HasNone key (e ∷ es)) [
+      | true ↦ λ left. (subst (λ (k : ℕ). k ≢ key) (same e.1) left.0, left.1)
+      | false ↦ λ left. (left.0, none_unplaced n f key es same left.1)
     ] none
 
-pub other_handed : (n handle : ℕ) (p : Slots) (es : Places) → KeepsNoOther p es → KeepsNoOther p (handed n handle es)
-other_handed n handle p es no_other key none = no_other key (none_unhanded n handle key es none)
+pub other_placed : (n : ℕ) (f : Place → Place) (p : Slots) (es : Places) → KeepsKey f → KeepsNoOther p es → KeepsNoOther p (placed n f es)
+other_placed n f p es same no_other key none = no_other key (none_unplaced n f key es same none)
 
 pub other_lent : (key : ℕ) (p : Slots) (es : Places) (w : Buffers) → IsKept key p → KeepsNoOther p es → KeepsNoOther (with_value key p w) es
 other_lent key p es w found no_other k none =

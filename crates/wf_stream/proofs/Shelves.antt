@@ -12,7 +12,7 @@ use Rattle.wf_life.specs.Pool.{kept_at, value_at, IsKept, with_value, holding}
 use Rattle.wf_stream.specs.declared.streams.Place.{Place}
 use Rattle.wf_stream.specs.Buffers.{Buffers}
 use Rattle.wf_stream.specs.Streams.{KeptStream, IsNumbered, buffers_at, without_number, hand_over, under_handle, change_stream}
-use Rattle.wf_stream.specs.Handed.{handed}
+use Rattle.wf_stream.specs.Placed.{placed, with_handle}
 use Rattle.wf_stream.specs.Shelf.{pooled, kept_stream, shelved, AreKept, HasNone, AreApart}
 
 abbrev pub Slots : Type 0
@@ -174,7 +174,7 @@ removed_view low high n o p q es rising apart found agree =
     shelved_same o.key p q (remove_entry (at n) es) agree (found_none n o es found apart) ∙ remove_without low high n p es rising
 
 -- the streams after a place got another handle
-pub handed_view : (low high n handle : ℕ) (p : Slots) (es : Places) → IsNumbered low (shelved p es) high → shelved p (handed n handle es) ≡ hand_over n handle (shelved p es)
+pub handed_view : (low high n handle : ℕ) (p : Slots) (es : Places) → IsNumbered low (shelved p es) high → shelved p (placed n (with_handle handle) es) ≡ hand_over n handle (shelved p es)
 handed_view low high n handle p [] rising = refl
 handed_view low high n handle p (e ∷ es) rising =
     let later = handed_view e.0 high n handle p es rising.1 in
@@ -187,32 +187,36 @@ numbered_handed low high n handle (s ∷ streams) rising =
     let later = numbered_handed s.number high n handle streams rising.1 in
     elim (s.number == n) as (λ b. (low < (cond b (under_handle handle s) s).number) × IsNumbered (cond b (under_handle handle s) s).number (hand_over n handle streams) high) [ true ↦ (rising.0, later) | false ↦ (rising.0, later) ]
 
-pub handed_kept : (n handle : ℕ) (p : Slots) (es : Places) → AreKept p es → AreKept p (handed n handle es)
-handed_kept n handle p [] kept = tt
-handed_kept n handle p (e ∷ es) kept =
-    elim (at n e.0) as (λ b. AreKept p (cond b ((e.0, record e.1 { handle = handle }) ∷ es) (e ∷ handed n handle es))) [ true ↦ kept | false ↦ (kept.0, handed_kept n handle p es kept.1) ]
+-- a change of a place that keeps its key
+abbrev pub KeepsKey : (Place → Place) → Type 0
+KeepsKey f = (o : Place) → (f o).key ≡ o.key
 
-handed_none : (n handle key : ℕ) (es : Places) → HasNone key es → HasNone key (handed n handle es)
-handed_none n handle key [] none = tt
-handed_none n handle key (e ∷ es) none =
-    elim (at n e.0) as (λ b. HasNone key (cond b ((e.0, record e.1 { handle = handle }) ∷ es) (e ∷ handed n handle es))) [ true ↦ none | false ↦ (none.0, handed_none n handle key es none.1) ]
+pub placed_kept : (n : ℕ) (f : Place → Place) (p : Slots) (es : Places) → KeepsKey f → AreKept p es → AreKept p (placed n f es)
+placed_kept n f p [] same kept = tt
+placed_kept n f p (e ∷ es) same kept =
+    elim (at n e.0) as (λ b. AreKept p (cond b ((e.0, f e.1) ∷ es) (e ∷ placed n f es))) [ true ↦ (subst (λ (k : ℕ). IsKept k p) (sym (same e.1)) kept.0, kept.1) | false ↦ (kept.0, placed_kept n f p es same kept.1) ]
 
-pub handed_apart : (n handle : ℕ) (es : Places) → AreApart es → AreApart (handed n handle es)
-handed_apart n handle [] apart = tt
-handed_apart n handle (e ∷ es) apart =
-    elim (at n e.0) as (λ b. AreApart (cond b ((e.0, record e.1 { handle = handle }) ∷ es) (e ∷ handed n handle es))) [ true ↦ apart | false ↦ (handed_none n handle e.1.key es apart.0, handed_apart n handle es apart.1) ]
+placed_none : (n : ℕ) (f : Place → Place) (key : ℕ) (es : Places) → KeepsKey f → HasNone key es → HasNone key (placed n f es)
+placed_none n f key [] same none = tt
+placed_none n f key (e ∷ es) same none =
+    elim (at n e.0) as (λ b. HasNone key (cond b ((e.0, f e.1) ∷ es) (e ∷ placed n f es))) [ true ↦ (subst (λ (k : ℕ). k ≢ key) (sym (same e.1)) none.0, none.1) | false ↦ (none.0, placed_none n f key es same none.1) ]
+
+pub placed_apart : (n : ℕ) (f : Place → Place) (es : Places) → KeepsKey f → AreApart es → AreApart (placed n f es)
+placed_apart n f [] same apart = tt
+placed_apart n f (e ∷ es) same apart =
+    elim (at n e.0) as (λ b. AreApart (cond b ((e.0, f e.1) ∷ es) (e ∷ placed n f es))) [ true ↦ (subst (λ (k : ℕ). HasNone k es) (sym (same e.1)) apart.0, apart.1) | false ↦ (placed_none n f e.1.key es same apart.0, placed_apart n f es same apart.1) ]
 
 -- the map with a value set
-pub handed_found : (n handle : ℕ) (o : Place) (es : Places) → lookup (at n) es ≡ Some o → set_value (at n) es (record o { handle = handle }) ≡ handed n handle es
-handed_found n handle o [] found = refl
-handed_found n handle o (e ∷ es) found =
-    let later = λ (found_later : lookup (at n) es ≡ Some o). handed_found n handle o es found_later in
+pub placed_found : (n : ℕ) (f : Place → Place) (o : Place) (es : Places) → lookup (at n) es ≡ Some o → set_value (at n) es (f o) ≡ placed n f es
+placed_found n f o [] found = refl
+placed_found n f o (e ∷ es) found =
+    let later = λ (found_later : lookup (at n) es ≡ Some o). placed_found n f o es found_later in
     grind (arith, nat_tests, later)
 
-pub handed_absent : (n handle : ℕ) (es : Places) → lookup (at n) es ≡ None → es ≡ handed n handle es
-handed_absent n handle [] found = refl
-handed_absent n handle (e ∷ es) found =
-    let later = λ (found_later : lookup (at n) es ≡ None). handed_absent n handle es found_later in
+pub placed_absent : (n : ℕ) (f : Place → Place) (es : Places) → lookup (at n) es ≡ None → es ≡ placed n f es
+placed_absent n f [] found = refl
+placed_absent n f (e ∷ es) found =
+    let later = λ (found_later : lookup (at n) es ≡ None). placed_absent n f es found_later in
     grind (arith, nat_tests, later)
 
 -- what is kept under a key stands within the pool

@@ -24,12 +24,18 @@ live_streams streams = map live_of (filter has_handle streams)
 
 abbrev pub store_of : Inside → StoreView
 store_of s =
-    record { made = s.handles.made; numbered = s.numbered; streams = s.streams; others = others_of s.handles.live }
+    record {
+      made = s.handles.made;
+      numbered = s.numbered;
+      streams = s.streams.streams;
+      marked = s.streams.marked;
+      others = others_of s.handles.live;
+    }
 
 pub record IsSound (s : Inside) : Type 0 where
   pub limit : s.handles.made ≤ 4294967291
   -- beside the streams that were made there are the screens
   pub room : s.numbered ≤ s.handles.made + 4
-  pub rising : IsNumbered 0 s.streams s.numbered
+  pub rising : IsNumbered 0 s.streams.streams s.numbered
   pub orderly : IsOrderly s.handles
-  pub tied : stream_handles s.handles.live ≡ live_streams s.streams
+  pub tied : stream_handles s.handles.live ≡ live_streams s.streams.streams

@@ -2,7 +2,7 @@
 pub mod Buffers
 pub mod Inside
 pub mod Streams
-pub mod Handed
+pub mod Placed
 pub mod Shelf
 pub mod Joined
 pub mod Lending

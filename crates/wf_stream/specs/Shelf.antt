@@ -1,5 +1,5 @@
 -- How the streams are kept: a map from numbers to the places in a pool, each place with one number.
-use Rattle.std.specs.Prelude.{◌≡◌, ◌≢◌, ℕ, List, [], ◌∷◌, map, unwrap_or, None}
+use Rattle.std.specs.Prelude.{◌≡◌, ◌≢◌, ℕ, Bool, not, ◌||◌, ◌==◌, List, [], ◌∷◌, map, filter, unwrap_or, None}
 use Rattle.wf_life.specs.declared.pool.Kept.{Kept}
 use Rattle.wf_life.specs.Pool.{IsKept, kept_at, value_at, count_at}
 use Rattle.std.specs.Prelude.{Option}
@@ -7,7 +7,7 @@ use Rattle.wf_pixel.specs.declared.Format.TheVariants.{A8}
 use Rattle.wf_stream.specs.declared.streams.Place.{Place}
 use Rattle.wf_stream.specs.declared.streams.Streams.TheInside.{Inside}
 use Rattle.wf_stream.specs.Buffers.{Buffers, fresh}
-use Rattle.wf_stream.specs.Streams.{KeptStream, IsNumbered}
+use Rattle.wf_stream.specs.Streams.{KeptStream, Shelf, IsNumbered}
 
 -- the buffers under a key of the pool; each key that a place has is kept
 abbrev pub pooled : ℕ → List (Option (Kept Buffers)) → Buffers
@@ -16,11 +16,19 @@ pooled key pool = unwrap_or (value_at key pool) (fresh (record { w = 0; h = 0 })
 abbrev pub kept_stream : List (Option (Kept Buffers)) → ℕ × Place → KeptStream
 kept_stream pool e = record { number = e.0; handle = e.1.handle; buffers = pooled e.1.key pool }
 
+-- a place is marked, or its stream has a handle, or its write buffer is out
+abbrev pub is_marked_or_own : List (Option (Kept Buffers)) → Place → Bool
+is_marked_or_own pool place = place.marked || not (place.handle == 0) || (pooled place.key pool).out
+
 abbrev pub shelved : List (Option (Kept Buffers)) → List (ℕ × Place) → List KeptStream
 shelved pool places = map (kept_stream pool) places
 
-abbrev pub streams_of : Inside → List KeptStream
-streams_of s = shelved s.pool s.places.entries
+-- the numbers of the places that are marked
+abbrev pub marks_of : List (ℕ × Place) → List ℕ
+marks_of places = map (λ e. e.0) (filter (λ e. e.1.marked) places)
+
+abbrev pub shelf_of : Inside → Shelf
+shelf_of s = record { streams = shelved s.pool s.places.entries; marked = marks_of s.places.entries }
 
 -- the pool keeps a stream for each place
 abbrev pub AreKept : List (Option (Kept Buffers)) → List (ℕ × Place) → Type 0
@@ -47,7 +55,7 @@ AreApart [] = Unit {0}
 AreApart (e ∷ places) = HasNone e.1.key places × AreApart places
 
 pub record IsSound (s : Inside) : Type 0 where
-  pub rising : IsNumbered 0 (streams_of s) 4294967295
+  pub rising : IsNumbered 0 (shelved s.pool s.places.entries) 4294967295
   pub kept : AreKept s.pool s.places.entries
   pub apart : AreApart s.places.entries
   pub sole : AreSole s.pool s.places.entries

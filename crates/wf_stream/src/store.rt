@@ -1,13 +1,14 @@
 //! The store: the handles of all objects, and the streams by number.
 
-ghost use Rattle.std.specs.Prelude.{◌≡◌, ◌↔◌, ◌+◌, ◌≤◌, ◌||◌, not, option_copied, IfOk, OnOk, OnErr, IsErrOf, IsTrue};
+ghost use Rattle.std.specs.Prelude.{◌≡◌, ◌↔◌, ℕ, ◌+◌, ◌≤◌, ◌||◌, ◌==◌, [], not, map, Some, option_map, option_copied, IfOk, OnOk, OnErr, IsErrOf, IsSome, IsTrue, IsFalse};
 ghost use Rattle.std.specs.Option.{option_copied_mut};
 ghost use Rattle.std.specs.Result.{result_ok};
 ghost use Rattle.std.specs.Borrow.{sem};
+ghost use Rattle.wf_words.specs.Keyed.{is_in};
 ghost use Rattle.wf_pixel.specs.Choice.{has_sides};
-ghost use Rattle.wf_life.specs.Handles.{is_full};
+ghost use Rattle.wf_life.specs.Handles.{is_full, is_live, without};
 ghost use Rattle.wf_stream.specs.Buffers.{fresh};
-ghost use Rattle.wf_stream.specs.Streams.{held, empty, with_screen, with_live_stream, with_other, has_no_room, number_of, key_in, is_alive, is_stream, count_in, killed, buffers_at, IsNumbered};
+ghost use Rattle.wf_stream.specs.Streams.{held, empty, with_screen, with_live_stream, with_other, has_no_room, number_of, key_in, is_alive, is_stream, count_in, killed, stream_at, stream_of, unnamed, buffers_at, IsNumbered, first_unmarked, names_of, handle_at, without_number, swept, is_own};
 
 use crate::Held;
 use crate::stream::{Stream, bytes_of};
@@ -155,7 +156,9 @@ impl Store {
     /// Ends the life of the object that has the handle. A stream is still kept.
     pub fn kill(&mut self, handle: u32)
         requires { IsTrue (is_alive handle self.old) }
-        ensures { self.new ≡ killed handle self.old }
+        ensures killed { self.new ≡ killed handle self.old }
+        ensures other { IsTrue (is_live handle self.old.others) → self.new ≡ record self.old { others = without handle self.old.others } }
+        ensures stream { IsSome (stream_of handle self.old.streams) → self.new ≡ record self.old { streams = map (unnamed handle) self.old.streams } }
     {
         let found = self.handles.find(handle, Kind::Stream);
         self.handles.kill(handle);
@@ -187,13 +190,66 @@ impl Store {
     {
         self.streams.get_mut(number)
     }
+
+    /// Takes all marks away.
+    pub fn unmark(&mut self)
+        ensures { self.new ≡ record self.old { marked = [] } }
+    {
+        self.streams.unmark();
+    }
+
+    /// Marks the stream of a number, which is kept.
+    pub fn mark(&mut self, number: u32)
+        requires { IsSome (stream_at number self.old.streams) }
+        ensures marked { (n : ℕ) → is_in n self.new.marked ≡ (is_in n self.old.marked || (number == n)) }
+        ensures rest { record self.new { marked = [] } ≡ record self.old { marked = [] } }
+    {
+        self.streams.mark(number);
+    }
+
+    /// Marks each stream that has a live handle or whose write buffer is out.
+    pub fn mark_own(&mut self)
+        ensures marked { (n : ℕ) → is_in n self.new.marked ≡ (is_in n self.old.marked || is_own n self.old.streams) }
+        ensures rest { record self.new { marked = [] } ≡ record self.old { marked = [] } }
+    {
+        self.streams.mark_own();
+    }
+
+    /// Drops the streams that were not marked since the last `unmark`, and with each its live handle, if it has one.
+    pub fn sweep(&mut self)
+        ensures { self.new ≡ swept self.old }
+    {
+        while let Some((number, handle)) = self.first_unmarked() {
+            self.drop_stream(number, handle);
+        }
+    }
+
+    /// The number of the first stream that is not marked, and its handle or 0.
+    fn first_unmarked(&self) -> Option<(u32, u32)>
+        ensures first { result ≡ option_map names_of (first_unmarked self.now.marked self.now.streams) }
+        ensures numbered { IsNumbered 0 self.now.streams self.now.numbered }
+    {
+        self.streams.first_unmarked()
+    }
+
+    /// Drops a stream that is not marked, which has this handle or 0.
+    fn drop_stream(&mut self, number: u32, handle: u32)
+        requires kept { handle_at number self.old.streams ≡ Some handle }
+        requires unmarked { IsFalse (is_in number self.old.marked) }
+        ensures { self.new ≡ record self.old { streams = without_number number self.old.streams } }
+    {
+        self.streams.remove(number);
+        if handle != 0 {
+            self.handles.kill(handle);
+        }
+    }
 }
 
 /// Another stream is one too many, or its bytes are.
 fn has_no_room(streams: &Streams, size: Size, format: Format, buffers: u32) -> bool
     requires sides { IsTrue (has_sides size) }
     requires most { buffers ≤ 4 }
-    ensures { result ≡ has_no_room (fresh size format buffers) streams.now }
+    ensures { result ≡ has_no_room (fresh size format buffers) streams.now.streams }
 {
     streams.len() >= MOST_STREAMS || streams.bytes() + bytes_of(size, format, buffers) > MOST_BYTES
 }

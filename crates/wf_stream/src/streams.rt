@@ -1,9 +1,10 @@
 //! The streams by number.
 
-ghost use Rattle.std.specs.Prelude.{◌≡◌, ◌-◌, ◌*◌, ◌<◌, ◌≤◌, [], ◌∷◌, ◌++◌, length, option_copied, OnOk, OnErr};
+ghost use Rattle.std.specs.Prelude.{◌≡◌, ℕ, ◌-◌, ◌*◌, ◌<◌, ◌≤◌, ◌||◌, ◌==◌, true, false, [], ◌∷◌, ◌++◌, length, option_map, option_copied, OnOk, OnErr, IsSome, IsFalse};
 ghost use Rattle.std.specs.Option.{option_copied_mut};
 ghost use Rattle.std.specs.Borrow.{sem};
-ghost use Rattle.wf_stream.specs.Streams.{held, IsNumbered, buffers_at, without_number, hand_over};
+ghost use Rattle.wf_words.specs.Keyed.{is_in};
+ghost use Rattle.wf_stream.specs.Streams.{held, IsNumbered, stream_at, buffers_at, without_number, hand_over, first_unmarked, names_of, is_own};
 
 use crate::stream::Stream;
 use std::alloc::Global;
@@ -12,11 +13,12 @@ use std::marker::Model;
 use wf_image::NoMemory;
 use wf_life::Pool;
 
-/// The pool's key of a stream, and its live handle or 0.
+/// The pool's key of a stream, its live handle or 0, and its mark.
 #[derive(Clone, Copy)]
 struct Place {
     key: usize,
     handle: u32,
+    marked: bool,
 }
 
 /// The streams that are kept, by rising number.
@@ -27,14 +29,13 @@ pub(crate) struct Streams {
 }
 
 impl Model for Streams {
-    ghost use Rattle.std.specs.Prelude.{List};
-    ghost use Rattle.wf_stream.specs.Streams.{KeptStream};
+    ghost use Rattle.wf_stream.specs.Streams.{Shelf};
 
-    ghost Value = { List KeptStream };
+    ghost Value = { Shelf };
 
-    ghost use Rattle.wf_stream.specs.Shelf.{streams_of, IsSound};
+    ghost use Rattle.wf_stream.specs.Shelf.{shelf_of, IsSound};
 
-    ghost view = { streams_of };
+    ghost view = { shelf_of };
 
     ghost invariant = { IsSound };
 }
@@ -44,7 +45,7 @@ impl Streams {
 
     /// No streams. It takes no memory.
     pub(crate) fn new(alloc: Global) -> Streams
-        ensures { result ≡ [] }
+        ensures { result ≡ record { streams = []; marked = [] } }
     {
         Streams {
             pool: Pool::new(alloc),
@@ -54,14 +55,14 @@ impl Streams {
 
     /// How many there are.
     pub(crate) fn len(&self) -> u32
-        ensures { result ≡ length self.now }
+        ensures { result ≡ length self.now.streams }
     {
         self.places.len() as u32
     }
 
     /// The bytes of all their buffers.
     pub(crate) fn bytes(&self) -> u64
-        ensures bytes { result ≡ (held self.now).bytes }
+        ensures bytes { result ≡ (held self.now.streams).bytes }
         ensures small { result ≤ 16777216 * 4294967295 }
     {
         let mut bytes = 0;
@@ -76,23 +77,30 @@ impl Streams {
     /// Keeps a stream under a number above all others.
     pub(crate) fn push(&mut self, number: u32, handle: u32, stream: Stream) -> Result<(), NoMemory>
         requires counted { 0 < number }
-        requires above { IsNumbered 0 self.old (number - 1) }
-        ensures pushed { OnOk result (self.new ≡ self.old ++ record { number = number; handle = handle; buffers = stream } ∷ []) }
+        requires above { IsNumbered 0 self.old.streams (number - 1) }
+        ensures pushed { OnOk result (self.new ≡ record self.old { streams = self.old.streams ++ record { number = number; handle = handle; buffers = stream } ∷ [] }) }
+        ensures unmarked { OnOk result (IsFalse (is_in number self.old.marked)) }
         ensures refused { OnErr result (self.new ≡ self.old) }
     {
         let Ok(key) = self.pool.put(stream) else {
             return Err(NoMemory);
         };
-        let Ok(_) = self.places.insert(number, Place { key, handle }) else {
+        let place = Place {
+            key,
+            handle,
+            marked: false,
+        };
+        let Ok(_) = self.places.insert(number, place) else {
             drop(self.pool.release(key));
             return Err(NoMemory);
         };
         Ok(())
     }
 
-    /// Lets the stream of a number go.
+    /// Lets the stream of a number go, which is not marked.
     pub(crate) fn remove(&mut self, number: u32)
-        ensures { self.new ≡ without_number number self.old }
+        requires { IsFalse (is_in number self.old.marked) }
+        ensures { self.new ≡ record self.old { streams = without_number number self.old.streams } }
     {
         if let Some(place) = self.places.remove(&number) {
             drop(self.pool.release(place.key));
@@ -101,14 +109,14 @@ impl Streams {
 
     /// Puts the stream of a number under this handle, or under none by 0.
     pub(crate) fn hand_over(&mut self, number: u32, handle: u32)
-        ensures { self.new ≡ hand_over number handle self.old }
+        ensures { self.new ≡ record self.old { streams = hand_over number handle self.old.streams } }
     {
         set_handle(&mut self.places, number, handle);
     }
 
     /// The stream of a number.
     pub(crate) fn get(&self, number: u32) -> Option<&Stream>
-        ensures { option_copied result ≡ buffers_at number self.now }
+        ensures { option_copied result ≡ buffers_at number self.now.streams }
     {
         match self.places.get(&number) {
             Some(place) => self.pool.get(place.key),
@@ -119,7 +127,7 @@ impl Streams {
     /// The stream of a number, for writing.
     pub(crate) fn get_mut(&mut self, number: u32) -> Option<&mut Stream>
         ensures* writes_back { sem 𝓛 (lends_one self.entry number result) }
-        ensures value { option_copied_mut result ≡ buffers_at number self.old }
+        ensures value { option_copied_mut result ≡ buffers_at number self.old.streams }
     {
         let key = match self.places.get(&number) {
             Some(place) => place.key,
@@ -127,15 +135,91 @@ impl Streams {
         };
         self.pool.get_mut(key)
     }
+
+    /// Takes all marks away.
+    pub(crate) fn unmark(&mut self)
+        ensures { self.new ≡ record self.old { marked = [] } }
+    {
+        clear_marks(&mut self.places);
+    }
+
+    /// Marks the stream of a number.
+    pub(crate) fn mark(&mut self, number: u32)
+        requires { IsSome (stream_at number self.old.streams) }
+        ensures marked { (n : ℕ) → is_in n self.new.marked ≡ (is_in n self.old.marked || (number == n)) }
+        ensures streams { self.new.streams ≡ self.old.streams }
+    {
+        set_mark(&mut self.places, number);
+    }
+
+    /// Marks each stream that has a live handle or whose write buffer is out.
+    pub(crate) fn mark_own(&mut self)
+        ensures marked { (n : ℕ) → is_in n self.new.marked ≡ (is_in n self.old.marked || is_own n self.old.streams) }
+        ensures streams { self.new.streams ≡ self.old.streams }
+    {
+        set_own_marks(&self.pool, &mut self.places);
+    }
+
+    /// The number of the first stream that is not marked, and its handle or 0.
+    pub(crate) fn first_unmarked(&self) -> Option<(u32, u32)>
+        ensures { result ≡ option_map names_of (first_unmarked self.now.marked self.now.streams) }
+    {
+        for (number, place) in &self.places {
+            if !place.marked {
+                return Some((*number, place.handle));
+            }
+        }
+        None
+    }
 }
 
-ghost use Rattle.wf_stream.specs.Handed.{handed};
+ghost use Rattle.wf_stream.specs.Placed.{placed, with_handle, with_mark, remarked};
+ghost use Rattle.wf_stream.specs.Shelf.{pooled, is_marked_or_own};
 
 /// Puts the place of a number under this handle, where there is one.
 fn set_handle(places: &mut BTreeMap<u32, Place>, number: u32, handle: u32)
-    ensures { places.new.entries ≡ handed number handle places.old.entries }
+    ensures { places.new.entries ≡ placed number (with_handle handle) places.old.entries }
 {
     if let Some(place) = places.get_mut(&number) {
         place.handle = handle;
+    }
+}
+
+/// Marks the place of a number, where there is one.
+fn set_mark(places: &mut BTreeMap<u32, Place>, number: u32)
+    ensures { places.new.entries ≡ placed number (with_mark true) places.old.entries }
+{
+    if let Some(place) = places.get_mut(&number) {
+        place.marked = true;
+    }
+}
+
+/// Takes the marks of all places away.
+fn clear_marks(places: &mut BTreeMap<u32, Place>)
+    ensures { places.new.entries ≡ remarked (λ _. false) places.old.entries }
+{
+    places.retain(|_, place| {
+        place.marked = false;
+        true
+    });
+}
+
+/// Marks the places that have a handle or whose stream's write buffer is out.
+fn set_own_marks(pool: &Pool<Stream>, places: &mut BTreeMap<u32, Place>)
+    ensures { places.new.entries ≡ remarked (is_marked_or_own pool.now) places.old.entries }
+{
+    places.retain(|_, place| {
+        place.marked = place.marked || place.handle != 0 || is_out(pool, place.key);
+        true
+    });
+}
+
+/// The write buffer of the stream under a key is out.
+fn is_out(pool: &Pool<Stream>, key: usize) -> bool
+    ensures { result ≡ (pooled key pool.now).out }
+{
+    match pool.get(key) {
+        Some(stream) => stream.is_out(),
+        None => false,
     }
 }

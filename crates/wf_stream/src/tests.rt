@@ -123,3 +123,106 @@ fn the_store_is_full(rt: HostRuntime) -> Result<(), Fail> {
     assert_eq!(rt; store.make(SMALL, Format::A8, 2), Err(MakeStop::Limit));
     Ok(())
 }
+
+/// A screen under number 1, and streams under 2, 3 and 4, whose handles are 1, 3 and 4.
+fn filled(rt: &HostRuntime) -> Result<Store, Fail> {
+    let mut store = Store::new(rt.alloc());
+    store.screen(Size { w: 1, h: 1 })?;
+    store.make(SMALL, Format::A8, 2)?;
+    store.mint(Kind::Device, 5)?;
+    store.make(SMALL, Format::Rgba8, 4)?;
+    store.make(SMALL, Format::A8, 3)?;
+    Ok(store)
+}
+
+#[test]
+fn a_sweep_leaves_what_is_marked(rt: HostRuntime) -> Result<(), Fail> {
+    // the number that is marked, the bytes of its stream, and its handle
+    let rows = [(1, 12, 0), (2, 4, 1), (3, 32, 3), (4, 6, 4)];
+    for (number, bytes, handle) in rows {
+        let mut store = filled(&rt)?;
+        if store.get(number).is_some() {
+            store.mark(number);
+        }
+        store.sweep();
+        assert_eq!(rt; store.held(), Held { streams: 1, bytes });
+        for other in 1..=4u32 {
+            assert_eq!(rt; store.get(other).is_some(), other == number);
+        }
+        for other in [1, 3, 4u32] {
+            let found = store.number(other);
+            assert_eq!(rt;
+                found,
+                if other == handle {
+                    Ok(number)
+                } else {
+                    Err(BadHandle)
+                }
+            );
+        }
+        assert_eq!(rt; store.find(2, Kind::Device), Ok(5));
+        store.sweep();
+        assert_eq!(rt; store.held(), Held { streams: 1, bytes });
+        store.unmark();
+        store.sweep();
+        assert_eq!(rt;
+            store.held(),
+            Held {
+                streams: 0,
+                bytes: 0
+            }
+        );
+        assert_eq!(rt;
+            (store.live(Kind::Stream), store.live(Kind::Device)),
+            (0, 1)
+        );
+    }
+    Ok(())
+}
+
+#[test]
+fn a_new_stream_is_not_marked(rt: HostRuntime) -> Result<(), Fail> {
+    let mut store = filled(&rt)?;
+    for number in 1..=4u32 {
+        if store.get(number).is_some() {
+            store.mark(number);
+        }
+    }
+    assert_eq!(rt; store.make(SMALL, Format::A8, 4), Ok(5));
+    assert_eq!(rt; store.number(5), Ok(5));
+    store.sweep();
+    assert_eq!(rt;
+        store.held(),
+        Held {
+            streams: 4,
+            bytes: 54
+        }
+    );
+    assert_eq!(rt; store.number(5), Err(BadHandle));
+    Ok(())
+}
+
+#[test]
+fn a_sweep_leaves_what_has_a_name_of_its_own(rt: HostRuntime) -> Result<(), Fail> {
+    // the number whose write buffer is out, and the bytes that are left: only number 4 has a live handle
+    let rows = [(1, 18), (2, 10), (3, 38), (4, 6)];
+    for (out, bytes) in rows {
+        let mut store = filled(&rt)?;
+        if let Some(stream) = store.get_mut(out) {
+            stream.acquire(out)?;
+        }
+        for handle in [1, 3u32] {
+            if store.number(handle).is_ok() {
+                store.kill(handle);
+            }
+        }
+        store.mark_own();
+        store.sweep();
+        assert_eq!(rt; store.held().bytes, bytes);
+        for number in 1..=4u32 {
+            assert_eq!(rt; store.get(number).is_some(), number == out || number == 4);
+        }
+        assert_eq!(rt; (store.number(3), store.number(4)), (Err(BadHandle), Ok(4)));
+    }
+    Ok(())
+}

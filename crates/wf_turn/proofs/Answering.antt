@@ -29,14 +29,9 @@ pub took_handed : (p : Program) (reply : Reply) → took (handed p) reply ≡ to
 took_handed p reply = of_line (first_line p) refl
   where
     of_verb : (l : Line) (v : Verb) → took_first (record p { canvas = kept_first v p.canvas }) (record l { verb = v }) reply ≡ took_first p (record l { verb = v }) reply
-    of_verb l (verb.StreamNew w h f b) = refl
-    of_verb l (verb.Acquire s) = refl
     of_verb l verb.Post = refl
     of_verb l verb.Discard = refl
-    of_verb l (verb.Stat w) = refl
-    of_verb l (verb.Paint paint) = refl
-    of_verb l (verb.Frame s paint) = refl
-    of_verb l verb.Tick = refl
+    of_verb l _ = refl
 
     of_stage : (l : Line) (s : Stage) → took_at (record p { canvas = kept_canvas (Some l) s p.canvas; job = kept_job (Some l) s p.job }) l reply s ≡ took_at p l reply s
     of_stage l stage.Fresh = of_verb l l.verb
@@ -60,7 +55,7 @@ same_work is_new wanted job same =
   where
     format : (b : Bool) (k : JobKind) → SameImage b k wanted.image job.image → job.image.format ≡ wanted.image.format
     format true (kind.Port port) image = image.1
-    format false k image = ap (λ (i : Bitmap). i.format) image
+    format _ k image = ap (λ (i : Bitmap). i.format) image
 
 -- what a reply is to a program: its value, and its payload up to the image of a Job
 pub record IsSame (given wanted : Reply) : Type 0 where
@@ -101,16 +96,14 @@ module _ (p : Program) (given wanted : Reply) (same : IsSame given wanted) where
   same_leg (leg.Ports port) = same_job p (is_ok_code given.code) given.payload wanted.payload (leg.Ports (port + 1)) same.payload
 
   same_verb : (l : Line) (v : Verb) → outcome (took_first p (record l { verb = v }) given) ≡ outcome (took_first p (record l { verb = v }) wanted)
-  same_verb l (verb.StreamNew w h f b) = ap (λ (n : ℕ). outcome (line_done p n)) same.value
   same_verb l (verb.Acquire s) = with_canvas
   same_verb l verb.Post = with_canvas
   same_verb l verb.Discard = with_canvas
-  same_verb l (verb.Stat w) = ap (λ (n : ℕ). outcome (line_done p n)) same.value
-  same_verb l (verb.Paint paint) = ap (λ (n : ℕ). outcome (line_done p n)) same.value
   same_verb l (verb.Frame s paint) = ap (λ (c : Option Canvas). outcome (took_frame p paint c)) canvas_is
   same_verb l verb.Tick =
       ap (λ (v : ℕ). outcome (took_job (ticking p) given.payload (leg.Contexts 1 v))) same.value
       ∙ same_job (ticking p) (is_ok_code given.code) given.payload wanted.payload (leg.Contexts 1 wanted.value) same.payload
+  same_verb l _ = ap (λ (n : ℕ). outcome (line_done p n)) same.value
 
   same_at : (l : Line) (s : Stage) → outcome (took_at p l given s) ≡ outcome (took_at p l wanted s)
   same_at l stage.Fresh = same_verb l l.verb

@@ -1,10 +1,8 @@
 -- A turn and the running frame: a frame that begins is held by the program that began it, to be ended next.
-use Rattle.std.proofs.Common.{◌≡◌, ◌∙◌, ℕ, ◌+◌, Bool, true, false, not, cond, ◌||◌, [], Option, Some, None, refl, sym, ap, subst}
+use Rattle.std.proofs.Common.{◌≡◌, ◌∙◌, ℕ, ◌+◌, Bool, true, false, not, cond, ◌||◌, inl, inr, [], Option, Some, None, refl, sym, ap, subst}
 use Rattle.std.specs.Prelude.{ℤ, pos, Result, Ok, Err}
 use Rattle.std.specs.Option.{is_some, option_map, IfSome}
-use Rattle.wf_words.specs.Whole.{count_of}
 use Rattle.wf_pixel.specs.declared.Format.{Format}
-use Rattle.wf_pixel.specs.declared.Format.TheVariants.{Rgba8Pre}
 use Rattle.wf_life.specs.Handles.{is_full}
 use Rattle.wf_image.specs.declared.canvas.Canvas.{Canvas}
 use Rattle.wf_image.specs.declared.paint.Paint.{Paint}
@@ -14,28 +12,30 @@ use Rattle.wf_stream.specs.Streams.{KeptStream, has_no_room}
 use Rattle.wf_calls.specs.declared.call.Call.{Call}
 use Rattle.wf_calls.specs.declared.call.Call.TheVariants as call
 use Rattle.wf_calls.specs.declared.call.Job.{Job}
-use Rattle.wf_calls.specs.declared.call.JobKind.TheVariants as kind
+use Rattle.wf_calls.specs.declared.call.JobKind.{JobKind}
+use Rattle.wf_calls.specs.declared.call.Payload.{Payload}
 use Rattle.wf_calls.specs.declared.call.Reply.{Reply}
-use Rattle.wf_calls.specs.declared.call.StatWord.{StatWord}
 use Rattle.wf_calls.specs.declared.code.Refusal.{Refusal}
-use Rattle.wf_model.specs.Display.{port_scene}
-use Rattle.wf_model.specs.Frames.{all_begun, begin_next, begin_port, is_running, job_of}
+use Rattle.wf_model.specs.Frames.{begin_next, begin_port}
 use Rattle.wf_model.specs.State.{Running, State}
-use Rattle.wf_model.specs.Step.{step}
-use Rattle.wf_model.specs.Streams.{acquirable, acquire_step, canvas_back, is_out_at_client, is_stream, new_buffers, stream_new, stream_step}
+use Rattle.wf_model.specs.Step.{act, step}
+use Rattle.wf_model.specs.Streams.{acquirable, acquire_step, canvas_back, is_out_at_client, is_stream, live_stream, new_buffers, stream_destroy, stream_new, stream_step}
 use Rattle.wf_script.specs.declared.line.Line.{Line}
 use Rattle.wf_script.specs.declared.line.Verb.{Verb}
 use Rattle.wf_script.specs.declared.line.Verb.TheVariants as verb
+use Rattle.wf_script.specs.declared.name.Name.{Name}
 use Rattle.wf_turn.specs.declared.stage.Leg.{Leg}
 use Rattle.wf_turn.specs.declared.stage.Leg.TheVariants as leg
 use Rattle.wf_turn.specs.declared.stage.Stage.{Stage}
 use Rattle.wf_turn.specs.declared.stage.Stage.TheVariants as stage
 use Rattle.wf_turn.specs.declared.stage.Wanted.{Wanted}
+use Rattle.wf_turn.specs.Calls.{plain_call}
 use Rattle.wf_turn.specs.Playing.{Ends, EndsAt}
 use Rattle.wf_turn.specs.Program.{Program, first_call, first_line, given_canvas, go_on, handle, line_done, next, plain, ticking, took, took_at, took_canvas, took_first, took_frame, took_job, waiting, wanted_at, worked}
 use Rattle.wf_turn.specs.Turns.{frames_of}
 use Rattle.wf_turn.proofs.Own.{own_job}
 use Rattle.wf_turn.proofs.Painting.{done_painted, on_painted}
+use Rattle.wf_turn.proofs.Starts.{OfContext, OfPort, Starts, next_starts, port_starts}
 
 -- the calls that neither begin nor end a frame leave it as it is
 
@@ -68,6 +68,26 @@ back_frame canvas f h = of_test (is_out_at_client canvas h) refl
     of_test true is = rw is refl
     of_test false is = rw is refl
 
+destroyed_frame : (stream : ℕ) (h : State) → (stream_step h (stream_destroy stream h)).0.frame ≡ h.frame
+destroyed_frame stream h = of_stream (live_stream stream h) refl
+  where
+    of_stream : (r : Result KeptStream Refusal) → live_stream stream h ≡ r → (stream_step h (stream_destroy stream h)).0.frame ≡ h.frame
+    of_stream (Ok s) is = rw is refl
+    of_stream (Err r) is = rw is refl
+
+-- and so does any line's call that waits for nothing and carries nothing
+plain_frame : (handle : Option Name → ℕ) (h : State) (m : Bool) (v : Verb) → IfSome (plain_call handle v) (λ c. (act h c m).0.frame ≡ h.frame)
+unfolding act
+plain_frame handle h m (verb.StreamNew width height f b) = new_frame width height b f m h
+plain_frame handle h m (verb.StreamDestroy s) = destroyed_frame (handle s) h
+plain_frame handle h m (verb.Acquire s) = tt
+plain_frame handle h m verb.Post = tt
+plain_frame handle h m verb.Discard = tt
+plain_frame handle h m (verb.Paint paint) = tt
+plain_frame handle h m (verb.Frame s paint) = tt
+plain_frame handle h m verb.Tick = tt
+plain_frame handle h m _ = refl
+
 -- what is known of a program and of the running frame after a turn: the program holds the frame's Job, and its lines are
 -- the same; without a running frame it shows nothing
 pub record Leaves (p now : Program) (frame : Option Running) : Type 0 where
@@ -77,29 +97,15 @@ pub record Leaves (p now : Program) (frame : Option Running) : Type 0 where
 no_frame : (p now : Program) (o : Option Running) → o ≡ None → now.unpainted ≡ false → Leaves p now o
 no_frame p now o none painted = record { ends = rw none tt; shows = λ free. rw painted refl }
 
--- a frame of a port, and the program that took its answer
+-- a frame that begins, if one does, and the program that took the answer
 module _ (p q : Program) (h : State) (l : Leg) (free : h.frame ≡ None) (painted : q.unpainted ≡ false) (same : q.lines ≡ p.lines) where
-  runs_none : is_running h ≡ false
-  runs_none = ap is_some free
-
-  port_leaves : (port : ℤ) → Leaves p (took_job q (begin_port port h).1.payload l) (begin_port port h).0.frame
-  port_leaves port = of_scene (port_scene (count_of port) h.display) refl
-    where
-      Left : Type 0
-      Left = Leaves p (took_job q (begin_port port h).1.payload l) (begin_port port h).0.frame
-
-      of_limit : (s : Scene) → port_scene (count_of port) h.display ≡ Some s → (b : Bool) → all_begun h ≡ b → Left
-      of_limit s shows true is = rw (shows, runs_none, is) (no_frame p (go_on q l) h.frame free (on_painted q painted l))
-      of_limit s shows false is =
-          let job : Job = job_of (kind.Port (count_of port)) s Rgba8Pre h in
-          rw (shows, runs_none, is) (record { ends = (own_job (kind.Port (count_of port)) s Rgba8Pre h, same); shows = λ none. absurd cc })
-
-      of_scene : (o : Option Scene) → port_scene (count_of port) h.display ≡ o → Left
-      of_scene None is = rw is (no_frame p (go_on q l) h.frame free (on_painted q painted l))
-      of_scene (Some s) is = of_limit s is (all_begun h) refl
-
-  next_leaves : (after : ℕ) → Leaves p (took_job q (begin_next after h).1.payload l) (begin_next after h).0.frame
-  next_leaves after = rw runs_none (no_frame p (go_on q l) h.frame free (on_painted q painted l))
+  start_leaves : (Of : JobKind → Scene → Format → ℕ → Type 0) (x : State × Reply) → Starts Of h x → Leaves p (took_job q x.1.payload l) x.0.frame
+  start_leaves Of x (inl none) =
+      subst (λ (given : Payload). Leaves p (took_job q given l) x.0.frame) (sym none.payload)
+      (no_frame p (go_on q l) x.0.frame (ap (λ (s : State). s.frame) none.state ∙ free) (on_painted q painted l))
+  start_leaves Of x (inr begun) =
+      subst (λ (y : State × Reply). Leaves p (took_job q y.1.payload l) y.0.frame) (sym begun.is)
+      (record { ends = (own_job begun.kind begun.scene begun.format h, same); shows = λ none. absurd cc })
 
 -- a turn while no frame runs
 module _ (p : Program) (h : State) (client : ℕ) (m : Bool) (w : Wanted) (free : h.frame ≡ None) (painted : p.unpainted ≡ false) where
@@ -110,7 +116,7 @@ module _ (p : Program) (h : State) (client : ℕ) (m : Bool) (w : Wanted) (free 
   Left c now = Leaves p (now (answer_of c)) (answer_of c).0.frame
 
   at_acquire : (stream : ℕ) → Left (call.Acquire stream) (λ x. took_canvas p x.1.payload)
-  unfolding step
+  unfolding step act
   at_acquire stream =
       let x = answer_of (call.Acquire stream) in
       no_frame p (took_canvas p x.1.payload) x.0.frame (acquired_frame h (acquirable stream h) ∙ free) (done_painted (record p { canvas = given_canvas x.1.payload }) painted 0)
@@ -120,45 +126,38 @@ module _ (p : Program) (h : State) (client : ℕ) (m : Bool) (w : Wanted) (free 
   frame_painted paint (Some canvas) = painted
 
   at_frame : (paint : Paint) (stream : ℕ) → Left (call.Acquire stream) (λ x. took_frame p paint (given_canvas x.1.payload))
-  unfolding step
+  unfolding step act
   at_frame paint stream =
       let x = answer_of (call.Acquire stream) in
       no_frame p (took_frame p paint (given_canvas x.1.payload)) x.0.frame (acquired_frame h (acquirable stream h) ∙ free) (frame_painted paint (given_canvas x.1.payload))
 
   at_post : (canvas : Canvas) → Left (call.Post canvas) (λ x. took_canvas p x.1.payload)
-  unfolding step
+  unfolding step act
   at_post canvas =
       let x = answer_of (call.Post canvas) in
       no_frame p (took_canvas p x.1.payload) x.0.frame (back_frame canvas (posted canvas.image) h ∙ free) (done_painted (record p { canvas = given_canvas x.1.payload }) painted 0)
 
   at_discard : (canvas : Canvas) → Left (call.Discard canvas) (λ x. took_canvas p x.1.payload)
-  unfolding step
+  unfolding step act
   at_discard canvas =
       let x = answer_of (call.Discard canvas) in
       no_frame p (took_canvas p x.1.payload) x.0.frame (back_frame canvas discarded h ∙ free) (done_painted (record p { canvas = given_canvas x.1.payload }) painted 0)
 
-  at_new : (width height b : ℤ) (f : Format) → Left (call.StreamNew width height f b) (λ x. line_done p x.1.value)
+  -- a call of which the value is all that is taken
+  at_plain : (c : Call) → (act h c m).0.frame ≡ h.frame → Left c (λ x. line_done p x.1.value)
   unfolding step
-  at_new width height b f =
-      let x = answer_of (call.StreamNew width height f b) in
-      no_frame p (line_done p x.1.value) x.0.frame (new_frame width height b f m h ∙ free) (done_painted p painted x.1.value)
-
-  at_stat : (what : StatWord) → Left (call.Stat what) (λ x. line_done p x.1.value)
-  unfolding step
-  at_stat what =
-      let x = answer_of (call.Stat what) in
-      no_frame p (line_done p x.1.value) x.0.frame free (done_painted p painted x.1.value)
+  at_plain c kept = (let x = answer_of c in no_frame p (line_done p x.1.value) x.0.frame (kept ∙ free) (done_painted p painted x.1.value))
 
   at_next : (q : Program) (after : ℕ) (leg_of : ℕ → Leg) → q.unpainted ≡ false → q.lines ≡ p.lines → Left (call.BeginNext after) (λ x. took_job q x.1.payload (leg_of x.1.value))
-  unfolding step
-  at_next q after leg_of clean same = next_leaves p q h (leg_of (begin_next after h).1.value) free clean same after
+  unfolding step act
+  at_next q after leg_of clean same = start_leaves p q h (leg_of (begin_next after h).1.value) free clean same OfContext (begin_next after h) (next_starts after h)
 
   at_port : (q : Program) (port : ℤ) (l : Leg) → q.unpainted ≡ false → q.lines ≡ p.lines → Left (call.BeginPort port) (λ x. took_job q x.1.payload l)
-  unfolding step
-  at_port q port l clean same = port_leaves p q h l free clean same port
+  unfolding step act
+  at_port q port l clean same = start_leaves p q h l free clean same (OfPort h) (begin_port port h) (port_starts port h)
 
   at_end : (job : Job) (l : Leg) → Left (call.End job) (λ x. go_on (record p { job = None; unpainted = false }) l)
-  unfolding step
+  unfolding step act
   at_end job l = no_frame p (go_on (record p { job = None; unpainted = false }) l) (answer_of (call.End job)).0.frame (rw free refl) (on_painted (record p { job = None; unpainted = false }) refl l)
 
   -- what is asked for where no canvas is held, and with one
@@ -166,10 +165,12 @@ module _ (p : Program) (h : State) (client : ℕ) (m : Bool) (w : Wanted) (free 
   unheld true x asks = absurd cc
   unheld false x asks = cc
 
+  -- a line that is one such call
+  plain_leaves : (o : Option Call) → IfSome o (λ c. (act h c m).0.frame ≡ h.frame) → option_map plain o ≡ Some w → Left w.call (λ x. line_done p x.1.value)
+  plain_leaves None kept asks = absurd cc
+  plain_leaves (Some c) kept asks = (let is : plain c ≡ w = cc in subst (λ (y : Wanted). Left y.call (λ x. line_done p x.1.value)) is (at_plain c kept))
+
   first_leaves : (l : Line) (v : Verb) → first_call p v ≡ Some w → Left w.call (λ x. took_first p (record l { verb = v }) x.1)
-  first_leaves l (verb.StreamNew width height f b) asks =
-      let is : plain (call.StreamNew width height f b) ≡ w = cc in
-      subst (λ (y : Wanted). Left y.call (λ x. line_done p x.1.value)) is (at_new width height b f)
   first_leaves l (verb.Acquire s) asks =
       subst (λ (y : Wanted). Left y.call (λ x. took_canvas p x.1.payload)) (unheld (is_some p.canvas) (plain (call.Acquire (handle p s))) asks) (at_acquire (handle p s))
   first_leaves l verb.Post asks = of_canvas p.canvas asks
@@ -182,15 +183,13 @@ module _ (p : Program) (h : State) (client : ℕ) (m : Bool) (w : Wanted) (free 
       of_canvas : (o : Option Canvas) → option_map (λ (c : Canvas). plain (call.Discard c)) o ≡ Some w → Left w.call (λ x. took_canvas p x.1.payload)
       of_canvas None asks = absurd cc
       of_canvas (Some c) asks = (let is : plain (call.Discard c) ≡ w = cc in subst (λ (y : Wanted). Left y.call (λ x. took_canvas p x.1.payload)) is (at_discard c))
-  first_leaves l (verb.Stat what) asks =
-      let is : plain (call.Stat what) ≡ w = cc in
-      subst (λ (y : Wanted). Left y.call (λ x. line_done p x.1.value)) is (at_stat what)
   first_leaves l (verb.Paint paint) asks = absurd cc
   first_leaves l (verb.Frame s paint) asks =
       subst (λ (y : Wanted). Left y.call (λ x. took_frame p paint (given_canvas x.1.payload))) (unheld (is_some p.canvas) (plain (call.Acquire (handle p s))) asks) (at_frame paint (handle p s))
   first_leaves l verb.Tick asks =
       let is : waiting (call.BeginNext 0) ≡ w = cc in
       subst (λ (y : Wanted). Left y.call (λ x. took_job (ticking p) x.1.payload (leg.Contexts 1 x.1.value))) is (at_next (ticking p) 0 (λ v. leg.Contexts 1 v) painted refl)
+  first_leaves l v asks = plain_leaves (plain_call (handle p) v) (plain_frame (handle p) h m v) asks
 
   stage_leaves : (l : Line) (s : Stage) → wanted_at p l.verb s ≡ Some w → Left w.call (λ x. took_at p l x.1 s)
   stage_leaves l stage.Fresh asks = first_leaves l l.verb asks
@@ -218,7 +217,7 @@ module _ (p : Program) (h : State) (client : ℕ) (m : Bool) (w : Wanted) (free 
       of_line None none = absurd (let no : None ≡ Some w = rw none at asks in cc)
       of_line (Some l) is = rw is (stage_leaves l p.stage (rw is at asks))
 
-nothing_shown : (q : Program) → q.unpainted ≡ false → frames_of q ≡ []
+pub nothing_shown : (q : Program) → q.unpainted ≡ false → frames_of q ≡ []
 nothing_shown q painted = rw painted refl
 
 -- a turn of the program that ends the running frame
@@ -230,7 +229,7 @@ module _ (p : Program) (h : State) (client : ℕ) (m : Bool) (w : Wanted) (f : R
     pub shows : frames_of (took p (step h client w.call m).1) ≡ []
 
   at_job : (l : Line) (leg : Leg) (o : Option Job) → first_line p ≡ Some l → p.stage ≡ stage.Ending leg → p.job ≡ o → EndsAt o f (stage.Ending leg) → Ended
-  unfolding step
+  unfolding step act
   at_job l leg None is at job own = absurd own
   at_job l leg (Some j) is at job own =
       let wanted : Some (plain (call.End j)) ≡ Some w = rw (is, at, job) at asks in

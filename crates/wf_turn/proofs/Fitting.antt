@@ -94,14 +94,12 @@ holds_first p l reply few = of_all l.verb
     At v = Holds (took_first p (record l { verb = v }) reply)
 
     of_all : (v : Verb) → At v
-    of_all (verb.StreamNew w h f b) = holds_done p reply.value few
     of_all (verb.Acquire s) = holds_done (record p { canvas = given_canvas reply.payload }) 0 few
     of_all verb.Post = holds_done (record p { canvas = given_canvas reply.payload }) 0 few
     of_all verb.Discard = holds_done (record p { canvas = given_canvas reply.payload }) 0 few
-    of_all (verb.Stat w) = holds_done p reply.value few
-    of_all (verb.Paint paint) = holds_done p reply.value few
     of_all (verb.Frame s paint) = holds_frame p paint (given_canvas reply.payload) few
     of_all verb.Tick = holds_job (ticking p) reply.payload (leg.Contexts 1 reply.value) (omega arith) few
+    of_all _ = holds_done p reply.value few
 
 holds_leg : (p : Program) (reply : Reply) (l : Leg) → IsAsking (port_count p) l → port_count p ≤ 4 → Holds (took_leg p reply l)
 holds_leg p reply (leg.Contexts asked last) asking few = holds_job p reply.payload (leg.Contexts (asked + 1) reply.value) (omega (arith, asking)) few
@@ -174,14 +172,12 @@ wants p l fit is = rw is (of_stage p.stage (rw is at fit.at))
     of_held false w held = refl
 
     of_verb : (v : Verb) → IsTrue (is_event (is_some p.canvas) v) → IsSome (first_call p v)
-    of_verb (verb.StreamNew w h f b) event = refl
     of_verb (verb.Acquire s) event = of_held (is_some p.canvas) _ event
     of_verb verb.Post event = of_map _ p.canvas event
     of_verb verb.Discard event = of_map _ p.canvas event
-    of_verb (verb.Stat w) event = refl
     of_verb (verb.Paint paint) event = absurd cc
     of_verb (verb.Frame s paint) event = of_held (is_some p.canvas) _ event
-    of_verb verb.Tick event = refl
+    of_verb _ event = refl
 
     of_stage : (s : Stage) → IsAt p l s → IsSome (wanted_at p l.verb s)
     of_stage stage.Fresh at = of_verb l.verb at

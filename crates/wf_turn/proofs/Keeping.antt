@@ -62,15 +62,13 @@ module _ (P : Program → Type 0) (keeps : (p : Program) (lines : List (ℕ × L
   keeps_frame p paint (Some canvas) holds = keeps p p.lines p.own (Some (painted_canvas paint canvas)) p.job p.unpainted stage.Posting p.tick holds
 
   keeps_first : (p : Program) (l : Line) (v : Verb) (reply : Reply) → P p → P (took_first p (record l { verb = v }) reply)
-  keeps_first p l (verb.StreamNew w h f b) reply holds = keeps_done p reply.value holds
   keeps_first p l (verb.Acquire s) reply holds = keeps_canvas p (given_canvas reply.payload) holds
   keeps_first p l verb.Post reply holds = keeps_canvas p (given_canvas reply.payload) holds
   keeps_first p l verb.Discard reply holds = keeps_canvas p (given_canvas reply.payload) holds
-  keeps_first p l (verb.Stat what) reply holds = keeps_done p reply.value holds
-  keeps_first p l (verb.Paint paint) reply holds = keeps_done p reply.value holds
   keeps_first p l (verb.Frame s paint) reply holds = keeps_frame p paint (given_canvas reply.payload) holds
   keeps_first p l verb.Tick reply holds =
       keeps_job (ticking p) reply.payload (leg.Contexts 1 reply.value) (keeps p p.lines p.own p.canvas p.job p.unpainted (stage.Ticking (leg.Contexts 0 0)) (p.tick + 1) holds)
+  keeps_first p l _ reply holds = keeps_done p reply.value holds
 
   keeps_leg : (p : Program) (reply : Reply) (l : Leg) → P p → P (took_leg p reply l)
   keeps_leg p reply (leg.Contexts asked last) holds = keeps_job p reply.payload (leg.Contexts (asked + 1) reply.value) holds

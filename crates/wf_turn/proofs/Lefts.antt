@@ -74,14 +74,13 @@ module _ (p : Program) (l : ℕ × Line) (ls : List (ℕ × Line)) where
 
 left_first : (p : Program) (l : ℕ × Line) (ls : List (ℕ × Line)) (v : Verb) (reply : Reply) → IsTrue (is_event (is_some p.canvas) v) → port_count p ≤ 4
     → left (took_first (record p { lines = l ∷ ls }) (record l.1 { verb = v }) reply) + 1 ≤ line_quota v + lines_left ls
-left_first p l ls (verb.StreamNew w h f b) reply event few = omega (arith, left_done p l ls reply.value)
 left_first p l ls (verb.Acquire s) reply event few = omega (arith, left_done (record p { canvas = given_canvas reply.payload }) l ls 0)
 left_first p l ls verb.Post reply event few = omega (arith, left_done (record p { canvas = given_canvas reply.payload }) l ls 0)
 left_first p l ls verb.Discard reply event few = omega (arith, left_done (record p { canvas = given_canvas reply.payload }) l ls 0)
-left_first p l ls (verb.Stat w) reply event few = omega (arith, left_done p l ls reply.value)
 left_first p l ls (verb.Paint paint) reply event few = absurd cc
 left_first p l ls (verb.Frame s paint) reply event few = omega (arith, left_frame p l ls paint (given_canvas reply.payload))
 left_first p l ls verb.Tick reply event few = omega (arith, few, left_job (ticking p) l ls reply.payload (leg.Contexts 1 reply.value))
+left_first p l ls _ reply event few = omega (arith, left_done p l ls reply.value)
 
 left_leg : (p : Program) (l : ℕ × Line) (ls : List (ℕ × Line)) (m : Leg) (reply : Reply) → IsAsking (port_count p) m → left (took_leg (record p { lines = l ∷ ls }) reply m) + 1 ≤ leg_left (port_count p) m + lines_left ls
 left_leg p l ls (leg.Contexts asked last) reply asking = omega (arith, asking, left_job p l ls reply.payload (leg.Contexts (asked + 1) reply.value))

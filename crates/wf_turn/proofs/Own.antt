@@ -91,6 +91,7 @@ same_formats format.Rgbx8 = refl
 same_formats format.A8 = refl
 
 same_kinds : (k : JobKind) → same_kind k k ≡ true
+same_kinds (kind.Context handle target) = rw (eq-eqb handle handle refl, eq-eqb target target refl) refl
 same_kinds (kind.Port p) = eq-eqb p p refl
 
 -- of images that stand apart, each has its own shape, among more images too

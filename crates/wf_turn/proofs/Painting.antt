@@ -1,22 +1,22 @@
 -- The Job that a program takes can be painted.
-use Rattle.std.proofs.Common.{◌≡◌, ◌∙◌, ℕ, ◌+◌, Bool, true, false, not, cond, ◌==◌, ◌||◌, List, [], ◌∷◌, Option, Some, None, refl, sym, ap, subst}
-use Rattle.std.specs.Prelude.{nat_lt, ℤ}
-use Rattle.wf_words.specs.Whole.{count_of}
+use Rattle.std.proofs.Common.{◌≡◌, ◌∙◌, ℕ, ◌+◌, Bool, true, false, not, cond, ◌==◌, ◌||◌, inl, inr, List, [], ◌∷◌, Option, Some, None, refl, sym, ap, subst}
+use Rattle.std.specs.Prelude.{nat_lt}
+use Rattle.wf_pixel.specs.declared.Format.{Format}
 use Rattle.wf_image.specs.declared.canvas.Canvas.{Canvas}
 use Rattle.wf_scene.specs.declared.Scene.{Scene}
 use Rattle.wf_calls.specs.declared.call.Call.{Call}
 use Rattle.wf_calls.specs.declared.call.Call.TheVariants as call
 use Rattle.wf_calls.specs.declared.call.Job.{Job}
+use Rattle.wf_calls.specs.declared.call.JobKind.{JobKind}
 use Rattle.wf_calls.specs.declared.call.Payload.{Payload}
 use Rattle.wf_calls.specs.declared.call.Payload.TheVariants as payload
 use Rattle.wf_calls.specs.declared.call.Reply.{Reply}
 use Rattle.wf_calls.specs.declared.code.Code.TheVariants as code
 use Rattle.wf_calls.specs.Codes.{is_ok_code}
 use Rattle.wf_machine.specs.Object.{CarriesPaintable, IsAnswer, IsPaintable, MayAnswer, SamePayload, is_begin}
-use Rattle.wf_model.specs.Display.{port_scene}
-use Rattle.wf_model.specs.Frames.{all_begun, begin_next, begin_port, is_running}
+use Rattle.wf_model.specs.Frames.{begin_next, begin_port}
 use Rattle.wf_model.specs.State.{State}
-use Rattle.wf_model.specs.Step.{step}
+use Rattle.wf_model.specs.Step.{act, step}
 use Rattle.wf_script.specs.declared.line.Line.{Line}
 use Rattle.wf_script.specs.declared.line.Verb.{Verb}
 use Rattle.wf_script.specs.declared.line.Verb.TheVariants as verb
@@ -27,35 +27,16 @@ use Rattle.wf_turn.specs.declared.stage.Stage.TheVariants as stage
 use Rattle.wf_turn.specs.declared.stage.Wanted.{Wanted}
 use Rattle.wf_turn.specs.Program.{Program, asked_for, at_port, first_call, first_line, given_canvas, go_on, line_done, next, port_count, ticking, took, took_at, took_first, took_frame, took_job, took_leg, wanted_at, waiting}
 use Rattle.wf_turn.specs.Ready.{IsWork}
+use Rattle.wf_turn.proofs.Starts.{OfContext, OfPort, Starts, next_starts, port_starts}
 
 -- an answer that may carry a Job carries one only with Ok
 abbrev JobIsOk : Reply → Type 0
 JobIsOk wanted = (job : Job) → wanted.payload ≡ payload.Job job → wanted.code ≡ code.Ok
 
-next_ok : (after : ℕ) (h : State) → JobIsOk (begin_next after h).1
-next_ok after h job has = of_test (is_running h) refl
-  where
-    of_test : (b : Bool) → is_running h ≡ b → (begin_next after h).1.code ≡ code.Ok
-    of_test true is = absurd (let none : payload.Nothing ≡ payload.Job job = rw is at has in cc)
-    of_test false is = rw is refl
-
-port_ok : (port : ℤ) (h : State) → JobIsOk (begin_port port h).1
-port_ok port h job has = of_scene (port_scene (count_of port) h.display) refl
-  where
-    Ok : Type 0
-    Ok = (begin_port port h).1.code ≡ code.Ok
-
-    of_limit : (s : Scene) → port_scene (count_of port) h.display ≡ Some s → is_running h ≡ false → (b : Bool) → all_begun h ≡ b → Ok
-    of_limit s shows runs true is = absurd (let none : payload.Nothing ≡ payload.Job job = rw (shows, runs, is) at has in cc)
-    of_limit s shows runs false is = rw (shows, runs, is) refl
-
-    of_running : (s : Scene) → port_scene (count_of port) h.display ≡ Some s → (b : Bool) → is_running h ≡ b → Ok
-    of_running s shows true is = absurd (let none : payload.Nothing ≡ payload.Job job = rw (shows, is) at has in cc)
-    of_running s shows false is = of_limit s shows is (all_begun h) refl
-
-    of_scene : (o : Option Scene) → port_scene (count_of port) h.display ≡ o → Ok
-    of_scene None is = absurd (let none : payload.Nothing ≡ payload.Job job = rw is at has in cc)
-    of_scene (Some s) is = of_running s is (is_running h) refl
+-- so it is with a call that begins a frame
+begun_ok : (Of : JobKind → Scene → Format → ℕ → Type 0) (h : State) (x : State × Reply) → Starts Of h x → JobIsOk x.1
+begun_ok Of h x (inl none) job has = absurd (let no : payload.Nothing ≡ payload.Job job = sym none.payload ∙ has in cc)
+begun_ok Of h x (inr begun) job has = ap (λ (y : State × Reply). y.1.code) begun.is
 
 -- a Job that comes with an answer as wanted comes with one that is wanted
 wanted_job : (is_new : Bool) (wanted : Payload) (job : Job) → SamePayload is_new wanted (payload.Job job) → (j : Job) × (wanted ≡ payload.Job j)
@@ -73,15 +54,10 @@ carried wanted given job ok answer has =
 
 -- a Job that comes with the answer to a call that begins a frame can be painted
 begun_paintable : (h : State) (client : ℕ) (c : Call) (reply : Reply) (job : Job) → is_begin c ≡ true → MayAnswer h client c reply → reply.payload ≡ payload.Job job → IsPaintable job
-unfolding step
-begun_paintable h client (call.StreamNew w ht f b) reply job begins may has = absurd cc
-begun_paintable h client (call.Acquire s) reply job begins may has = absurd cc
-begun_paintable h client (call.Post canvas) reply job begins may has = absurd cc
-begun_paintable h client (call.Discard canvas) reply job begins may has = absurd cc
-begun_paintable h client (call.Stat what) reply job begins may has = absurd cc
-begun_paintable h client (call.BeginNext after) reply job begins may has = carried (begin_next after h).1 reply job (next_ok after h) may has
-begun_paintable h client (call.BeginPort port) reply job begins may has = carried (begin_port port h).1 reply job (port_ok port h) may has
-begun_paintable h client (call.End j) reply job begins may has = absurd cc
+unfolding step act
+begun_paintable h client (call.BeginNext after) reply job begins may has = carried (begin_next after h).1 reply job (begun_ok OfContext h (begin_next after h) (next_starts after h)) may has
+begun_paintable h client (call.BeginPort port) reply job begins may has = carried (begin_port port h).1 reply job (begun_ok (OfPort h) h (begin_port port h) (port_starts port h)) may has
+begun_paintable h client _ reply job begins may has = absurd cc
 
 -- no Job is left to paint by what goes on without one
 module _ (p : Program) (painted : p.unpainted ≡ false) where
@@ -113,12 +89,9 @@ module _ (p : Program) (h : State) (client : ℕ) (w : Wanted) (reply : Reply) (
   begins_work begins job has = begun_paintable h client w.call reply job begins may has
 
   first_work : (l : Line) (v : Verb) → first_call p v ≡ Some w → IsWork (took_first p (record l { verb = v }) reply)
-  first_work l (verb.StreamNew width ht f b) wants = no_work (line_done p reply.value) (done_painted p painted reply.value)
   first_work l (verb.Acquire s) wants = no_work (took_first p (record l { verb = verb.Acquire s }) reply) (done_painted (record p { canvas = given_canvas reply.payload }) painted 0)
   first_work l verb.Post wants = no_work (took_first p (record l { verb = verb.Post }) reply) (done_painted (record p { canvas = given_canvas reply.payload }) painted 0)
   first_work l verb.Discard wants = no_work (took_first p (record l { verb = verb.Discard }) reply) (done_painted (record p { canvas = given_canvas reply.payload }) painted 0)
-  first_work l (verb.Stat what) wants = no_work (line_done p reply.value) (done_painted p painted reply.value)
-  first_work l (verb.Paint paint) wants = no_work (line_done p reply.value) (done_painted p painted reply.value)
   first_work l (verb.Frame s paint) wants = of_canvas (given_canvas reply.payload)
     where
       of_canvas : (c : Option Canvas) → IsWork (took_frame p paint c)
@@ -127,6 +100,7 @@ module _ (p : Program) (h : State) (client : ℕ) (w : Wanted) (reply : Reply) (
   first_work l verb.Tick wants =
       let is : waiting (call.BeginNext 0) ≡ w = cc in
       job_work (ticking p) reply.payload (leg.Contexts 1 reply.value) painted (begins_work (ap (λ (x : Wanted). is_begin x.call) (sym is)))
+  first_work l _ wants = no_work (line_done p reply.value) (done_painted p painted reply.value)
 
   leg_work : (m : Leg) → asked_for m ≡ w → IsWork (took_leg p reply m)
   leg_work (leg.Contexts asked last) is = job_work p reply.payload (leg.Contexts (asked + 1) reply.value) painted (begins_work (ap (λ (x : Wanted). is_begin x.call) (sym is)))

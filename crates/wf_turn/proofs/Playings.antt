@@ -76,6 +76,7 @@ pub one_shown : (painted : Bool) (ps : List Program) (client : ℕ) → (shown_b
 one_shown painted ps client = of_program (slice_get ps client) refl
   where
     of_kind : (k : JobKind) (tick : ℕ) (job : Job) → (shown k tick job ≡ []) ⊎ ((f : Frame) × (shown k tick job ≡ f ∷ []))
+    of_kind (kind.Context handle target) tick job = inl refl
     of_kind (kind.Port port) tick job = inr (frame_of port tick job.image, refl)
 
     of_job : (p : Program) (o : Option Job) → p.job ≡ o → (job_frames p ≡ []) ⊎ ((f : Frame) × (job_frames p ≡ f ∷ []))

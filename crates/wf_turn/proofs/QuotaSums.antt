@@ -23,14 +23,10 @@ total_more f n = from 0 n ∙ ap (λ (k : ℕ). sum_by f (range_with_len 0 n) + 
         rw shift (sum_by-cons f a (range_with_len (a + 1) (n + 1)) ∙ ap (λ (k : ℕ). f a + k) (from (a + 1) n) ∙ rw at (omega (arith, sum_by-cons f a (range_with_len (a + 1) n))))
 
 least_40 : (v : Verb) → line_quota v ≤ 40
-least_40 (verb.StreamNew w h f b) = omega arith
-least_40 (verb.Acquire s) = omega arith
-least_40 verb.Post = omega arith
-least_40 verb.Discard = omega arith
-least_40 (verb.Stat w) = omega arith
 least_40 (verb.Paint p) = omega arith
 least_40 (verb.Frame s p) = omega arith
 least_40 verb.Tick = omega arith
+least_40 _ = omega arith
 
 -- a line is of one client at most
 one_client : (l : Line) (a n : ℕ) → sum_by (λ c. quota_of c l) (range_with_len a n) ≤ line_quota l.verb

@@ -1,19 +1,25 @@
 -- Worked scripts: what the plain machine and the plain player make of them.
-use Rattle.std.proofs.Common.{◌≡◌, ℕ, List, [], ◌∷◌, Option, Some, None, codes, length, pos, refl}
+use Rattle.std.proofs.Common.{◌≡◌, ℕ, List, [], ◌∷◌, map, Option, Some, None, codes, length, pos, refl}
 use Rattle.wf_pixel.specs.declared.Rgba.{Rgba}
+use Rattle.wf_pixel.specs.declared.Size.{Size}
 use Rattle.wf_pixel.specs.declared.Format.TheVariants.{Rgba8}
 use Rattle.wf_image.specs.declared.paint.Paint.TheVariants.{Fill}
 use Rattle.wf_image.specs.Bitmap.{drawn}
+use Rattle.wf_scene.specs.declared.attributes.ElementAttr.{ElementAttr}
+use Rattle.wf_scene.specs.declared.attributes.ElementAttr.TheVariants as element
 use Rattle.wf_calls.specs.declared.call.StatWord.TheVariants as stat
 use Rattle.wf_calls.specs.declared.order.Turn.{Turn}
-use Rattle.wf_model.specs.Step.{step}
+use Rattle.wf_film.specs.Film.{Frame}
+use Rattle.wf_model.specs.Step.{act, step}
 use Rattle.wf_script.specs.declared.line.Line.{Line}
+use Rattle.wf_script.specs.declared.line.Value.{Value}
+use Rattle.wf_script.specs.declared.line.Value.TheVariants as value
 use Rattle.wf_script.specs.declared.line.Verb.{Verb}
 use Rattle.wf_script.specs.declared.line.Verb.TheVariants as verb
 use Rattle.wf_script.specs.declared.name.Name.{Name}
 use Rattle.wf_script.specs.Script.{PlainScript}
 use Rattle.wf_turn.specs.Turns.{turn}
-use Rattle.wf_turn.specs.Play.{serial_from, serial_order, replay_from, film}
+use Rattle.wf_turn.specs.Play.{serial_from, serial_order, replay_from, film, frames_after, replay}
 
 abbrev line : ℕ → Verb → Line
 line client v = record { client = client; name = None; verb = v }
@@ -24,21 +30,25 @@ s = Some (codes "s")
 abbrev grey : Rgba
 grey = record { r = 9; g = 9; b = 9; a = 255 }
 
--- a script of a port of 1 by 1
-abbrev on_a_pixel : List Line → PlainScript
-on_a_pixel lines =
+-- a script of one port
+abbrev on_port : Size → List Line → PlainScript
+on_port size lines =
     record {
-      ports = record { modes = record { items = record { sizes = record { items = record { w = 1; h = 1 } ∷ [] } } ∷ [] }; pipes = 0 };
+      ports = record { modes = record { items = record { sizes = record { items = size ∷ [] } } ∷ [] }; pipes = 0 };
       lines = lines;
     }
 
+-- a line of client 0 that makes what a name stands for
+abbrev made : Option Name → Verb → Line
+made name v = record { client = 0; name = name; verb = v }
+
 abbrev new_stream : Line
-new_stream = record { client = 0; name = s; verb = verb.StreamNew (pos 1) (pos 1) Rgba8 (pos 2) }
+new_stream = made s (verb.StreamNew (pos 1) (pos 1) Rgba8 (pos 2))
 
 -- a stream is written by client 0, while client 1 asks for it in vain
 abbrev written : PlainScript
 written =
-    on_a_pixel
+    on_port (record { w = 1; h = 1 })
     (new_stream ∷ line 0 (verb.Acquire s) ∷ line 1 (verb.Acquire s) ∷ line 0 (verb.Paint (Fill grey)) ∷ line 0 verb.Post
     ∷ line 0 (verb.Stat stat.Streams) ∷ line 0 (verb.Stat stat.Bytes) ∷ [])
 
@@ -49,9 +59,57 @@ abbrev written_order : List Turn
 written_order = entry 0 0 1 ∷ entry 0 0 0 ∷ entry 1 7 0 ∷ entry 0 0 0 ∷ entry 0 0 2 ∷ entry 0 0 20 ∷ []
 
 written_serially : serial_order written [] ≡ written_order
-unfolding serial_from turn step drawn
+unfolding serial_from turn step act drawn
 written_serially = refl
 
 written_film : length (film written written_order) ≡ 46
-unfolding replay_from turn step drawn
+unfolding replay_from turn step act drawn
 written_film = refl
+
+-- an element shows a stream on all of a port's screen: a tick begins and ends a frame of the context, finds no context
+-- more, and then shows the port
+abbrev d : Option Name
+d = Some (codes "d")
+
+abbrev c : Option Name
+c = Some (codes "c")
+
+abbrev x : Option Name
+x = Some (codes "x")
+
+abbrev e : Option Name
+e = Some (codes "e")
+
+abbrev set : ElementAttr → Value → Line
+set attr to = line 0 (verb.ElementSet d e attr to)
+
+abbrev composed : PlainScript
+composed =
+    on_port (record { w = 4; h = 2 })
+    (made d verb.DeviceNew ∷ made c (verb.ScreenContext d (pos 1)) ∷ new_stream ∷ made x (verb.SourceNew d c s) ∷ made e (verb.ElementNew d c)
+    ∷ set element.Source (value.Handle x) ∷ set element.SrcRect (value.Numbers (pos 0 ∷ pos 0 ∷ pos 1 ∷ pos 1 ∷ [])) ∷ set element.Dest (value.Numbers (pos 0 ∷ pos 0 ∷ pos 4 ∷ pos 2 ∷ []))
+    ∷ line 0 (verb.ElementInsert d e None) ∷ line 0 (verb.Commit d c) ∷ line 0 (verb.Activate d c) ∷ line 0 (verb.Frame s (Fill grey)) ∷ line 0 verb.Tick ∷ [])
+
+abbrev composed_order : List Turn
+composed_order = map (entry 0 0) (1 ∷ 2 ∷ 3 ∷ 4 ∷ 5 ∷ 0 ∷ 0 ∷ 0 ∷ 0 ∷ 0 ∷ 0 ∷ 0 ∷ 0 ∷ 2 ∷ 0 ∷ 0 ∷ 1 ∷ 0 ∷ [])
+
+composed_serially : serial_order composed [] ≡ composed_order
+unfolding serial_from turn step act drawn
+composed_serially = refl
+
+abbrev grey_screen : Frame
+grey_screen =
+    record {
+      port = 1;
+      tick = 1;
+      size = record { w = 4; h = 2 };
+      pixels = 9 ∷ 9 ∷ 9 ∷ 255 ∷ 9 ∷ 9 ∷ 9 ∷ 255 ∷ 9 ∷ 9 ∷ 9 ∷ 255 ∷ 9 ∷ 9 ∷ 9 ∷ 255 ∷ 9 ∷ 9 ∷ 9 ∷ 255 ∷ 9 ∷ 9 ∷ 9 ∷ 255 ∷ 9 ∷ 9 ∷ 9 ∷ 255 ∷ 9 ∷ 9 ∷ 9 ∷ 255 ∷ [];
+    }
+
+composed_frames : frames_after (replay composed composed_order) ≡ grey_screen ∷ []
+unfolding replay_from turn step act drawn
+composed_frames = refl
+
+composed_film : length (film composed composed_order) ≡ 160
+unfolding replay_from turn step act drawn
+composed_film = refl

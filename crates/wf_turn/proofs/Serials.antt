@@ -24,7 +24,7 @@ replay_next show after t ts e =
     ap (λ (o : Option (Show × Turn)). elim (replay_turn t o) as (λ _. Option Show) [ None ↦ None | Some x ↦ replay_from x ts ]) e
     ∙ rw (same_self t) refl
 
-nothing_replayed : (show : Show) → replay_from show [] ≡ Some show
+pub nothing_replayed : (show : Show) → replay_from show [] ≡ Some show
 unfolding replay_from
 nothing_replayed show = refl
 

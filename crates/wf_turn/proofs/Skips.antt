@@ -46,14 +46,12 @@ place_here client at lines l within is here =
 
 -- a line that makes no event binds no name
 binds_none : (held : Bool) (v : Verb) → is_event held v ≡ false → is_creation v ≡ false
-binds_none held (verb.StreamNew w h f b) silent = absurd cc
 binds_none held (verb.Acquire s) silent = refl
 binds_none held verb.Post silent = refl
 binds_none held verb.Discard silent = refl
-binds_none held (verb.Stat w) silent = refl
 binds_none held (verb.Paint p) silent = refl
 binds_none held (verb.Frame s p) silent = refl
-binds_none held verb.Tick silent = refl
+binds_none held _ silent = absurd cc
 
 nothing_bound : (client at : ℕ) (lines : List Line) (l : Line) → at < length lines → l ≡ get_or lines at l → bound_by client l ≡ None → bound_names client (take (at + 1) lines) ≡ bound_names client (take at lines)
 nothing_bound client at lines l within is none =

@@ -2,6 +2,7 @@
 pub mod Index
 pub mod Names
 pub mod Tables
+pub mod Calls
 pub mod Program
 pub mod Ready
 pub mod Quota
@@ -9,5 +10,6 @@ pub mod Passing
 pub mod Inside
 pub mod Turns
 pub mod Play
+pub mod Moments
 pub mod Serial
 pub mod Playing

@@ -9,6 +9,11 @@ use Rattle.wf_script.specs.declared.name.Name.{Name}
 -- a creation: its answer's value is kept under the line's name
 abbrev pub is_creation : Verb → Bool
 is_creation (verb.StreamNew width height format buffers) = true
+is_creation verb.DeviceNew = true
+is_creation (verb.ScreenContext device port) = true
+is_creation (verb.ElementNew device context) = true
+is_creation (verb.SourceNew device context stream) = true
+is_creation (verb.MaskNew device context stream) = true
 is_creation _ = false
 
 -- the name that a line binds

@@ -21,6 +21,7 @@ use Rattle.wf_turn.specs.declared.stage.Leg.TheVariants as leg
 use Rattle.wf_turn.specs.declared.stage.Stage.{Stage}
 use Rattle.wf_turn.specs.declared.stage.Stage.TheVariants as stage
 use Rattle.wf_turn.specs.declared.stage.Wanted.{Wanted}
+use Rattle.wf_turn.specs.Calls.{plain_call}
 use Rattle.wf_turn.specs.Names.{bound_name, bound_names, value_of}
 
 -- its script and its client; its lines that are not through, each with its place in the file; the values of the names
@@ -71,14 +72,13 @@ is_event held _ = true
 
 -- the call that a line begins with, or none where it makes no event
 abbrev pub first_call : Program → Verb → Option Wanted
-first_call p (verb.StreamNew width height format buffers) = Some (plain (call.StreamNew width height format buffers))
 first_call p (verb.Acquire stream) = if is_some p.canvas then None else Some (plain (call.Acquire (handle p stream)))
 first_call p verb.Post = option_map (λ canvas. plain (call.Post canvas)) p.canvas
 first_call p verb.Discard = option_map (λ canvas. plain (call.Discard canvas)) p.canvas
-first_call p (verb.Stat what) = Some (plain (call.Stat what))
 first_call p (verb.Paint paint) = None
 first_call p (verb.Frame stream paint) = if is_some p.canvas then None else Some (plain (call.Acquire (handle p stream)))
 first_call p verb.Tick = Some (waiting (call.BeginNext 0))
+first_call p v = option_map plain (plain_call (handle p) v)
 
 -- what a tick asks for
 abbrev pub asked_for : Leg → Wanted

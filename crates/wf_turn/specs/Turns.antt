@@ -44,8 +44,9 @@ abbrev pub program_at : Show → ℕ → Option Program
 program_at show client =
     if not (client == 0) && is_setting_up show.programs then None else slice_get show.programs client
 
--- the frame that a Job shows in a tick
+-- the frame that a Job shows in a tick; that of a context shows none
 abbrev pub shown : JobKind → ℕ → Job → List Frame
+shown (kind.Context handle target) tick job = []
 shown (kind.Port port) tick job = frame_of port tick job.image ∷ []
 
 -- the frame of a Job that is painted next

@@ -1,7 +1,9 @@
 //! The clients of a script: their programs, their turns, and the film of an order.
 #![tactic(auto)]
 
+mod calls;
 mod index;
+mod laws;
 mod names;
 mod player;
 mod program;
@@ -15,6 +17,7 @@ mod taking;
 mod tests;
 mod turning;
 
+pub use laws::each_frame_is_of_a_moment;
 pub use player::{PlayStop, serial};
 pub use program::Program;
 pub use quotas::quota;

@@ -15,7 +15,15 @@ use wf_words::NoMemory;
 pub(crate) fn is_creation(verb: &Verb) -> bool
     ensures { result ≡ is_creation verb.now }
 {
-    matches!(verb, Verb::StreamNew { .. })
+    matches!(
+        verb,
+        Verb::StreamNew { .. }
+            | Verb::DeviceNew
+            | Verb::ScreenContext { .. }
+            | Verb::ElementNew { .. }
+            | Verb::SourceNew { .. }
+            | Verb::MaskNew { .. }
+    )
 }
 
 /// The name that a line binds, if it is a client's.

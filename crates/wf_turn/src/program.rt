@@ -1,9 +1,10 @@
 //! The program of a client: its lines one after another, as calls.
 
-ghost use Rattle.std.specs.Prelude.{◌≡◌, is_some, slice_get, IfOk, IfSome, IsSomeAnd, IsTrue, Some, None, if◌then◌else◌};
+ghost use Rattle.std.specs.Prelude.{◌≡◌, is_some, option_map, slice_get, IfOk, IfSome, IsSomeAnd, IsTrue, Some, None, if◌then◌else◌};
 ghost use Rattle.std.specs.List.{list_all};
 ghost use Rattle.std.specs.Option.{option_copied};
 ghost use Rattle.wf_script.specs.Script.{is_line};
+ghost use Rattle.wf_turn.specs.Calls.{plain_call};
 ghost use Rattle.wf_turn.specs.Program.{asked_for, first_call, first_line, handed, handle, in_setup, kept_first, next, plain, place_of, program, taught, waiting};
 
 use crate::names::Names;
@@ -107,7 +108,7 @@ impl<'a> Program<'a> {
     }
 
     /// The value of a name, or 0 for none.
-    fn handle(&self, name: &'a Option<Name>) -> u32
+    pub(crate) fn handle(&self, name: &'a Option<Name>) -> u32
         ensures { result ≡ handle self.now name.now }
     {
         let Some(name) = name else {
@@ -133,24 +134,20 @@ impl<'a> Program<'a> {
         ensures handed { self.new ≡ record self.old { canvas = kept_first verb.now self.old.canvas } }
     {
         match verb {
-            Verb::StreamNew {
-                width,
-                height,
-                format,
-                buffers,
-            } => Some(plain(Call::StreamNew {
-                width: *width,
-                height: *height,
-                format: *format,
-                buffers: *buffers,
-            })),
             Verb::Acquire { stream } | Verb::Frame { stream, .. } => self.acquire(stream),
             Verb::Post => Some(plain(Call::Post(self.canvas.take()?))),
             Verb::Discard => Some(plain(Call::Discard(self.canvas.take()?))),
-            Verb::Stat { what } => Some(plain(Call::Stat { what: *what })),
             Verb::Paint(_) => None,
             Verb::Tick => Some(waiting(Call::BeginNext { after: 0 })),
+            _ => self.one_call(verb),
         }
+    }
+
+    /// What a line wants that is one call and waits for nothing, if it is such a line.
+    fn one_call(&self, verb: &'a Verb) -> Option<Wanted>
+        ensures { result ≡ option_map plain (plain_call (handle self.now) verb.now) }
+    {
+        Some(plain(self.plain_call(verb)?))
     }
 
     /// Asks for a stream's write buffer, unless one is held.

@@ -213,6 +213,8 @@ fn put_job<K: Sink>(k: &mut K, writer: &mut Writer, tick: u32, job: &Job) -> Res
     ensures part { IfErr result (λ stop. PutsPart K.took k.old k.new writer.old (flat_map frame_bytes (shown job.now.kind tick job.now)) stop.written) }
     ensures cause { HasCause (K.faults k.old) (K.faults k.new) result }
 {
-    let JobKind::Port { port } = job.kind;
-    writer.frame(k, port as u8, tick, &job.image)
+    match job.kind {
+        JobKind::Context { .. } => Ok(()),
+        JobKind::Port { port } => writer.frame(k, port as u8, tick, &job.image),
+    }
 }

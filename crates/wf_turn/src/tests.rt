@@ -25,6 +25,13 @@ const SHARED_FILM: &[u8] = b"WFF1\
     \x02\0\0\0\0\0\
     E";
 
+/// The clock makes a device with a context of the port's screen, an element that shows a stream on all of it, and then
+/// a frame of the stream and a tick.
+const COMPOSED: &str = "WFS1\nport 4x2\n0 d = device\n0 c = screen d 1\n0 s = stream 1 1 rgba 2\n\
+    0 x = source d c s\n0 e = element d c\n0 set d e source x\n0 set d e srcrect 0 0 1 1\n\
+    0 set d e dest 0 0 4 2\n0 insert d e none\n0 commit d c\n0 activate d c\n\
+    0 frame s fill 9 8 7 255\n0 tick\nend\n";
+
 /// The script that a text stands for.
 fn script_of(alloc: Global, text: &str) -> Result<Script, Fail> {
     Ok(parse(alloc, text.as_bytes()).ok().ok_or("no script")?)
@@ -80,6 +87,26 @@ fn lines_are_played_in_file_order(rt: HostRuntime) -> Result<(), Fail> {
 }
 
 #[test]
+fn a_tick_composes_and_then_shows(rt: HostRuntime) -> Result<(), Fail> {
+    let alloc = rt.alloc();
+    let script = script_of(alloc, COMPOSED)?;
+    let mut film = sink_failing(alloc, &[])?;
+    let order = serial(alloc, &script, &mut film).ok().ok_or("a stop")?;
+    let values = [1, 2, 3, 4, 5, 0, 0, 0, 0, 0, 0, 0, 0, 2, 0, 0, 1, 0];
+    assert_eq!(rt; order.turns().len(), values.len());
+    for (turn, value) in order.turns().iter().zip(&values) {
+        assert_eq!(rt; *turn, ok(0, *value));
+    }
+    let bytes = film.bytes();
+    assert_eq!(rt; bytes.len(), 160);
+    assert_eq!(rt; &bytes[4..14], b"F\x01\0\0\0\x01\0\x04\0\x02".as_slice());
+    for pixel in bytes[14..46].chunks(4) {
+        assert_eq!(rt; pixel, [9, 8, 7, 255].as_slice());
+    }
+    Ok(())
+}
+
+#[test]
 fn a_cut_film_is_a_front(rt: HostRuntime) -> Result<(), Fail> {
     let alloc = rt.alloc();
     let script = script_of(alloc, SHARED)?;
@@ -124,6 +151,39 @@ fn a_name_has_the_value_of_its_answer(rt: HostRuntime) -> Result<(), Fail> {
     let wanted = clock.next().ok_or("no call")?;
     assert!(rt; matches!(wanted.call, Call::Acquire { stream: 7 }));
     assert!(rt; !wanted.wait);
+    Ok(())
+}
+
+#[test]
+fn a_call_has_the_handles_of_names(rt: HostRuntime) -> Result<(), Fail> {
+    let alloc = rt.alloc();
+    let script = script_of(
+        alloc,
+        "WFS1\nport 1x1\n0 d = device\n0 c = screen d 1\n0 e = element d c\n0 set d e mask c\n\
+        0 insert d e none\nend\n",
+    )?;
+    let mut clock = Program::new(alloc, &script, 0).ok().ok_or("memory")?;
+    for value in 7..10 {
+        assert!(rt; clock.next().is_some());
+        clock.took(answer(Code::Ok, value));
+    }
+    let set = clock.next().ok_or("no call")?;
+    match set.call {
+        Call::ElementSet { value, .. } => assert_eq!(rt; value, [8, 0, 0, 0]),
+        _ => return Err("another call".into()),
+    }
+    clock.took(answer(Code::BadHandle, 0));
+    let insert = clock.next().ok_or("no call")?;
+    assert!(rt;
+        matches!(
+            insert.call,
+            Call::ElementInsert {
+                device: 7,
+                element: 9,
+                below: 0
+            }
+        )
+    );
     Ok(())
 }
 

@@ -1,5 +1,5 @@
 use Rattle.std.proofs.Common.{◌≡◌, drop}
-use Rattle.wf_core.specs.Shows.{next_context}
+use Rattle.wf_model.specs.Frames.{next_context}
 use Rattle.wf_core.proofs.shown.next_in.Given as goal
 
 -- it is none of those that were passed

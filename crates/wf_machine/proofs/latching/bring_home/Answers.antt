@@ -1,4 +1,4 @@
-use Rattle.std.proofs.Common.{◌≡◌, ℕ, ◌++◌, List, [], ◌∷◌, sym, ap, subst, ◌∙◌, refl, append-nil}
+use Rattle.std.proofs.Common.{◌≡◌, ℕ, ◌++◌, List, [], ◌∷◌, sym, ap, subst, ◌∙◌, append-nil}
 use Rattle.wf_stream.specs.Buffers.{returned}
 use Rattle.wf_stream.specs.Streams.{KeptStream, StoreView, change_stream}
 use Rattle.wf_model.specs.Frames.{brought_home}

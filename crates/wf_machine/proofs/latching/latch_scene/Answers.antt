@@ -1,8 +1,4 @@
-use Rattle.std.proofs.Common.{◌+◌, ◌*◌, ◌≤◌, List, ℕ, length, take, sym, ap, subst, arith}
-use Rattle.std.specs.Prelude.{flat_map}
-use Rattle.wf_words.specs.Keyed.{once}
-use Rattle.wf_model.specs.Names.{layer_names}
-use Rattle.wf_model.specs.Picture.{Images}
+use Rattle.std.proofs.Common.{◌+◌, ◌≤◌, List, ℕ, length, sym, ap, subst, arith}
 use Rattle.wf_machine.proofs.Latches.{IsTaken, few_step, names_more, nothing_taken, take_home, take_step}
 use Rattle.wf_machine.proofs.latching.latch_scene.Goals as goal
 

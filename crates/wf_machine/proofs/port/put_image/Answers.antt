@@ -1,4 +1,4 @@
-use Rattle.std.proofs.Common.{◌+◌, Some, ap, sym, ◌∙◌, arith}
+use Rattle.std.proofs.Common.{Some, ap, sym, ◌∙◌, arith}
 use Rattle.wf_machine.specs.declared.port.Port as declared
 use Rattle.wf_machine.proofs.Places.{away_at, fits_at, modes_stay, shape_at, when_back}
 use Rattle.wf_machine.proofs.port.put_image.Goals as goal

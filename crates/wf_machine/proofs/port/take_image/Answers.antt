@@ -1,8 +1,5 @@
-use Rattle.std.proofs.Common.{◌≡◌, ◌+◌, None, ◌∙◌, ap, sym, arith}
+use Rattle.std.proofs.Common.{None, ◌∙◌, ap, sym, arith}
 use Rattle.wf_machine.specs.declared.port.Port as declared
-use Rattle.wf_machine.specs.Ports.{IsFrameImage}
-use Rattle.wf_model.specs.State.{mode_size}
-use Rattle.std.proofs.Common.{Some}
 use Rattle.wf_machine.proofs.Places.{fits_at, modes_stay, shape_of, when_taken}
 use Rattle.wf_machine.proofs.port.take_image.Goals as goal
 

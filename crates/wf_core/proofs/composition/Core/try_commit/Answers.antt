@@ -15,7 +15,7 @@ returns-in-Err-clause-case c =
     let x = c.index.result.now in
     let at = standing _ a.self.now c.in_ok-place.place x c.self.view_is c.in_ok-place.ensures.within c.index.ensures in
     let own = owned a.device a.context c.in_ok-place.place a.self.now a.store.now x c.in_ok-place.ensures.found at in
-    commit_refused a.self.now a.store.now c.requires a.device a.context c.in_ok-place.place x at own c.in-Err.refused c.in-Err.ensures
+    commit_refused a.self.now a.store.now c.requires a.device a.context c.in_ok-place.place x at own c.in-Err.refused c.in-Err.ensures.scene
 
 -- the committed scene, read before and written behind, is of one context
 told : (c : goal.After-self-1) → Ok c.in-Ok.scene ≡ fault_as_refusal (consistent (sight_in c.args.store.now) c.index_mut.result.now.cached)
@@ -24,7 +24,7 @@ told c =
     let read = standing _ a.self.now c.in_ok-place.place c.index.result.now c.self.view_is c.in_ok-place.ensures.within c.index.ensures in
     let written = standing _ a.self.now c.in_ok-place.place c.index_mut.result.now c.self.view_is c.in_ok-place.ensures.within c.index_mut.ensures.value in
     let same : c.index.result.now ≡ c.index_mut.result.now = let both = sym read ∙ written in cc in
-    c.in-Ok.ensures ∙ ap (λ (y : Context). fault_as_refusal (consistent (sight_in a.store.now) y.cached)) same
+    c.in-Ok.ensures.scene ∙ ap (λ (y : Context). fault_as_refusal (consistent (sight_in a.store.now) y.cached)) same
 
 pub returns-clause-case : goal.returns-clause-case
 returns-clause-case c =
@@ -41,4 +41,4 @@ returns-clause-fits c =
     let at = standing _ a.self.now c.in_ok-place.place x c.self.view_is c.in_ok-place.ensures.within c.index_mut.ensures.value in
     let own = owned a.device a.context c.in_ok-place.place a.self.now a.store.now x c.in_ok-place.ensures.found at in
     subst (λ (k : CoreState). Fits (record k { contexts = set k.contexts c.in_ok-place.place (record x { committed = c.in-Ok.scene }) }) a.store.now) (sym c.self.view_is)
-    (committed_fits a.self.now a.store.now c.requires a.device a.context c.in_ok-place.place x at own c.in-Ok.scene (told c))
+    (committed_fits a.self.now a.store.now c.requires a.device a.context c.in_ok-place.place x at own c.in-Ok.scene (told c) c.in-Ok.ensures.placed)

@@ -76,4 +76,4 @@ returns-clause-fits c =
     let new = made a.self.now a.store.now c.requires.fits a.device a.port a.screen c.in-Some.field-0 key c.in-Ok.target c.in-Ok.ensures free room in
     rw (c.in-Ok-mint.ensures.made, c.push_reserved.ensures.items, c.in-Ok-mint.ensures.handle, c.in-Ok-new.ensures, c.blank_scene.ensures, count)
     (rw (← c.self.view_is) at (context_fits a.self.now a.store.now c.requires.fits new refl refl
-    (made_fits a.self.now a.store.now c.requires.fits a.device a.port a.screen c.in-Some.field-0 key c.in-Ok.target c.in-Ok.ensures free room)))
+    (made_fits a.self.now a.store.now c.requires.fits a.device a.port a.screen c.in-Some.field-0 key c.in-Ok.target c.in-Ok.ensures free room c.requires.pixels)))

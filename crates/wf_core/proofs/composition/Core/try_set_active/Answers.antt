@@ -1,4 +1,4 @@
-use Rattle.std.proofs.Common.{◌≡◌, ◌∙◌, sym, subst, set, refl}
+use Rattle.std.proofs.Common.{◌∙◌, sym, subst, set, refl}
 use Rattle.wf_model.specs.Composition.{CoreState}
 use Rattle.wf_core.specs.Fits.{Fits}
 use Rattle.wf_core.proofs.Activating.{active_case, active_fits}

@@ -1,6 +1,6 @@
-use Rattle.std.proofs.Common.{List, subst, sym, ap, ◌∙◌}
+use Rattle.std.proofs.Common.{subst, sym}
 use Rattle.wf_stream.specs.Buffers.{latched}
-use Rattle.wf_stream.specs.Streams.{KeptStream, StoreView}
+use Rattle.wf_stream.specs.Streams.{StoreView}
 use Rattle.wf_model.specs.Picture.{Images}
 use Rattle.wf_machine.specs.Latching.{AreShapedAs}
 use Rattle.wf_machine.proofs.Latches.{latched_keeps, shaped_changed, shaped_more}

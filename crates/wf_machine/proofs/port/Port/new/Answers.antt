@@ -1,7 +1,4 @@
-use Rattle.std.proofs.Common.{◌≡◌, ◌+◌, ◌++◌, ◌∷◌, [], List, Option, Some, take, length, refl, sym, ap, subst, ◌∙◌, arith, length-append}
-use Rattle.wf_pixel.specs.declared.Size.{Size}
-use Rattle.wf_image.specs.Bitmap.{Bitmap}
-use Rattle.wf_machine.specs.Ports.{HoldsBut}
+use Rattle.std.proofs.Common.{◌∷◌, [], Some, length, ap, arith, length-append}
 use Rattle.wf_machine.proofs.Images.{holds_more, is_frame_image, taken_more}
 use Rattle.wf_machine.proofs.port.Port.new.Goals as goal
 

@@ -1,4 +1,4 @@
-use Rattle.std.proofs.Common.{◌≡◌, Option, None, Some, sym, subst, ◌∙◌, arith, slice_set}
+use Rattle.std.proofs.Common.{Option, sym, subst, ◌∙◌, arith, slice_set}
 use Rattle.wf_image.specs.Bitmap.{Bitmap}
 use Rattle.wf_model.specs.State.{mode_size}
 use Rattle.wf_machine.specs.Ports.{HoldsBut, IsFrameImage}

@@ -4,8 +4,9 @@ use Rattle.wf_scene.specs.declared.element.Element.{Element}
 use Rattle.wf_scene.specs.Cached.{handle_of}
 use Rattle.wf_scene.specs.Elements.{change_of}
 use Rattle.wf_scene.specs.Inside.{scene_inside}
+use Rattle.wf_scene.specs.Keeping.{keeps_handle, keeps_place}
 use Rattle.wf_scene.proofs.Handled.{orderly_changed}
-use Rattle.wf_scene.proofs.Changes.{changed_at, keeps_handle}
+use Rattle.wf_scene.proofs.Changes.{changed_at}
 use Rattle.wf_scene.proofs.cached.Cached.set.Goals as goal
 
 -- what the value changes, and the elements after it
@@ -19,7 +20,7 @@ pub invariant_of-self : goal.invariant_of-self
 invariant_of-self c =
     let w = written c in
     record {
-      orderly = rw w.2 (orderly_changed (scene_inside c.self.inside) c.self.invariant.orderly c.args.element w.0 (keeps_handle c.args.attr c.args.value w.0 w.1));
+      orderly = rw w.2 (orderly_changed (scene_inside c.self.inside) c.self.invariant.orderly c.args.element w.0 (keeps_handle c.args.attr c.args.value w.0 w.1) (keeps_place c.args.attr c.args.value w.0 w.1));
       room = c.self.invariant.room;
     }
 

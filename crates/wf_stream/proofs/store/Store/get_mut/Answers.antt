@@ -5,7 +5,7 @@ use Rattle.wf_stream.proofs.store.Store.get_mut.Goals as goal
 
 pub invariant_of-self-lent : goal.invariant_of-self-lent
 invariant_of-self-lent c _ =
-    let streams = c.self.inside.streams in
+    let streams = c.self.inside.streams.streams in
     let sound = c.self.invariant in (
       (λ w. record {
         limit = sound.limit;

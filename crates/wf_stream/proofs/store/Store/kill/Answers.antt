@@ -1,23 +1,25 @@
-use Rattle.std.proofs.Common.{◌≡◌, map, refl, sym, ap, ◌∙◌}
+use Rattle.std.proofs.Common.{◌≡◌, List, map, refl, sym, ap, ◌∙◌}
 use Rattle.std.specs.Result.{result_ok}
-use Rattle.wf_stream.specs.Streams.{unnamed}
+use Rattle.wf_stream.specs.Streams.{KeptStream, unnamed}
 use Rattle.wf_stream.specs.Joined.{live_streams}
 use Rattle.wf_stream.proofs.Joined.{number_found, live_found, rising_streams, rising_without, unnamed_found, unnamed_none, numbered_unnamed, killed_tied, killed_others}
+use Rattle.wf_stream.proofs.Apart.{other_kept, stream_kept}
 use Rattle.wf_stream.proofs.store.Store.kill.Goals as goal
 
 pub kill-requires : goal.kill-requires
 kill-requires c =
     let alive = rw (← c.self.view_is) at c.requires in
-    rw (live_found c.args.handle c.self.inside.handles.live c.self.inside.streams c.self.invariant.tied) alive
+    rw (live_found c.args.handle c.self.inside.handles.live c.self.inside.streams.streams c.self.invariant.tied) alive
 
 pub invariant_of-self : goal.invariant_of-self
 invariant_of-self c =
     let live = c.self.inside.handles.live in
-    let streams = c.self.inside.streams in
+    let shelf = c.self.inside.streams in
+    let streams = shelf.streams in
     let sound = c.self.invariant in
     let found = sym (number_found c.args.handle live streams sound.tied) ∙ sym c.in-Ok.ensures.found in
     let under = rising_streams c.self.inside.handles.made live streams sound.orderly sound.tied in
-    let view : c.hand_over.new.self ≡ map (unnamed c.args.handle) streams = c.hand_over.ensures ∙ unnamed_found 0 c.self.inside.numbered 0 c.self.inside.handles.made c.args.handle c.in-Ok.number streams sound.rising under found in
+    let view : c.hand_over.new.self ≡ record shelf { streams = map (unnamed c.args.handle) streams } = c.hand_over.ensures ∙ ap (λ (ss : List KeptStream). record shelf { streams = ss }) (unnamed_found 0 c.self.inside.numbered 0 c.self.inside.handles.made c.args.handle c.in-Ok.number streams sound.rising under found) in
     rw (c.kill.ensures.killed, view) (record {
       limit = sound.limit;
       room = sound.room;
@@ -29,7 +31,8 @@ invariant_of-self c =
 pub invariant_of-self-in_default : goal.invariant_of-self-in_default
 invariant_of-self-in_default c =
     let live = c.self.inside.handles.live in
-    let streams = c.self.inside.streams in
+    let shelf = c.self.inside.streams in
+    let streams = shelf.streams in
     let sound = c.self.invariant in
     let none = sym (number_found c.args.handle live streams sound.tied) ∙ (sym c.find-found.ensures.found ∙ ap result_ok c.in_default.is) in
     let view : map (unnamed c.args.handle) streams ≡ streams = unnamed_none c.args.handle streams none in
@@ -41,21 +44,59 @@ invariant_of-self-in_default c =
       tied = killed_tied c.args.handle live streams sound.tied ∙ ap live_streams view;
     })
 
-pub returns-in-Ok : goal.returns-in-Ok
-returns-in-Ok c =
+pub returns-in-Ok-clause-killed : goal.returns-in-Ok-clause-killed
+returns-in-Ok-clause-killed c =
     let live = c.self.inside.handles.live in
-    let streams = c.self.inside.streams in
+    let shelf = c.self.inside.streams in
+    let streams = shelf.streams in
     let sound = c.self.invariant in
     let found = sym (number_found c.args.handle live streams sound.tied) ∙ sym c.in-Ok.ensures.found in
     let under = rising_streams c.self.inside.handles.made live streams sound.orderly sound.tied in
-    let view : c.hand_over.new.self ≡ map (unnamed c.args.handle) streams = c.hand_over.ensures ∙ unnamed_found 0 c.self.inside.numbered 0 c.self.inside.handles.made c.args.handle c.in-Ok.number streams sound.rising under found in
+    let view : c.hand_over.new.self ≡ record shelf { streams = map (unnamed c.args.handle) streams } = c.hand_over.ensures ∙ ap (λ (ss : List KeptStream). record shelf { streams = ss }) (unnamed_found 0 c.self.inside.numbered 0 c.self.inside.handles.made c.args.handle c.in-Ok.number streams sound.rising under found) in
     rw (← c.self.view_is, c.kill.ensures.killed, view, killed_others c.args.handle live) refl
 
-pub returns-in_default : goal.returns-in_default
-returns-in_default c =
+pub returns-in_default-clause-killed : goal.returns-in_default-clause-killed
+returns-in_default-clause-killed c =
     let live = c.self.inside.handles.live in
-    let streams = c.self.inside.streams in
+    let shelf = c.self.inside.streams in
+    let streams = shelf.streams in
     let sound = c.self.invariant in
     let none = sym (number_found c.args.handle live streams sound.tied) ∙ (sym c.find-found.ensures.found ∙ ap result_ok c.in_default.is) in
     let view : map (unnamed c.args.handle) streams ≡ streams = unnamed_none c.args.handle streams none in
     rw (← c.self.view_is, c.kill.ensures.killed, view, killed_others c.args.handle live) refl
+
+pub returns-in-Ok-clause-other : goal.returns-in-Ok-clause-other
+returns-in-Ok-clause-other c =
+    let live = c.self.inside.handles.live in
+    let shelf = c.self.inside.streams in
+    let streams = shelf.streams in
+    let sound = c.self.invariant in
+    let found = sym (number_found c.args.handle live streams sound.tied) ∙ sym c.in-Ok.ensures.found in
+    let under = rising_streams c.self.inside.handles.made live streams sound.orderly sound.tied in
+    let view : c.hand_over.new.self ≡ record shelf { streams = map (unnamed c.args.handle) streams } = c.hand_over.ensures ∙ ap (λ (ss : List KeptStream). record shelf { streams = ss }) (unnamed_found 0 c.self.inside.numbered 0 c.self.inside.handles.made c.args.handle c.in-Ok.number streams sound.rising under found) in
+    rw (← c.self.view_is, c.kill.ensures.killed, view, killed_others c.args.handle live) (λ other. rw (other_kept c.self.inside.handles.made c.args.handle live streams sound.orderly sound.tied other) refl)
+
+pub returns-in-Ok-clause-stream : goal.returns-in-Ok-clause-stream
+returns-in-Ok-clause-stream c =
+    let live = c.self.inside.handles.live in
+    let shelf = c.self.inside.streams in
+    let streams = shelf.streams in
+    let sound = c.self.invariant in
+    let found = sym (number_found c.args.handle live streams sound.tied) ∙ sym c.in-Ok.ensures.found in
+    let under = rising_streams c.self.inside.handles.made live streams sound.orderly sound.tied in
+    let view : c.hand_over.new.self ≡ record shelf { streams = map (unnamed c.args.handle) streams } = c.hand_over.ensures ∙ ap (λ (ss : List KeptStream). record shelf { streams = ss }) (unnamed_found 0 c.self.inside.numbered 0 c.self.inside.handles.made c.args.handle c.in-Ok.number streams sound.rising under found) in
+    rw (← c.self.view_is, c.kill.ensures.killed, view, killed_others c.args.handle live) (λ some. rw (stream_kept c.self.inside.handles.made c.args.handle live streams sound.orderly sound.tied some) refl)
+
+pub returns-in_default-clause-other : goal.returns-in_default-clause-other
+returns-in_default-clause-other c =
+    rw (← c.self.view_is, c.kill.ensures.killed, killed_others c.args.handle c.self.inside.handles.live) (λ other. refl)
+
+pub returns-in_default-clause-stream : goal.returns-in_default-clause-stream
+returns-in_default-clause-stream c =
+    let live = c.self.inside.handles.live in
+    let shelf = c.self.inside.streams in
+    let streams = shelf.streams in
+    let sound = c.self.invariant in
+    let none = sym (number_found c.args.handle live streams sound.tied) ∙ (sym c.find-found.ensures.found ∙ ap result_ok c.in_default.is) in
+    let view : map (unnamed c.args.handle) streams ≡ streams = unnamed_none c.args.handle streams none in
+    rw (← c.self.view_is, c.kill.ensures.killed, killed_others c.args.handle live) (λ some. rw (view, stream_kept c.self.inside.handles.made c.args.handle live streams sound.orderly sound.tied some) refl)

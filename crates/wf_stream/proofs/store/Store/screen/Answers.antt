@@ -6,7 +6,7 @@ use Rattle.wf_stream.proofs.store.Store.screen.Goals as goal
 
 pub invariant_of-self-2 : goal.invariant_of-self-2
 invariant_of-self-2 c =
-    let streams = c.self.inside.streams in
+    let streams = c.self.inside.streams.streams in
     let sound = c.self.invariant in
     let few = rw (← c.self.view_is) at c.requires.few in
     let n = c.self.inside.numbered + 1 in

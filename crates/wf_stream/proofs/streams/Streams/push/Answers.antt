@@ -1,6 +1,8 @@
-use Rattle.std.proofs.Common.{◌≡◌, ℕ, ◌-◌, ◌≤◌, [], ◌∷◌, ◌++◌, None, refl, ap, ◌∙◌, arith}
+use Rattle.std.proofs.Common.{◌≡◌, ℕ, ◌-◌, ◌≤◌, [], ◌∷◌, ◌++◌, None, false, refl, ap, ◌∙◌, arith}
 use Rattle.wf_life.specs.Pool.{IsKept, kept_at, count_at, count_of}
 use Rattle.wf_stream.specs.declared.streams.Place.{Place}
+use Rattle.wf_stream.specs.Shelf.{marks_of}
+use Rattle.wf_stream.proofs.Marks.{marks_push, marks_above}
 use Rattle.wf_stream.proofs.Shelves.{shelf_push, shelf_same, agree_twice, insert_last, none_free}
 use Rattle.wf_stream.proofs.Lifetimes.{sole_same, sole_push, other_push, other_same, let_go}
 use Rattle.wf_stream.proofs.streams.Streams.push.Goals as goal
@@ -13,7 +15,7 @@ invariant_of-self-in-Ok-insert c =
     let all = shelf_push c.args.number _ c.self.inside.pool c.put.new.self c.self.inside.places.entries c.insert.new.self.entries c.requires.counted above fits c.self.invariant.kept c.self.invariant.apart c.in-Ok.ensures.free c.in-Ok.ensures.kept.others new c.in-Ok-insert.ensures.entries in
     let p = c.self.inside.pool in
     let es = c.self.inside.places.entries in
-    let e : ℕ × Place = (c.args.number, record { key = c.in-Ok.key; handle = c.args.handle }) in
+    let e : ℕ × Place = (c.args.number, record { key = c.in-Ok.key; handle = c.args.handle; marked = false }) in
     let last : c.insert.new.self.entries ≡ es ++ e ∷ [] = c.in-Ok-insert.ensures.entries ∙ insert_last 0 (c.args.number - 1) c.args.number e.1 p es above (omega (arith, c.requires.counted)) in
     let agree = c.in-Ok.ensures.kept.others in
     let none = none_free c.in-Ok.key p es c.in-Ok.ensures.free c.self.invariant.kept in
@@ -32,7 +34,11 @@ returns-clause-pushed c =
     let fits : c.args.number ≤ 4294967295 = omega (arith, c.ranges.number.fits) in
     let new : IsKept c.in-Ok.key c.put.new.self = rw c.in-Ok.ensures.kept.changed refl in
     let all = shelf_push c.args.number _ c.self.inside.pool c.put.new.self c.self.inside.places.entries c.insert.new.self.entries c.requires.counted above fits c.self.invariant.kept c.self.invariant.apart c.in-Ok.ensures.free c.in-Ok.ensures.kept.others new c.in-Ok-insert.ensures.entries in
-    rw (← c.self.view_is, all.0, c.in-Ok.ensures.kept.changed) refl
+    let es = c.self.inside.places.entries in
+    let e : ℕ × Place = (c.args.number, record { key = c.in-Ok.key; handle = c.args.handle; marked = false }) in
+    let last : c.insert.new.self.entries ≡ es ++ e ∷ [] = c.in-Ok-insert.ensures.entries ∙ insert_last 0 (c.args.number - 1) c.args.number e.1 c.self.inside.pool es above (omega (arith, c.requires.counted)) in
+    let marks = ap marks_of last ∙ marks_push es e refl in
+    rw (← c.self.view_is, all.0, c.in-Ok.ensures.kept.changed, marks) refl
 
 pub invariant_of-self-in_default-insert : goal.invariant_of-self-in_default-insert
 invariant_of-self-in_default-insert c =
@@ -55,4 +61,9 @@ pub returns-in_default-insert-clause-refused : goal.returns-in_default-insert-cl
 returns-in_default-insert-clause-refused c =
     let agree = agree_twice c.in-Ok.key c.self.inside.pool c.put.new.self c.release.new.self _ c.in-Ok.ensures.kept.others c.release.ensures.left in
     let all = shelf_same c.in-Ok.key c.self.inside.pool c.release.new.self c.self.inside.places.entries c.in-Ok.ensures.free c.self.invariant.kept agree in
-    rw (← c.self.view_is, c.in_default-insert.ensures.err) all.0
+    rw (← c.self.view_is, c.in_default-insert.ensures.err, all.0) refl
+
+pub returns-clause-unmarked : goal.returns-clause-unmarked
+returns-clause-unmarked c =
+    let above = rw (← c.self.view_is) at c.requires.above in
+    rw (← c.self.view_is) (marks_above 0 (c.args.number - 1) c.args.number c.self.inside.pool c.self.inside.places.entries above (omega (arith, c.requires.counted)))

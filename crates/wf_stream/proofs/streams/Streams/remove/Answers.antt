@@ -1,5 +1,7 @@
-use Rattle.std.proofs.Common.{◌≡◌, None, sym, ap, ◌∙◌}
+use Rattle.std.proofs.Common.{◌≡◌, None, refl, sym, ap, ◌∙◌}
 use Rattle.wf_life.specs.Pool.{kept_at}
+use Rattle.wf_stream.specs.Shelf.{marks_of}
+use Rattle.wf_stream.proofs.Marks.{marks_removed}
 use Rattle.wf_stream.proofs.Shelves.{shelf_remove, agree_once, found_kept, found_none, remove_without}
 use Rattle.wf_stream.proofs.Lifetimes.{let_go, found_sole, removed_sole, sole_same, other_removed}
 use Rattle.wf_stream.proofs.streams.Streams.remove.Goals as goal
@@ -33,8 +35,12 @@ returns-in-Some c =
     let found = sym c.in-Some.ensures.value in
     let agree = agree_once c.in-Some.place.key c.self.inside.pool c.release.new.self _ c.release.ensures.left in
     let all = shelf_remove c.args.number c.in-Some.place c.self.inside.pool c.release.new.self c.self.inside.places.entries c.remove.new.self.entries c.self.invariant.rising c.self.invariant.kept c.self.invariant.apart found agree c.remove.ensures.entries in
-    rw (← c.self.view_is) all.0
+    let unmarked = rw (← c.self.view_is) at c.requires in
+    let marks = ap marks_of c.remove.ensures.entries ∙ marks_removed c.args.number c.self.inside.places.entries unmarked in
+    rw (← c.self.view_is, all.0, marks) refl
 
 pub returns-in_default : goal.returns-in_default
 returns-in_default c =
-    rw (← c.self.view_is, c.remove.ensures.entries) (remove_without 0 4294967295 c.args.number c.self.inside.pool c.self.inside.places.entries c.self.invariant.rising)
+    let es = c.self.inside.places.entries in
+    let unmarked = rw (← c.self.view_is) at c.requires in
+    rw (← c.self.view_is, c.remove.ensures.entries, remove_without 0 4294967295 c.args.number c.self.inside.pool es c.self.invariant.rising, marks_removed c.args.number es unmarked) refl

@@ -1,0 +1,155 @@
+-- What each call does and answers is what the plain machine does and answers.
+use Rattle.std.proofs.Common.{◌≡◌, ℕ, Bool, true, false, List, [], ◌∷◌, Result, Ok, Err, Option, None, Some, refl, sym, ap, subst, ◌∙◌}
+use Rattle.wf_life.specs.declared.Kind.{Kind}
+use Rattle.wf_life.specs.declared.Kind.TheVariants as lives
+use Rattle.wf_life.specs.Handles.{Live, live_count}
+use Rattle.wf_image.specs.declared.canvas.Canvas.{Canvas}
+use Rattle.wf_image.specs.Bitmap.{Bitmap}
+use Rattle.wf_stream.specs.Buffers.{Buffers}
+use Rattle.wf_stream.specs.Streams.{KeptStream, StoreView}
+use Rattle.wf_calls.specs.declared.code.Code.{Code}
+use Rattle.wf_calls.specs.declared.code.Refusal.{Refusal}
+use Rattle.wf_calls.specs.declared.call.Call.{Call}
+use Rattle.wf_calls.specs.declared.call.Job.{Job}
+use Rattle.wf_calls.specs.declared.call.JobKind.{JobKind}
+use Rattle.wf_calls.specs.declared.call.JobKind.TheVariants as kind
+use Rattle.wf_calls.specs.declared.call.Payload.{Payload}
+use Rattle.wf_calls.specs.declared.call.Payload.TheVariants as payload
+use Rattle.wf_calls.specs.declared.call.Reply.{Reply}
+use Rattle.wf_calls.specs.Codes.{is_ok_code, is_out_of_memory}
+use Rattle.wf_model.specs.Composition.{CoreSide, CoreState, core_answer}
+use Rattle.wf_model.specs.Composing.{composed, core_side, with_side}
+use Rattle.wf_model.specs.Frames.{end, is_of_frame}
+use Rattle.wf_model.specs.Outcome.{Outcome, answer}
+use Rattle.wf_model.specs.State.{Running, State}
+use Rattle.wf_model.specs.Step.{act}
+use Rattle.wf_model.specs.Streams.{acquire_step, canvas_back, is_out_at_client, stream_step}
+use Rattle.wf_core.specs.Fits.{Fits}
+use Rattle.wf_core.specs.Sides.{KeepsRest, beside, side_of}
+use Rattle.wf_machine.specs.declared.parts.Parts.TheInside.{Inside}
+use Rattle.wf_machine.specs.Inside.{IsSound, state_of}
+use Rattle.wf_machine.specs.Object.{CarriesPaintable, IsAct, IsAnswer, SameImage, SamePayload}
+
+-- an answer without a Job to paint
+abbrev IsPlain : Reply → Type 0
+IsPlain r = CarriesPaintable (is_ok_code r.code) r.payload
+
+same_image : (is_new : Bool) (k : JobKind) (image : Bitmap) → SameImage is_new k image image
+same_image true (kind.Context handle target) image = refl
+same_image true (kind.Port port) image = (refl, refl)
+same_image false k image = refl
+
+same_payload : (is_new : Bool) (p : Payload) → SamePayload is_new p p
+same_payload is_new payload.Nothing = refl
+same_payload is_new (payload.Canvas canvas) = refl
+same_payload is_new (payload.Job job) = record { number = refl; kind = refl; scene = refl; contents = refl; image = same_image is_new job.kind job.image }
+
+-- an answer as wanted that has no Job to paint
+itself : (r : Reply) → IsPlain r → IsAnswer r r
+itself r plain = record { code = refl; value = refl; payload = same_payload (is_ok_code r.code) r.payload; paintable = plain }
+
+-- a call was matched, and did and answered as the plain machine does, without a Job to paint
+pub as_act : (h left : State) (c wanted : Call) (reply : Reply) → c ≡ wanted → act h wanted (is_out_of_memory reply.code) ≡ (left, reply) → IsPlain reply → IsAct h c left reply
+as_act h left c wanted reply is goes plain =
+    subst (λ (x : Call). IsAct h x left reply) (sym is)
+    (record {
+      left_is = sym (ap (λ (x : State × Reply). x.0) goes);
+      answer = subst (λ (r : Reply). IsAnswer r reply) (sym (ap (λ (x : State × Reply). x.1) goes)) (itself reply plain);
+    })
+
+-- a call was matched whose answer may have a Job
+pub as_begin : (h left : State) (c wanted : Call) (reply : Reply) → c ≡ wanted → left ≡ (act h wanted (is_out_of_memory reply.code)).0 → IsAnswer (act h wanted (is_out_of_memory reply.code)).1 reply → IsAct h c left reply
+as_begin h left c wanted reply is leaves answers = subst (λ (x : Call). IsAct h x left reply) (sym is) (record { left_is = leaves; answer = answers })
+
+-- the answer of a step that is plain
+pub plain_of : (x : State × Reply) (left : State) (reply : Reply) → x ≡ (left, reply) → IsPlain x.1 → IsPlain reply
+plain_of x left reply is plain = subst IsPlain (ap (λ (y : State × Reply). y.1) is) plain
+
+pub plain_answer : (c : Code) (value : ℕ) → IsPlain (answer c value)
+plain_answer c value = nothing (is_ok_code c)
+  where
+    nothing : (b : Bool) → CarriesPaintable b payload.Nothing
+    nothing true = tt
+    nothing false = tt
+
+pub plain_made : (h : State) (o : Outcome State) → IsPlain (stream_step h o).1
+plain_made h (Ok done) = tt
+plain_made h (Err r) = plain_answer r.code r.value
+
+pub plain_acquired : (h : State) (o : Result KeptStream Refusal) → IsPlain (acquire_step h o).1
+plain_acquired h (Ok s) = tt
+plain_acquired h (Err r) = plain_answer r.code r.value
+
+pub plain_back : (canvas : Canvas) (f : Buffers → Buffers) (h : State) → IsPlain (canvas_back canvas f h).1
+plain_back canvas f h = of_test (is_out_at_client canvas h) refl
+  where
+    of_test : (b : Bool) → is_out_at_client canvas h ≡ b → IsPlain (canvas_back canvas f h).1
+    of_test true is = rw is tt
+    of_test false is = rw is tt
+
+pub plain_end : (job : Job) (h : State) → IsPlain (end job h).1
+plain_end job h = of_frame h.frame refl
+  where
+    of_test : (f : Running) → h.frame ≡ Some f → (b : Bool) → is_of_frame job f ≡ b → IsPlain (end job h).1
+    of_test f runs true is = rw (runs, is) tt
+    of_test f runs false is = rw (runs, is) tt
+
+    of_frame : (o : Option Running) → h.frame ≡ o → IsPlain (end job h).1
+    of_frame None free = rw free tt
+    of_frame (Some f) runs = of_test f runs (is_of_frame job f) refl
+
+-- calls of composition
+
+-- no source of the display is live where no handles stand beside those of composition
+no_display : (others : List Live) → beside others ≡ [] → live_count lives.DisplaySource others ≡ 0
+no_display [] none = refl
+no_display (l ∷ others) none = of_kind l.kind refl (λ rest. no_display others rest)
+  where
+    of_kind : (k : Kind) → l.kind ≡ k → (beside others ≡ [] → live_count lives.DisplaySource others ≡ 0) → live_count lives.DisplaySource (l ∷ others) ≡ 0
+    of_kind lives.Stream is deeper = absurd (let no = rw is at none in cc)
+    of_kind lives.DisplaySource is deeper = absurd (let no = rw is at none in cc)
+    of_kind lives.Device is deeper = (let rest : beside others ≡ [] = rw is at none in rw is (deeper rest))
+    of_kind lives.Context is deeper = (let rest : beside others ≡ [] = rw is at none in rw is (deeper rest))
+    of_kind lives.Element is deeper = (let rest : beside others ≡ [] = rw is at none in rw is (deeper rest))
+    of_kind lives.Source is deeper = (let rest : beside others ≡ [] = rw is at none in rw is (deeper rest))
+    of_kind lives.Mask is deeper = (let rest : beside others ≡ [] = rw is at none in rw is (deeper rest))
+
+side_is : (m : Inside) → IsSound m → side_of m.core m.store ≡ core_side (state_of m)
+side_is m sound = ap (λ (n : ℕ). record { made = m.store.made; streams = m.store.streams; core = m.core; display_sources = n }) (no_display m.store.others sound.others)
+
+pub same_rest : (store now : StoreView) → now ≡ store → KeepsRest store now
+same_rest store now same = record { streams = ap (λ (v : StoreView). v.streams) same; numbered = ap (λ (v : StoreView). v.numbered) same; others = ap (λ (v : StoreView). beside v.others) same }
+
+plain_composed : (d : ℕ) (w : CoreSide) (o : Outcome CoreSide) → IsPlain (core_answer d w o).1
+plain_composed d w (Ok done) = tt
+plain_composed d w (Err r) = plain_answer r.code r.value
+
+module _ (m : Inside) (h : State) (seen : state_of m ≡ h) (sound : IsSound m) (core : CoreState) (store : StoreView) (rest : KeepsRest m.store store) where
+  -- what holds of the machine holds after a call of composition
+  pub sound_composed : Fits core store → IsSound (record m { core = core; store = store })
+  sound_composed fits =
+      record {
+        fits = fits;
+        others = rest.others ∙ sound.others;
+        numbered = rw (rest.streams, rest.numbered) sound.numbered;
+        few = sound.few;
+        screens = rw rest.numbered sound.screens;
+        ports = sound.ports;
+        small = rw rest.streams sound.small;
+        streams = rw rest.streams sound.streams;
+        frame = rw rest.streams sound.frame;
+        once = sound.once;
+        known = rw rest.numbered sound.known;
+      }
+
+  -- a call of composition was matched
+  pub as_composed : (c wanted : Call) (d : ℕ) (f : State → CoreSide → Outcome CoreSide) (reply : Reply) → c ≡ wanted → ((s : State) → act s wanted (is_out_of_memory reply.code) ≡ composed d (f s) s)
+      → core_answer d (side_of m.core m.store) (f (state_of m) (side_of m.core m.store)) ≡ (side_of core store, reply) → IsAct h c (state_of (record m { core = core; store = store })) reply
+  as_composed c wanted d f reply is acts step =
+      let s = state_of m in
+      let there : core_answer d (core_side s) (f s (core_side s)) ≡ (side_of core store, reply) = subst (λ (w : CoreSide). core_answer d w (f s w) ≡ (side_of core store, reply)) (side_is m sound) step in
+      let left : with_side (side_of core store) s ≡ state_of (record m { core = core; store = store }) = ap (λ (n : ℕ). record s { made = store.made; numbered = n; streams = store.streams; core = core }) (sym rest.numbered) in
+      let goes : act s wanted (is_out_of_memory reply.code) ≡ (state_of (record m { core = core; store = store }), reply) =
+      acts s ∙ ap (λ (x : CoreSide × Reply). (with_side x.0 s, x.1)) there ∙ ap (λ (t : State). (t, reply)) left in
+      let plain : IsPlain reply = subst IsPlain (ap (λ (x : CoreSide × Reply). x.1) there) (plain_composed d (core_side s) (f s (core_side s))) in
+      as_act h (state_of (record m { core = core; store = store })) c wanted reply is (subst (λ (t : State). act t wanted (is_out_of_memory reply.code) ≡ (state_of (record m { core = core; store = store }), reply)) seen goes) plain

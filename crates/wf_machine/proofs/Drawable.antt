@@ -1,0 +1,173 @@
+-- A scene whose layers fit the streams has a picture with the images that were taken of them.
+use Rattle.std.proofs.Common.{◌≡◌, ◌≢◌, ℕ, ◌<◌, Bool, true, false, cond, ◌==◌, ◌&&◌, List, [], ◌∷◌, Option, Some, None, refl, sym, ap, subst, ◌∙◌, arith, IsTrue, T}
+use lib.Signed.{le_z_yes}
+use Rattle.std.specs.Prelude.{nat_le, nat_lt, ℤ, pos, negsuc, ◌≤ℤ◌, ◌+ℤ◌, int_le}
+use Rattle.std.specs.List.{All, AllByRecursion}
+use Rattle.std.specs.Option.{option_map, IfSome, IsSomeAnd}
+use Rattle.std.proofs.lemmas.Bool.{and_parts, leb-true, ltb-true}
+use Rattle.std.proofs.lemmas.Int.{ints}
+use Rattle.std.proofs.lemmas.List.Elements.{All-cons, All-nil}
+use Rattle.wf_pixel.specs.declared.Rect.{Rect}
+use Rattle.wf_pixel.specs.declared.Size.{Size}
+use Rattle.wf_pixel.specs.declared.Format.{Format}
+use Rattle.wf_pixel.specs.declared.Format.TheVariants.{Rgba8, Rgba8Pre, Rgbx8, A8}
+use Rattle.wf_pixel.specs.Choice.{has_sides, is_a8, is_side}
+use Rattle.wf_pixel.specs.Place.{IsDrawn, size_of}
+use Rattle.wf_image.specs.Bitmap.{Bitmap}
+use Rattle.wf_image.specs.Contents.{image_of}
+use Rattle.wf_stream.specs.Buffers.{Buffers, HasShape}
+use Rattle.wf_stream.specs.Streams.{KeptStream, buffers_at, stream_at}
+use Rattle.wf_scene.specs.declared.Layer.{Layer}
+use Rattle.wf_scene.specs.declared.Scene.{Scene}
+use Rattle.wf_scene.specs.Layers.{holds_rect, is_placed_layer}
+use Rattle.wf_scene.specs.Values.{is_coordinate}
+use Rattle.wf_core.specs.Fits.{LayerFits}
+use Rattle.wf_model.specs.declared.Content.{Content}
+use Rattle.wf_model.specs.Picture.{Fits, Images, LayerFits as Shows}
+use Rattle.wf_model.specs.State.{Port}
+use Rattle.wf_machine.specs.Fitting.{AllFit, IsComposable}
+use Rattle.wf_machine.specs.Latching.{AreShapedAs}
+use Rattle.wf_machine.proofs.Begun.{shaped_at}
+
+in_order : (a b : ℤ) → int_le a b ≡ true → a ≤ℤ b
+in_order a b is = le_z_yes (subst T (sym is) tt)
+
+-- the parts of what holds of a rectangle inside a size
+module _ (size : Size) (r : Rect) (holds : holds_rect size r ≡ true) where
+  abbrev parts : Bool
+  parts = nat_lt 0 r.w && nat_lt 0 r.h && int_le (pos 0) r.x && int_le (pos 0) r.y
+
+  sixth : ((parts && int_le (r.x +ℤ pos r.w) (pos size.w)) ≡ true) × (int_le (r.y +ℤ pos r.h) (pos size.h) ≡ true)
+  sixth = and_parts (parts && int_le (r.x +ℤ pos r.w) (pos size.w)) (int_le (r.y +ℤ pos r.h) (pos size.h)) holds
+
+  fifth : (parts ≡ true) × (int_le (r.x +ℤ pos r.w) (pos size.w) ≡ true)
+  fifth = and_parts parts (int_le (r.x +ℤ pos r.w) (pos size.w)) sixth.0
+
+  fourth : ((nat_lt 0 r.w && nat_lt 0 r.h && int_le (pos 0) r.x) ≡ true) × (int_le (pos 0) r.y ≡ true)
+  fourth = and_parts (nat_lt 0 r.w && nat_lt 0 r.h && int_le (pos 0) r.x) (int_le (pos 0) r.y) fifth.0
+
+  third : ((nat_lt 0 r.w && nat_lt 0 r.h) ≡ true) × (int_le (pos 0) r.x ≡ true)
+  third = and_parts (nat_lt 0 r.w && nat_lt 0 r.h) (int_le (pos 0) r.x) fourth.0
+
+  second : (nat_lt 0 r.w ≡ true) × (nat_lt 0 r.h ≡ true)
+  second = and_parts (nat_lt 0 r.w) (nat_lt 0 r.h) third.0
+
+  pub x_positive : pos 0 ≤ℤ r.x
+  x_positive = in_order (pos 0) r.x third.1
+
+  pub y_positive : pos 0 ≤ℤ r.y
+  y_positive = in_order (pos 0) r.y fourth.1
+
+  -- inside an image it can be drawn
+  pub inside_drawn : has_sides size ≡ true → IsDrawn r
+  inside_drawn sides =
+      let each = and_parts (is_side size.w) (is_side size.h) sides in
+      let w = leb-true size.w 1024 (and_parts (nat_le 1 size.w) (nat_le size.w 1024) each.0).1 in
+      let h = leb-true size.h 1024 (and_parts (nat_le 1 size.h) (nat_le size.h 1024) each.1).1 in
+      let right : (r.x +ℤ pos r.w) ≤ℤ pos size.w = in_order (r.x +ℤ pos r.w) (pos size.w) fifth.1 in
+      let bottom : (r.y +ℤ pos r.h) ≤ℤ pos size.h = in_order (r.y +ℤ pos r.h) (pos size.h) sixth.1 in
+      let left = x_positive in
+      let top = y_positive in
+      let wide : 0 < r.w = ltb-true 0 r.w second.0 in
+      let high : 0 < r.h = ltb-true 0 r.h second.1 in
+      record {
+        w_low = omega (arith, ints, wide);
+        w_high = omega (arith, ints, w, right, left);
+        h_low = omega (arith, ints, high);
+        h_high = omega (arith, ints, h, bottom, top);
+        x_low = omega (arith, ints, left);
+        x_high = omega (arith, ints, right, w);
+        y_low = omega (arith, ints, top);
+        y_high = omega (arith, ints, bottom, h);
+      }
+
+-- a destination of a layer can be drawn
+dest_drawn : (l : Layer) → has_sides (size_of l.dest) ≡ true → is_placed_layer l ≡ true → IsDrawn l.dest
+dest_drawn l sides placed =
+    let each = and_parts (is_side l.dest.w) (is_side l.dest.h) sides in
+    let w = and_parts (nat_le 1 l.dest.w) (nat_le l.dest.w 1024) each.0 in
+    let h = and_parts (nat_le 1 l.dest.h) (nat_le l.dest.h 1024) each.1 in
+    let place = and_parts (is_coordinate l.dest.x) (is_coordinate l.dest.y) placed in
+    let x = and_parts (int_le (negsuc 16383) l.dest.x) (int_le l.dest.x (pos 16384)) place.0 in
+    let y = and_parts (int_le (negsuc 16383) l.dest.y) (int_le l.dest.y (pos 16384)) place.1 in
+    record {
+      w_low = leb-true 1 l.dest.w w.0;
+      w_high = leb-true l.dest.w 1024 w.1;
+      h_low = leb-true 1 l.dest.h h.0;
+      h_high = leb-true l.dest.h 1024 h.1;
+      x_low = in_order (negsuc 16383) l.dest.x x.0;
+      x_high = in_order l.dest.x (pos 16384) x.1;
+      y_low = in_order (negsuc 16383) l.dest.y y.0;
+      y_high = in_order l.dest.y (pos 16384) y.1;
+    }
+
+is_mask : (f : Format) → is_a8 f ≡ true → f ≡ A8
+is_mask A8 is = refl
+is_mask Rgba8 is = absurd cc
+is_mask Rgba8Pre is = absurd cc
+is_mask Rgbx8 is = absurd cc
+
+-- the sides of a stream that is kept
+pub sides_at : (ports : List Port) (cs : List Content) (n : ℕ) (ss : List KeptStream) → AllFit ports cs ss → IfSome (buffers_at n ss) (λ b. has_sides b.size ≡ true)
+sides_at ports cs n [] fit = tt
+sides_at ports cs n (s ∷ ss) fit =
+    elim (s.number == n) as (λ b. IfSome (option_map (λ (t : KeptStream). t.buffers) (cond b (Some s) (stream_at n ss))) (λ c. has_sides c.size ≡ true)) [ true ↦ fit.0.sides | false ↦ sides_at ports cs n ss fit.1 ]
+
+module _ (ports : List Port) (cs : List Content) (ss : List KeptStream) (contents : Images) (fit : AllFit ports cs ss) (shaped : AreShapedAs ss contents) where
+  -- an image of a stream has its shape
+  shape_of : (n : ℕ) (i : Bitmap) (P : Buffers → Type 0) → image_of n contents ≡ Some i → IsSomeAnd (buffers_at n ss) P → (b : Buffers) × (HasShape b.size b.format i) × (P b)
+  shape_of n i P is holds = of_buffers (buffers_at n ss) (shaped_at n i ss contents shaped is) holds
+    where
+      of_buffers : (o : Option Buffers) → IsSomeAnd o (λ b. HasShape b.size b.format i) → IsSomeAnd o P → (b : Buffers) × (HasShape b.size b.format i) × (P b)
+      of_buffers None shape holds = absurd shape
+      of_buffers (Some b) shape holds = (b, shape, holds)
+
+  -- the source rectangle lies inside a stream with sides
+  src_of : (l : Layer) → LayerFits ss l → (size : Size) × (has_sides size ≡ true) × (holds_rect size l.src ≡ true)
+  src_of l fits = of_buffers (buffers_at l.stream ss) (sides_at ports cs l.stream ss fit) fits.source
+    where
+      of_buffers : (o : Option Buffers) → IfSome o (λ b. has_sides b.size ≡ true) → IsSomeAnd o (λ b. (is_a8 b.format ≡ false) × (holds_rect b.size l.src ≡ true)) → (size : Size) × (has_sides size ≡ true) × (holds_rect size l.src ≡ true)
+      of_buffers None sides holds = absurd holds
+      of_buffers (Some b) sides holds = (b.size, sides, holds.1)
+
+  layer_shows : (l : Layer) → LayerFits ss l → Shows contents l
+  layer_shows l fits =
+      let src = src_of l fits in
+      record {
+        src = inside_drawn src.0 l.src src.2 src.1;
+        dest = dest_drawn l fits.dest fits.place;
+        src_x = x_positive src.0 l.src src.2;
+        src_y = y_positive src.0 l.src src.2;
+        has_source = of_source (image_of l.stream contents) refl;
+        has_mask = λ masked. of_mask masked (image_of l.mask contents) refl;
+      }
+    where
+      of_source : (o : Option Bitmap) → image_of l.stream contents ≡ o → IfSome o (λ i. (i.format ≢ A8) × IsTrue (holds_rect i.size l.src))
+      of_source None is = tt
+      of_source (Some i) is =
+          let b = shape_of l.stream i _ is fits.source in
+          ((λ mask. (let no : is_a8 i.format ≡ false = ap is_a8 b.1.format_is ∙ b.2.0 in absurd (let yes : is_a8 A8 ≡ false = subst (λ (f : Format). is_a8 f ≡ false) mask no in cc))), rw b.1.size_is b.2.1)
+
+      of_mask : IsTrue l.transparency.mask → (o : Option Bitmap) → image_of l.mask contents ≡ o → IfSome o (λ i. (i.format ≡ A8) × (i.size ≡ size_of l.dest))
+      of_mask masked None is = tt
+      of_mask masked (Some i) is =
+          let b = shape_of l.mask i _ is (fits.mask masked) in
+          (is_mask i.format (ap is_a8 b.1.format_is ∙ b.2.0), b.1.size_is ∙ b.2.1)
+
+  layers_show : (ls : List Layer) → AllByRecursion (LayerFits ss) ls → All (Shows contents) ls
+  layers_show [] fits = All-nil (Shows contents)
+  layers_show (l ∷ ls) fits = All-cons (Shows contents) l ls (layer_shows l fits.0) (layers_show ls fits.1)
+
+  -- the scene of a context, and the images of its streams
+  pub scene_shows : (target : ℕ) (scene : Scene) → IsComposable ss target scene → Fits scene contents
+  scene_shows target scene fits =
+      let sides = target_sides target scene fits in
+      let each = and_parts (is_side scene.size.w) (is_side scene.size.h) sides in
+      record { w = each.0; h = each.1; layers = layers_show scene.layers.items fits.layers }
+    where
+      target_sides : (target : ℕ) (scene : Scene) → IsComposable ss target scene → has_sides scene.size ≡ true
+      target_sides target scene fits = of_buffers (buffers_at target ss) (sides_at ports cs target ss fit) fits.target_is
+        where
+          of_buffers : (o : Option Buffers) → IfSome o (λ b. has_sides b.size ≡ true) → IsSomeAnd o (λ b. (b.size ≡ scene.size) × (is_a8 b.format ≡ false)) → has_sides scene.size ≡ true
+          of_buffers None sides is = absurd is
+          of_buffers (Some b) sides is = subst (λ (s : Size). has_sides s ≡ true) is.0 sides

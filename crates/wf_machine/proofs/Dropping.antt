@@ -1,0 +1,198 @@
+-- Streams without a name are dropped, and what holds of the machine holds still.
+use Rattle.std.proofs.Common.{◌≡◌, ℕ, zero, suc, ◌+◌, ◌<◌, ◌≤◌, Bool, true, false, cond, ◌==◌, ◌||◌, List, [], ◌∷◌, ◌++◌, length, map, filter, Option, Some, None, refl, sym, ap, subst, ◌∙◌, arith}
+use Rattle.std.specs.Prelude.{flat_map, sum_by}
+use Rattle.std.specs.List.{range_with_len}
+use Rattle.std.specs.Option.{option_map, IfSome}
+use Rattle.std.proofs.lemmas.Bool.{eqb-true}
+use Rattle.std.proofs.lemmas.Bool.Decides.{nat_tests}
+use Rattle.std.proofs.lemmas.List.{length-map}
+use Rattle.std.proofs.lemmas.List.Folds.{list_any-append}
+use Rattle.std.proofs.lemmas.List.Sums.{sum_by-cons}
+use Rattle.wf_words.specs.Keyed.{is_in}
+use Rattle.wf_stream.specs.Buffers.{Buffers, buffer_bytes}
+use Rattle.wf_stream.specs.Streams.{KeptStream, StoreView, IsNumbered, buffers_at, held, stream_at}
+use Rattle.wf_calls.specs.declared.call.JobKind.{JobKind}
+use Rattle.wf_calls.specs.declared.call.JobKind.TheVariants as kind
+use Rattle.wf_model.specs.declared.Content.{Content}
+use Rattle.wf_model.specs.Names.{all_names, core_names, display_names, frame_names, kept, own_names, settle, target_names}
+use Rattle.wf_calls.specs.declared.ports.Modes.{Modes}
+use Rattle.wf_calls.specs.declared.ports.Ports.{Ports}
+use Rattle.wf_model.specs.State.{Port, Running, State, initial_port, opening, screen}
+use Rattle.wf_machine.specs.declared.parts.Parts.TheInside.{Inside}
+use Rattle.wf_machine.specs.Fitting.{AllFit, FrameFits, IsOfTarget, KindFits, contents_of}
+use Rattle.wf_machine.specs.Inside.{IsSound, state_of}
+use Rattle.wf_machine.specs.Object.{IsSettled}
+use Rattle.wf_machine.specs.Ports.{port_of, running_of}
+use Rattle.wf_machine.proofs.Opening.{screens}
+use Rattle.wf_machine.proofs.StillComposed.{in_back, in_first, in_front, still_fits}
+
+-- the streams whose numbers are in a list
+abbrev pub among : List ℕ → List KeptStream → List KeptStream
+among ns ss = filter (λ s. is_in s.number ns) ss
+
+-- what is found, and what holds, of those that are left
+
+pub found_among : (ns : List ℕ) (n : ℕ) (ss : List KeptStream) → is_in n ns ≡ true → stream_at n (among ns ss) ≡ stream_at n ss
+found_among ns n [] within = refl
+found_among ns n (s ∷ ss) within =
+    elim (s.number == n) as (λ b. (s.number == n) ≡ b → stream_at n (among ns (s ∷ ss)) ≡ cond b (Some s) (stream_at n ss)) [
+      | true ↦ λ here. (let there : is_in s.number ns ≡ true = ap (λ (k : ℕ). is_in k ns) (eqb-true s.number n here) ∙ within in rw (there, here) refl)
+      | false ↦ λ other. (elim (is_in s.number ns) as (λ b. stream_at n (cond b (s ∷ among ns ss) (among ns ss)) ≡ stream_at n ss) [ true ↦ rw other (found_among ns n ss within) | false ↦ found_among ns n ss within ])
+    ] refl
+
+pub seen_among : (ns : List ℕ) (n : ℕ) (ss : List KeptStream) → is_in n ns ≡ true → buffers_at n (among ns ss) ≡ buffers_at n ss
+seen_among ns n ss within = ap (λ (o : Option KeptStream). option_map (λ (s : KeptStream). s.buffers) o) (found_among ns n ss within)
+
+numbered_lower : (low under high : ℕ) (ss : List KeptStream) → under ≤ low → IsNumbered low ss high → IsNumbered under ss high
+numbered_lower low under high [] least rising = omega (arith, rising)
+numbered_lower low under high (s ∷ ss) least rising = (omega (arith, rising.0), rising.1)
+
+numbered_among : (ns : List ℕ) (low high : ℕ) (ss : List KeptStream) → IsNumbered low ss high → IsNumbered low (among ns ss) high
+numbered_among ns low high [] rising = rising
+numbered_among ns low high (s ∷ ss) rising =
+    let later = numbered_among ns s.number high ss rising.1 in
+    elim (is_in s.number ns) as (λ b. IsNumbered low (cond b (s ∷ among ns ss) (among ns ss)) high) [
+      | true ↦ (rising.0, later)
+      | false ↦ numbered_lower s.number low high (among ns ss) (omega (arith, rising.0)) later
+    ]
+
+bytes_among : (ns : List ℕ) (ss : List KeptStream) → (held (among ns ss)).bytes ≤ (held ss).bytes
+bytes_among ns [] = omega arith
+bytes_among ns (s ∷ ss) =
+    let each : KeptStream → ℕ = λ t. buffer_bytes t.buffers in
+    let later = bytes_among ns ss in
+    elim (is_in s.number ns) as (λ b. sum_by each (cond b (s ∷ among ns ss) (among ns ss)) ≤ sum_by each (s ∷ ss)) [
+      | true ↦ omega (arith, later, sum_by-cons each s (among ns ss), sum_by-cons each s ss)
+      | false ↦ omega (arith, later, sum_by-cons each s ss)
+    ]
+
+fit_among : (ns : List ℕ) (ports : List Port) (cs : List Content) (ss : List KeptStream) → AllFit ports cs ss → AllFit ports cs (among ns ss)
+fit_among ns ports cs [] fit = tt
+fit_among ns ports cs (s ∷ ss) fit = elim (is_in s.number ns) as (λ b. AllFit ports cs (cond b (s ∷ among ns ss) (among ns ss))) [ true ↦ (fit.0, fit_among ns ports cs ss fit.1) | false ↦ fit_among ns ports cs ss fit.1 ]
+
+-- the names of a state
+
+core_named : (h : State) (n : ℕ) → is_in n (core_names h.core) ≡ true → is_in n (all_names h) ≡ true
+core_named h n within =
+    in_front n ((flat_map own_names h.streams ++ core_names h.core) ++ display_names h.display) (frame_names h.frame)
+    (in_front n (flat_map own_names h.streams ++ core_names h.core) (display_names h.display) (in_back n (flat_map own_names h.streams) (core_names h.core) within))
+
+frame_named : (h : State) (n : ℕ) → is_in n (frame_names h.frame) ≡ true → is_in n (all_names h) ≡ true
+frame_named h n within = in_back n ((flat_map own_names h.streams ++ core_names h.core) ++ display_names h.display) (frame_names h.frame) within
+
+-- the target of the running frame is left
+frame_among : (ns : List ℕ) (ports : List Port) (ss : List KeptStream) (o : Option Running) → ((n : ℕ) → is_in n (frame_names o) ≡ true → is_in n ns ≡ true) → IfSome o (FrameFits ports ss) → IfSome o (FrameFits ports (among ns ss))
+frame_among ns ports ss None named fits = tt
+frame_among ns ports ss (Some f) named fits = of_kind f.kind (λ n within. named n (in_back n (map (λ (c : Content). c.stream) f.contents) (target_names f.kind) within)) fits
+  where
+    of_kind : (k : JobKind) → ((n : ℕ) → is_in n (target_names k) ≡ true → is_in n ns ≡ true) → KindFits ports ss f.size f.format k → KindFits ports (among ns ss) f.size f.format k
+    of_kind (kind.Context handle target) named fits = subst (λ (o : Option Buffers). IsOfTarget o f.size f.format) (sym (seen_among ns target ss (named target (in_first target [])))) fits
+    of_kind (kind.Port port) named fits = fits
+
+-- the machine without the streams that nothing names
+pub sound_settled : (m : Inside) (store : StoreView) → store.streams ≡ kept (state_of m) → store.others ≡ m.store.others → store.made ≡ m.store.made → store.numbered ≡ m.store.numbered → IsSound m → IsSound (record m { store = store })
+sound_settled m store streams others made numbered sound =
+    let ns = all_names (state_of m) in
+    let ss = m.store.streams in
+    record {
+      fits = still_fits m.core m.store store others (omega (arith, made)) (λ n within b found. (b, ap (buffers_at n) streams ∙ seen_among ns n ss (core_named (state_of m) n within) ∙ found, refl, refl)) sound.fits;
+      others = rw others sound.others;
+      numbered = rw (streams, numbered) (numbered_among ns 0 m.store.numbered ss sound.numbered);
+      few = sound.few;
+      screens = rw numbered sound.screens;
+      ports = sound.ports;
+      small = rw streams (omega (arith, sound.small, bytes_among ns ss));
+      streams = rw streams (fit_among ns (map port_of m.ports.items) (contents_of (option_map running_of m.frame)) ss sound.streams);
+      frame = rw streams (frame_among ns (map port_of m.ports.items) ss (option_map running_of m.frame) (frame_named (state_of m)) sound.frame);
+      once = sound.once;
+      known = rw numbered sound.known;
+    }
+
+-- dropping twice is dropping once
+
+only_itself : (s : KeptStream) (n : ℕ) → is_in n (own_names s) ≡ true → s.number ≡ n
+only_itself s n within =
+    elim (s.handle == 0) as (λ b. is_in n (cond b [] (s.number ∷ []) ++ cond s.buffers.out (s.number ∷ []) []) ≡ true → s.number ≡ n) [
+      | true ↦ elim s.buffers.out as (λ b. is_in n (cond b (s.number ∷ []) []) ≡ true → s.number ≡ n) [ true ↦ λ is. one is | false ↦ λ is. absurd cc ]
+      | false ↦ elim s.buffers.out as (λ b. ((s.number == n) || is_in n (cond b (s.number ∷ []) [])) ≡ true → s.number ≡ n) [
+        | true ↦ λ is. two is
+        | false ↦ λ is. one is
+      ]
+    ] within
+  where
+    one : ((s.number == n) || false) ≡ true → s.number ≡ n
+    one is = elim (s.number == n) as (λ b. (s.number == n) ≡ b → (b || false) ≡ true → s.number ≡ n) [ true ↦ λ here is. eqb-true s.number n here | false ↦ λ here is. absurd cc ] refl is
+
+    two : ((s.number == n) || ((s.number == n) || false)) ≡ true → s.number ≡ n
+    two is = elim (s.number == n) as (λ b. (s.number == n) ≡ b → (b || (b || false)) ≡ true → s.number ≡ n) [ true ↦ λ here is. eqb-true s.number n here | false ↦ λ here is. absurd cc ] refl is
+
+-- a stream that names itself does so among those that are left
+own_left : (ns : List ℕ) (n : ℕ) (ss : List KeptStream) → is_in n ns ≡ true → is_in n (flat_map own_names ss) ≡ true → is_in n (flat_map own_names (among ns ss)) ≡ true
+own_left ns n [] within own = own
+own_left ns n (s ∷ ss) within own =
+    elim (is_in n (own_names s)) as (λ b. is_in n (own_names s) ≡ b → is_in n (flat_map own_names (among ns (s ∷ ss))) ≡ true) [
+      | true ↦ λ here. (
+          let there : is_in s.number ns ≡ true = ap (λ (k : ℕ). is_in k ns) (only_itself s n here) ∙ within in
+          rw there (in_front n (own_names s) (flat_map own_names (among ns ss)) here))
+      | false ↦ λ other. (
+          let behind : is_in n (flat_map own_names ss) ≡ true = ap (λ (b : Bool). b || is_in n (flat_map own_names ss)) (sym other) ∙ sym (list_any-append (λ (x : ℕ). x == n) (own_names s) (flat_map own_names ss)) ∙ own in
+          let later = own_left ns n ss within behind in
+          elim (is_in s.number ns) as (λ b. is_in n (flat_map own_names (cond b (s ∷ among ns ss) (among ns ss))) ≡ true) [ true ↦ in_back n (own_names s) (flat_map own_names (among ns ss)) later | false ↦ later ])
+    ] refl
+
+-- what is named is named still
+still_named : (h : State) (n : ℕ) → is_in n (all_names h) ≡ true → is_in n (all_names (settle h)) ≡ true
+still_named h n within =
+    let own = flat_map own_names h.streams in
+    let left = flat_map own_names (kept h) in
+    let core = core_names h.core in
+    let display = display_names h.display in
+    let frame = frame_names h.frame in
+    let split : (a b c d : List ℕ) → is_in n (((a ++ b) ++ c) ++ d) ≡ (((is_in n a || is_in n b) || is_in n c) || is_in n d) = λ a b c d.
+    list_any-append (λ (x : ℕ). x == n) ((a ++ b) ++ c) d ∙ ap (λ (x : Bool). x || is_in n d) (list_any-append (λ (x : ℕ). x == n) (a ++ b) c ∙ ap (λ (x : Bool). x || is_in n c) (list_any-append (λ (x : ℕ). x == n) a b)) in
+    let was : (((is_in n own || is_in n core) || is_in n display) || is_in n frame) ≡ true = sym (split own core display frame) ∙ within in
+    split left core display frame
+    ∙ elim (is_in n own) as (λ b. is_in n own ≡ b → (((b || is_in n core) || is_in n display) || is_in n frame) ≡ true → (((is_in n left || is_in n core) || is_in n display) || is_in n frame) ≡ true) [
+      | true ↦ λ here _. rw (own_left (all_names h) n h.streams within here) refl
+      | false ↦ λ other rest. or_behind (is_in n left) (is_in n core) (is_in n display) (is_in n frame) rest
+    ] refl was
+  where
+    or_behind : (a b c d : Bool) → ((b || c) || d) ≡ true → (((a || b) || c) || d) ≡ true
+    or_behind true b c d is = refl
+    or_behind false b c d is = is
+
+all_left : (ns ms : List ℕ) (ss : List KeptStream) → ((n : ℕ) → is_in n ns ≡ true → is_in n ms ≡ true) → among ms (among ns ss) ≡ among ns ss
+all_left ns ms [] named = refl
+all_left ns ms (s ∷ ss) named =
+    elim (is_in s.number ns) as (λ b. is_in s.number ns ≡ b → among ms (cond b (s ∷ among ns ss) (among ns ss)) ≡ cond b (s ∷ among ns ss) (among ns ss)) [
+      | true ↦ λ here. (let there = named s.number here in rw there (ap (λ (ts : List KeptStream). s ∷ ts) (all_left ns ms ss named)))
+      | false ↦ λ other. all_left ns ms ss named
+    ] refl
+
+pub settled : (h : State) → IsSettled (settle h)
+settled h = sym (all_left (all_names h) (all_names (settle h)) h.streams (still_named h))
+
+-- before the first call there are the screens alone, which the ports name
+
+in_range : (n low many : ℕ) → low ≤ n → n < low + many → is_in n (range_with_len low many) ≡ true
+in_range n low zero from to = absurd (omega arith)
+in_range n low (suc many) from to =
+    elim (low == n) as (λ b. (low == n) ≡ b → (b || is_in n (range_with_len (low + 1) many)) ≡ true) [
+      | true ↦ λ here. refl
+      | false ↦ λ apart. in_range n (low + 1) many (grind (arith, nat_tests)) (omega arith)
+    ] refl
+
+screens_left : (ns : List ℕ) (k : ℕ) (ms : List Modes) → ((n : ℕ) → k ≤ n → n < k + length ms → is_in n ns ≡ true) → among ns (screens k ms) ≡ screens k ms
+screens_left ns k [] named = refl
+screens_left ns k (m ∷ ms) named =
+    let here : is_in k ns ≡ true = named k (omega arith) (omega arith) in
+    rw here (ap (λ (ss : List KeptStream). screen (k, m) ∷ ss) (screens_left ns (k + 1) ms (λ n from to. named n (omega arith) (omega arith))))
+
+pub opening_settled : (ports : Ports) → IsSettled (opening ports)
+opening_settled ports =
+    let ms = ports.modes.items in
+    let h = opening ports in
+    sym (screens_left (all_names h) 1 ms (λ n from to. (
+    let many : length (map initial_port ms) ≡ length ms = length-map ms initial_port in
+    let named : is_in n (display_names h.display) ≡ true = ap (λ (k : ℕ). is_in n (range_with_len 1 k)) many ∙ in_range n 1 (length ms) from to in
+    in_front n ((flat_map own_names h.streams ++ core_names h.core) ++ display_names h.display) (frame_names h.frame) (in_back n (flat_map own_names h.streams ++ core_names h.core) (display_names h.display) named))))

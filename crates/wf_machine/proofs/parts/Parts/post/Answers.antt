@@ -1,0 +1,33 @@
+use Rattle.std.proofs.Common.{map, sym, ap, subst, ◌∙◌}
+use Rattle.wf_stream.specs.Buffers.{posted}
+use Rattle.wf_stream.specs.Streams.{StoreView, change_stream}
+use Rattle.wf_calls.specs.declared.code.Code.TheVariants as code
+use Rattle.wf_model.specs.Outcome.{answer}
+use Rattle.wf_model.specs.Streams.{canvas_back, is_out_at_client}
+use Rattle.std.specs.Option.{option_map}
+use Rattle.wf_machine.specs.Inside.{IsSound, state_of}
+use Rattle.wf_machine.specs.Ports.{port_of, running_of}
+use Rattle.wf_machine.proofs.Drawing.{frame_apart}
+use Rattle.wf_machine.proofs.Buffering.{comes_back, out_apart, out_from}
+use Rattle.wf_machine.proofs.StillFitting.{posted_keeps, shape_kept}
+use Rattle.wf_machine.proofs.Sounds.{leaves, sound_kept}
+use Rattle.wf_machine.proofs.parts.Parts.post.Goals as goal
+
+pub post_to-requires : goal.post_to-requires
+post_to-requires c =
+    let out = sym c.is_out_at_client.ensures ∙ c.if-not-is_out_at_client.false in
+    out_from c.args.canvas (state_of c.self.inside) (ap (is_out_at_client c.args.canvas) c.self.view_is ∙ out)
+
+pub invariant_of-self : goal.invariant_of-self
+invariant_of-self c =
+    subst (λ (store : StoreView). IsSound (record c.self.inside { store = store })) (sym c.post_to.ensures) (sound_kept c.self.inside c.args.canvas.stream (posted c.args.canvas.image) (posted_keeps c.args.canvas.image)
+    (frame_apart c.args.canvas.stream (posted c.args.canvas.image) (map port_of c.self.inside.ports.items) c.self.inside.store.streams (option_map running_of c.self.inside.frame) (shape_kept (posted c.args.canvas.image) (posted_keeps c.args.canvas.image))
+    (out_apart c.args.canvas (state_of c.self.inside) (ap (is_out_at_client c.args.canvas) c.self.view_is ∙ sym c.is_out_at_client.ensures ∙ c.if-not-is_out_at_client.false)) c.self.invariant.frame) c.self.invariant)
+
+pub returns : goal.returns
+returns c =
+    let inside = c.self.inside in
+    let out = ap (is_out_at_client c.args.canvas) c.self.view_is ∙ sym c.is_out_at_client.ensures ∙ c.if-not-is_out_at_client.false in
+    leaves inside c.args.self.now c.self.view_is (λ t r. canvas_back c.args.canvas (posted c.args.canvas.image) t)
+    c.post_to.new.store (record inside.store { streams = change_stream c.args.canvas.stream (posted c.args.canvas.image) inside.store.streams }) c.done.result (answer code.Ok 0)
+    c.post_to.ensures c.done.ensures (comes_back c.args.canvas (posted c.args.canvas.image) (state_of inside) out)

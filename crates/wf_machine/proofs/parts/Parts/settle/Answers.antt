@@ -1,0 +1,58 @@
+use Rattle.std.proofs.Common.{◌≡◌, ℕ, List, [], length, map, sym, ap, subst, ◌∙◌}
+use Rattle.std.specs.Prelude.{flat_map}
+use Rattle.std.specs.List.{range_with_len}
+use Rattle.std.proofs.lemmas.List.{length-map}
+use Rattle.wf_stream.specs.Streams.{KeptStream, StoreView}
+use Rattle.wf_model.specs.Names.{core_names, display_names, kept, own_names, settle}
+use Rattle.wf_model.specs.State.{State}
+use Rattle.wf_machine.specs.declared.parts.Parts.TheInside.{Inside}
+use Rattle.wf_machine.specs.Inside.{state_of}
+use Rattle.wf_machine.specs.Marking.{Marks}
+use Rattle.wf_machine.specs.Ports.{port_of}
+use Rattle.wf_machine.proofs.Dropping.{sound_settled}
+use Rattle.wf_machine.proofs.Markings.{all_marked, own_marks, rest_marked}
+use Rattle.wf_machine.proofs.parts.Parts.settle.Goals as goal
+
+module _ (c : goal.After-sweep) where
+  abbrev m : Inside
+  m = c.self.inside
+
+  own : Marks c.unmark.new.self c.mark_own.new.self (flat_map own_names m.store.streams)
+  own = own_marks m c.unmark.new.self c.mark_own.new.self c.mark.new.store c.mark_screens.new.store c.mark_frame.new.store c.self.invariant.numbered c.unmark.ensures c.mark_own.ensures.marked c.mark_own.ensures.rest
+
+  composed : Marks c.mark_own.new.self c.mark.new.store (core_names m.core)
+  composed = record { marked = c.mark.ensures.marked; rest = c.mark.ensures.rest }
+
+  screens : Marks c.mark.new.store c.mark_screens.new.store (display_names (state_of m).display)
+  screens =
+      let many : length c.deref.result.now ≡ length (map port_of m.ports.items) = ap length c.deref.ensures.value ∙ sym (length-map m.ports.items port_of) in
+      subst (λ (n : ℕ). Marks c.mark.new.store c.mark_screens.new.store (range_with_len 1 n)) many c.mark_screens.ensures
+
+  streams : c.sweep.new.self.streams ≡ kept (state_of m)
+  streams =
+      ap (λ (v : StoreView). v.streams) c.sweep.ensures
+      ∙ all_marked m c.unmark.new.self c.mark_own.new.self c.mark.new.store c.mark_screens.new.store c.mark_frame.new.store c.self.invariant.numbered c.unmark.ensures own composed screens c.mark_frame.ensures
+
+  rest : record c.mark_frame.new.store { marked = [] } ≡ record m.store { marked = [] }
+  rest = rest_marked m c.unmark.new.self c.mark_own.new.self c.mark.new.store c.mark_screens.new.store c.mark_frame.new.store c.self.invariant.numbered c.unmark.ensures own composed screens c.mark_frame.ensures
+
+  made : c.sweep.new.self.made ≡ m.store.made
+  made = ap (λ (v : StoreView). v.made) c.sweep.ensures ∙ ap (λ (v : StoreView). v.made) rest
+
+  numbered : c.sweep.new.self.numbered ≡ m.store.numbered
+  numbered = ap (λ (v : StoreView). v.numbered) c.sweep.ensures ∙ ap (λ (v : StoreView). v.numbered) rest
+
+  others : c.sweep.new.self.others ≡ m.store.others
+  others = ap (λ (v : StoreView). v.others) c.sweep.ensures ∙ ap (λ (v : StoreView). v.others) rest
+
+pub invariant_of-self : goal.invariant_of-self
+invariant_of-self c = sound_settled c.self.inside c.sweep.new.self (streams c) (others c) (made c) (numbered c) c.self.invariant
+
+pub returns : goal.returns
+returns c =
+    let m = c.self.inside in
+    let state : ℕ → ℕ → List KeptStream → State = λ n k ss. record (state_of m) { made = n; numbered = k; streams = ss } in
+    ap (λ (n : ℕ). state n c.sweep.new.self.numbered c.sweep.new.self.streams) (made c)
+    ∙ ap (λ (k : ℕ). state m.store.made k c.sweep.new.self.streams) (numbered c)
+    ∙ ap (λ (ss : List KeptStream). state m.store.made m.store.numbered ss) (streams c)
+    ∙ ap settle c.self.view_is

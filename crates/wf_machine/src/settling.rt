@@ -1,0 +1,75 @@
+//! What is dropped after a call: the streams without a name.
+
+ghost use Rattle.std.specs.Prelude.{◌≡◌, ◌≤◌, [], ◌∷◌, length, map, option_map};
+ghost use Rattle.std.specs.List.{range_with_len};
+ghost use Rattle.wf_model.specs.Names.{frame_names, settle, target_names};
+ghost use Rattle.wf_machine.specs.Ports.{running_of};
+ghost use Rattle.wf_machine.specs.Marking.{Marks};
+
+use crate::frame::Frame;
+use crate::parts::Parts;
+use crate::port::Port;
+use wf_calls::JobKind;
+use wf_model::Content;
+use wf_stream::Store;
+
+/// Marks the stream of a number, if it is kept.
+fn mark_kept(store: &mut Store, number: u32)
+    ensures { Marks store.old store.new (number ∷ []) }
+{
+    if store.get(number).is_some() {
+        store.mark(number);
+    }
+}
+
+/// Marks the screens of the ports.
+fn mark_screens(store: &mut Store, ports: &[Port])
+    requires { length ports.now ≤ 4 }
+    ensures { Marks store.old store.new (range_with_len 1 (length ports.now)) }
+{
+    for port in 0..ports.len() as u32 {
+        mark_kept(store, port + 1);
+    }
+}
+
+/// Marks the streams of a frame's contents.
+fn mark_contents(store: &mut Store, contents: &[Content])
+    ensures { Marks store.old store.new (map (λ c. c.stream) contents.now) }
+{
+    for content in contents {
+        mark_kept(store, content.stream);
+    }
+}
+
+/// Marks the target of a context's frame.
+fn mark_target(store: &mut Store, kind: JobKind)
+    ensures { Marks store.old store.new (target_names kind) }
+{
+    if let JobKind::Context { target, .. } = kind {
+        mark_kept(store, target);
+    }
+}
+
+/// Marks the streams that a frame names.
+fn mark_frame(store: &mut Store, frame: &Option<Frame>)
+    ensures { Marks store.old store.new (frame_names (option_map running_of frame.now)) }
+{
+    if let Some(frame) = frame {
+        mark_contents(store, frame.contents.as_slice());
+        mark_target(store, frame.kind);
+    }
+}
+
+impl Parts {
+    /// Drops the streams that nothing names.
+    pub(crate) fn settle(&mut self)
+        ensures { self.new ≡ settle self.old }
+    {
+        self.store.unmark();
+        self.store.mark_own();
+        self.core.mark(&mut self.store);
+        mark_screens(&mut self.store, &self.ports);
+        mark_frame(&mut self.store, &self.frame);
+        self.store.sweep();
+    }
+}

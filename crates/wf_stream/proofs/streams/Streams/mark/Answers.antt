@@ -1,0 +1,32 @@
+use Rattle.std.proofs.Common.{true, refl}
+use Rattle.wf_stream.specs.Placed.{with_mark}
+use Rattle.wf_stream.proofs.Shelves.{placed_kept, placed_apart}
+use Rattle.wf_stream.proofs.Lifetimes.{placed_sole, other_placed}
+use Rattle.wf_stream.proofs.Marks.{mark_view, marks_marked}
+use Rattle.wf_stream.proofs.streams.Streams.mark.Goals as goal
+
+pub invariant_of-self : goal.invariant_of-self
+invariant_of-self c =
+    let n = c.args.number in
+    let f = with_mark true in
+    let p = c.self.inside.pool in
+    let es = c.self.inside.places.entries in
+    let sound = c.self.invariant in
+    rw c.set_mark.ensures (record {
+      rising = rw (mark_view n true p es) sound.rising;
+      kept = placed_kept n f p es (λ o. refl) sound.kept;
+      apart = placed_apart n f es (λ o. refl) sound.apart;
+      sole = placed_sole n f p es (λ o. refl) sound.sole;
+      no_other = other_placed n f p es (λ o. refl) sound.no_other;
+    })
+
+pub returns : goal.returns
+returns c =
+    let n = c.args.number in
+    let p = c.self.inside.pool in
+    let es = c.self.inside.places.entries in
+    let kept = rw (← c.self.view_is) at c.requires in
+    rw (← c.self.view_is, c.set_mark.ensures) (record {
+      marked = λ m. marks_marked m n p es kept;
+      streams = mark_view n true p es;
+    })

@@ -1,0 +1,28 @@
+use Rattle.std.proofs.Common.{◌≡◌, ◌∙◌, Option, ap, refl}
+use Rattle.std.specs.Option.{option_map}
+use Rattle.wf_image.specs.declared.canvas.Canvas.{Canvas}
+use Rattle.wf_script.specs.declared.line.Verb.{Verb}
+use Rattle.wf_script.specs.declared.line.Verb.TheVariants as verb
+use Rattle.wf_turn.specs.Calls.{plain_call}
+use Rattle.wf_turn.specs.Program.{Program, first_call, handle, kept_first, plain}
+use Rattle.wf_turn.proofs.program.Program.first_call.Goals as goal
+
+-- a line of one call
+module _ (c : goal.After-one_call) where
+  abbrev p : Program
+  p = c.args.self.now
+
+  of_verb : (v : Verb) → c.args.verb.now ≡ v → (option_map plain (plain_call (handle p) v) ≡ first_call p v) × (p.canvas ≡ kept_first v p.canvas)
+  of_verb (verb.Acquire s) is = absurd (c.in_default.not-Acquire s is)
+  of_verb verb.Post is = absurd (c.in_default.not-Post is)
+  of_verb verb.Discard is = absurd (c.in_default.not-Discard is)
+  of_verb (verb.Paint paint) is = absurd (c.in_default.not-Paint paint is)
+  of_verb (verb.Frame s paint) is = absurd (c.in_default.not-Frame s paint is)
+  of_verb verb.Tick is = absurd (c.in_default.not-Tick is)
+  of_verb _ is = (refl, refl)
+
+pub returns-in_default-clause-wanted : goal.returns-in_default-clause-wanted
+returns-in_default-clause-wanted c = c.one_call.ensures ∙ (of_verb c c.args.verb.now refl).0
+
+pub returns-in_default-clause-handed : goal.returns-in_default-clause-handed
+returns-in_default-clause-handed c = ap (λ (canvas : Option Canvas). record c.args.self.now { canvas = canvas }) (of_verb c c.args.verb.now refl).1
