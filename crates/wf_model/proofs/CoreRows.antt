@@ -1,5 +1,5 @@
 -- Worked calls of composition: what the plain machine answers.
-use Rattle.std.proofs.Common.{◌≡◌, ℕ, ◌+◌, true, false, ℤ, pos, negsuc, List, [], ◌∷◌, ◌++◌, Some, refl}
+use Rattle.std.proofs.Common.{◌≡◌, ℕ, ◌+◌, true, false, ℤ, pos, negsuc, List, [], ◌∷◌, ◌++◌, map, Some, refl}
 use Rattle.wf_pixel.specs.declared.Format.{Format}
 use Rattle.wf_pixel.specs.declared.Format.TheVariants.{Rgba8, Rgbx8, A8}
 use Rattle.wf_stream.specs.Buffers.{fresh}
@@ -8,7 +8,7 @@ use Rattle.wf_scene.specs.declared.attributes.ContextAttr.TheVariants as attr
 use Rattle.wf_calls.specs.Codes.{code_number}
 use Rattle.wf_calls.specs.declared.call.Reply.{Reply}
 use Rattle.wf_model.specs.Outcome.{Outcome}
-use Rattle.wf_model.specs.Composition.{CoreSide, no_objects, core_answer}
+use Rattle.wf_model.specs.Composition.{CoreState, CoreSide, no_objects, core_answer}
 use Rattle.wf_model.specs.Names.{core_names}
 use Rattle.wf_model.specs.Core as core
 
@@ -118,3 +118,36 @@ of_other_context : answers (with_stream 3 1 1 Rgba8 (after two_ports two_context
     ≡ (0, 6) ∷ (2, 0) ∷ (10, 0) ∷ []
 unfolding answers after
 of_other_context = refl
+
+-- device 3 with context 4 of the second port, a stream 5 for sources and a stream 6 for masks
+abbrev two_devices : CoreSide
+two_devices = with_stream 4 1 1 A8 (with_stream 3 1 1 Rgba8 (after two_ports (begun ++ (0, core.device_new false) ∷ (3, core.screen_context 3 (pos 2) (Some 2) false) ∷ [])))
+
+-- sources 7 and 8 and masks 9 and 10, one of each device
+abbrev of_both : List Asked
+of_both =
+    (1, core.source_new 1 2 5 false) ∷ (3, core.source_new 3 4 5 false)
+    ∷ (1, core.mask_new 1 2 6 false) ∷ (3, core.mask_new 3 4 6 false) ∷ []
+
+both_have : answers two_devices of_both ≡ (0, 7) ∷ (0, 8) ∷ (0, 9) ∷ (0, 10) ∷ []
+unfolding answers after
+both_have = refl
+
+abbrev handles : CoreState → List ℕ
+handles core =
+    map (λ d. d.handle) core.devices ++ map (λ c. c.handle) core.contexts ++ map (λ s. s.handle) core.sources
+    ++ map (λ m. m.handle) core.masks
+
+-- what is left of all objects when calls were made
+abbrev left : List Asked → List ℕ
+left calls = handles (after (after two_devices of_both) calls).core
+
+-- a device takes its contexts and all that is theirs with it, and nothing of the other device
+a_device_takes_its_own : left ((1, core.device_destroy 1) ∷ []) ≡ 3 ∷ 4 ∷ 8 ∷ 10 ∷ []
+unfolding after
+a_device_takes_its_own = refl
+
+-- and a context its sources and masks
+a_context_takes_its_own : left ((3, core.context_destroy 3 4) ∷ []) ≡ 1 ∷ 3 ∷ 2 ∷ 7 ∷ 9 ∷ []
+unfolding after
+a_context_takes_its_own = refl

@@ -1,10 +1,8 @@
 -- Worked frames and lives of streams: what the plain machine answers and keeps.
-use Rattle.std.proofs.Common.{◌≡◌, ℕ, ◌+◌, true, false, ℤ, pos, List, [], ◌∷◌, ◌++◌, map, Option, Some, None, refl}
+use Rattle.std.proofs.Common.{◌≡◌, ℕ, false, ℤ, pos, List, [], ◌∷◌, Option, Some, None, refl}
 use Rattle.wf_pixel.specs.declared.Size.{Size}
 use Rattle.wf_pixel.specs.declared.Format.TheVariants.{Rgba8}
-use Rattle.wf_image.specs.declared.canvas.Canvas.{Canvas}
-use Rattle.wf_image.specs.Bitmap.{Bitmap, blank}
-use Rattle.wf_stream.specs.Streams.{KeptStream, buffers_at}
+use Rattle.wf_image.specs.Bitmap.{Bitmap}
 use Rattle.wf_scene.specs.declared.attributes.ElementAttr.TheVariants as element
 use Rattle.wf_calls.specs.Codes.{code_number}
 use Rattle.wf_calls.specs.declared.call.Call.{Call}
