@@ -150,7 +150,7 @@ module _ (p : Program) (h : State) (client : ℕ) (m : Bool) (w : Wanted) (free 
 
   at_next : (q : Program) (after : ℕ) (leg_of : ℕ → Leg) → q.unpainted ≡ false → q.lines ≡ p.lines → Left (call.BeginNext after) (λ x. took_job q x.1.payload (leg_of x.1.value))
   unfolding step act
-  at_next q after leg_of clean same = start_leaves p q h (leg_of (begin_next after h).1.value) free clean same OfContext (begin_next after h) (next_starts after h)
+  at_next q after leg_of clean same = start_leaves p q h (leg_of (begin_next after h).1.value) free clean same (OfContext after h) (begin_next after h) (next_starts after h)
 
   at_port : (q : Program) (port : ℤ) (l : Leg) → q.unpainted ≡ false → q.lines ≡ p.lines → Left (call.BeginPort port) (λ x. took_job q x.1.payload l)
   unfolding step act

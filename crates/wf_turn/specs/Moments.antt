@@ -1,15 +1,29 @@
--- What each frame of a film shows: the scene of a port, and the newest images, at one moment of the order.
-use Rattle.std.specs.Prelude.{◌≡◌, ℕ, List, ◌∷◌, ◌++◌, Option, Some, option_map}
+-- What each frame of a film shows, and what each screen has: the picture of one scene, and of the newest images, at one
+-- moment of the order.
+use Rattle.std.specs.Prelude.{◌≡◌, ℕ, List, ◌∷◌, ◌++◌, Option, Some, None, option_map}
 use Rattle.wf_pixel.specs.declared.Format.TheVariants.{Rgba8Pre}
+use Rattle.wf_image.specs.Bitmap.{Bitmap}
+use Rattle.wf_stream.specs.Streams.{buffers_at, stream_at}
 use Rattle.wf_calls.specs.declared.order.Turn.{Turn}
 use Rattle.wf_film.specs.Film.{Frame, frame_of}
+use Rattle.wf_model.specs.declared.Context.{Context}
 use Rattle.wf_model.specs.Display.{port_scene}
-use Rattle.wf_model.specs.Frames.{newest_images, scene_streams}
+use Rattle.wf_model.specs.Frames.{newest_images, newest_of, next_context, scene_streams}
 use Rattle.wf_model.specs.Picture.{picture}
 use Rattle.wf_model.specs.State.{State}
 use Rattle.wf_script.specs.Script.{PlainScript}
 use Rattle.wf_turn.specs.Play.{replay}
 use Rattle.wf_turn.specs.Turns.{Show}
+
+-- one entry of the order, and the state that the entries before it leave, of which this holds
+pub record At (script : PlainScript) (order : List Turn) (Holds : State → Turn → Type 0) : Type 0 where
+  pub earlier : List Turn
+  pub entry : Turn
+  pub later : List Turn
+  pub cut : order ≡ earlier ++ entry ∷ later
+  pub moment : Show
+  pub reached : replay script earlier ≡ Some moment
+  pub holds : Holds moment.state entry
 
 -- the frame that a port shows in a state: the picture of its scene, with the newest images of the streams that it names
 abbrev pub port_frame : State → ℕ → ℕ → Option Frame
@@ -19,17 +33,38 @@ port_frame h port tick =
     (port_scene port h.display)
 
 -- an entry tells that the frame begins, which its port shows in that state
-pub record Begins (h : State) (t : Turn) (f : Frame) : Type 0 where
+pub record Begins (f : Frame) (h : State) (t : Turn) : Type 0 where
   pub code : t.code ≡ 0
   pub value : t.value ≡ f.port
   pub shows : port_frame h f.port f.tick ≡ Some f
 
--- one entry of the order tells that the frame begins, in the state that the entries before it leave
-pub record IsOfMoment (script : PlainScript) (order : List Turn) (f : Frame) : Type 0 where
-  pub earlier : List Turn
-  pub begin : Turn
-  pub later : List Turn
-  pub cut : order ≡ earlier ++ begin ∷ later
-  pub moment : Show
-  pub reached : replay script earlier ≡ Some moment
-  pub begins : Begins moment.state begin f
+-- one entry of the order tells that the frame begins
+abbrev pub IsOfMoment : PlainScript → List Turn → Frame → Type 0
+IsOfMoment script order f = At script order (Begins f)
+
+-- what a context composes in a state: the picture of its committed scene, with the newest images of the streams that it
+-- names, in the format of the stream that it draws into
+abbrev pub context_image : State → Context → Option Bitmap
+context_image h c =
+    option_map
+    (λ b. picture c.committed (newest_images (scene_streams c.committed) h.streams) b.format)
+    (buffers_at c.target h.streams)
+
+-- an entry tells that a frame of an active context begins, which draws this image into a stream
+pub record Composes (stream : ℕ) (image : Bitmap) (h : State) (t : Turn) : Type 0 where
+  pub above : ℕ
+  pub context : Context
+  pub next : next_context above h.core.contexts ≡ Some context
+  pub target : context.target ≡ stream
+  pub code : t.code ≡ 0
+  pub value : t.value ≡ context.handle
+  pub shows : context_image h context ≡ Some image
+
+-- one entry of the order tells that a context's frame begins, which draws this image into a stream
+abbrev pub IsComposed : PlainScript → List Turn → ℕ → Bitmap → Type 0
+IsComposed script order stream image = At script order (Composes stream image)
+
+-- the newest image of a stream after an order, if there is one
+abbrev pub image_after : ℕ → Option Show → Option Bitmap
+image_after stream None = None
+image_after stream (Some show) = newest_of (stream_at stream show.state.streams)

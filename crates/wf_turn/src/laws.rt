@@ -1,13 +1,22 @@
 //! Laws of the definitions of an order and its film.
 
-ghost use Rattle.std.specs.Prelude.{List, All};
+ghost use Rattle.std.specs.Prelude.{◌≡◌, ℕ, nat_le, List, All, length, Some, IsTrue};
+ghost use Rattle.wf_image.specs.Bitmap.{Bitmap};
 ghost use Rattle.wf_calls.specs.declared.order.Turn.{Turn};
 ghost use Rattle.wf_script.specs.Script.{PlainScript};
-ghost use Rattle.wf_turn.specs.Moments.{IsOfMoment};
+ghost use Rattle.wf_turn.specs.Moments.{IsComposed, IsOfMoment, image_after};
 ghost use Rattle.wf_turn.specs.Play.{frames_after, replay};
 
 /// Each frame of an order is the picture of one scene, that of its port, and of the images that were the newest of the
-/// scene's streams, all at the moment of one entry, which tells that the frame begins.
+/// scene's streams, all at the moment of one entry, which tells that the frame begins. Of these streams is the port's
+/// screen.
 pub fn each_frame_is_of_a_moment()
     ensures { (script : PlainScript) (order : List Turn) → All (IsOfMoment script order) (frames_after (replay script order)) }
+{}
+
+/// After any order, the newest image of a port's screen is the picture of one committed scene, that of a context which
+/// draws into the screen, and of the images that were the newest of the scene's streams, all at the moment of one entry,
+/// which tells that the context's frame begins.
+pub fn each_screen_is_of_a_moment()
+    ensures { (script : PlainScript) (order : List Turn) (port : ℕ) (image : Bitmap) → IsTrue (nat_le port (length script.ports.modes.items)) → image_after port (replay script order) ≡ Some image → IsComposed script order port image }
 {}

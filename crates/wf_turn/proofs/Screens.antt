@@ -1,0 +1,223 @@
+-- Each image of a screen, after any order, was composed of a context's committed scene.
+use Rattle.std.proofs.Common.{◌≡◌, ◌∙◌, ℕ, ◌+◌, Bool, true, false, cond, inl, inr, List, [], ◌∷◌, map, length, Option, Some, None, refl, sym, ap, subst, arith}
+use Rattle.std.specs.Prelude.{nat_le, pos, zip}
+use Rattle.std.specs.List.{range_with_len}
+use Rattle.std.specs.Option.{IfSome, is_some, option_map}
+use Rattle.std.proofs.lemmas.Bool.Decides.{nat_tests}
+use Rattle.wf_pixel.specs.declared.Format.{Format}
+use Rattle.wf_image.specs.declared.canvas.Canvas.{Canvas}
+use Rattle.wf_image.specs.Bitmap.{Bitmap}
+use Rattle.wf_scene.specs.declared.Scene.{Scene}
+use Rattle.wf_calls.specs.declared.call.Call.{Call}
+use Rattle.wf_calls.specs.declared.call.Call.TheVariants as call
+use Rattle.wf_calls.specs.declared.call.Job.{Job}
+use Rattle.wf_calls.specs.declared.call.JobKind.{JobKind}
+use Rattle.wf_calls.specs.declared.call.JobKind.TheVariants as kind
+use Rattle.wf_calls.specs.declared.call.Payload.TheVariants as payload
+use Rattle.wf_calls.specs.declared.call.Reply.{Reply}
+use Rattle.wf_calls.specs.declared.order.Turn.{Turn}
+use Rattle.wf_calls.specs.declared.ports.Modes.{Modes}
+use Rattle.wf_calls.specs.Codes.{entry}
+use Rattle.wf_machine.specs.Object.{is_begin}
+use Rattle.wf_model.specs.Frames.{begin_next, begin_port, job_of, newest_images, scene_streams, with_payload}
+use Rattle.wf_model.specs.State.{State, screen}
+use Rattle.wf_model.specs.Step.{act, step}
+use Rattle.wf_script.specs.declared.line.Line.{Line}
+use Rattle.wf_script.specs.declared.line.Verb.{Verb}
+use Rattle.wf_script.specs.declared.line.Verb.TheVariants as verb
+use Rattle.wf_script.specs.declared.name.Name.{Name}
+use Rattle.wf_script.specs.Script.{PlainScript}
+use Rattle.wf_turn.specs.declared.stage.Leg.TheVariants as leg
+use Rattle.wf_turn.specs.declared.stage.Stage.{Stage}
+use Rattle.wf_turn.specs.declared.stage.Stage.TheVariants as stage
+use Rattle.wf_turn.specs.declared.stage.Wanted.{Wanted}
+use Rattle.wf_turn.specs.Calls.{plain_call}
+use Rattle.wf_turn.specs.Moments.{Composes, IsComposed, image_after}
+use Rattle.wf_turn.specs.Play.{is_marked, replay}
+use Rattle.wf_turn.specs.Program.{Program, first_call, first_line, handle, next, painted_job, plain, took, waiting, wanted_at, worked}
+use Rattle.wf_turn.specs.Turns.{Show, opening_show, turn}
+use Rattle.wf_turn.proofs.Holding.{AllHold, handed_hold, one_holds, opening_hold, took_holds}
+use Rattle.wf_turn.proofs.Replays.{Step, order_keeps, taken_turn, turn_of}
+use Rattle.wf_turn.proofs.Screening.{AreFine, AreHome, BringsHome, newest_home, screen_composed}
+use Rattle.wf_turn.proofs.ScreenCalls.{AreScreens, Carries, step_keeps}
+use Rattle.wf_turn.proofs.Starts.{OfContext, OfPort, Starts, next_starts, port_starts}
+
+module _ (n : ℕ) (Composed : ℕ → Bitmap → Type 0) where
+  -- a Job that a program holds brings home what was composed, once it is painted
+  abbrev WillBring : Option Job → Bool → Type 0
+  WillBring job unpainted = IfSome job (λ j. BringsHome n Composed (cond unpainted (painted_job j) j))
+
+  -- and it is painted
+  abbrev Brings : Option Job → Bool → Type 0
+  Brings job unpainted = (unpainted ≡ false) × IfSome job (BringsHome n Composed)
+
+  worked_brings : (p : Program) → WillBring p.job p.unpainted → Brings (worked p).job (worked p).unpainted
+  worked_brings p will = by_parts p.unpainted p.job will
+    where
+      by_parts : (b : Bool) (o : Option Job) → WillBring o b → Brings (worked (record p { job = o; unpainted = b })).job (worked (record p { job = o; unpainted = b })).unpainted
+      by_parts true None will = (refl, tt)
+      by_parts true (Some job) will = (refl, will)
+      by_parts false o will = (refl, will)
+
+  -- the calls of programs carry such Jobs alone
+
+  plain_carries : (handle : Option Name → ℕ) (v : Verb) → IfSome (plain_call handle v) (Carries n Composed)
+  plain_carries handle (verb.StreamNew width height f b) = tt
+  plain_carries handle (verb.Acquire s) = tt
+  plain_carries handle verb.Post = tt
+  plain_carries handle verb.Discard = tt
+  plain_carries handle (verb.Paint paint) = tt
+  plain_carries handle (verb.Frame s paint) = tt
+  plain_carries handle verb.Tick = tt
+  plain_carries handle _ = tt
+
+  module _ (p : Program) (w : Wanted) (brings : Brings p.job p.unpainted) where
+    of_call : (o : Option Call) → IfSome o (Carries n Composed) → option_map plain o ≡ Some w → Carries n Composed w.call
+    of_call None carries asks = absurd cc
+    of_call (Some c) carries asks = (let is : plain c ≡ w = cc in subst (λ (x : Wanted). Carries n Composed x.call) is carries)
+
+    of_test : (b : Bool) (x : Wanted) → cond b None (Some x) ≡ Some w → Carries n Composed x.call → Carries n Composed w.call
+    of_test true x asks carries = absurd cc
+    of_test false x asks carries = (let is : x ≡ w = cc in subst (λ (y : Wanted). Carries n Composed y.call) is carries)
+
+    of_canvas : (call_of : Canvas → Call) → ((c : Canvas) → Carries n Composed (call_of c)) → (o : Option Canvas) → option_map (λ c. plain (call_of c)) o ≡ Some w → Carries n Composed w.call
+    of_canvas call_of carries None asks = absurd cc
+    of_canvas call_of carries (Some c) asks = (let is : plain (call_of c) ≡ w = cc in subst (λ (x : Wanted). Carries n Composed x.call) is (carries c))
+
+    of_job : (o : Option Job) → IfSome o (BringsHome n Composed) → option_map (λ j. plain (call.End j)) o ≡ Some w → Carries n Composed w.call
+    of_job None home asks = absurd cc
+    of_job (Some j) home asks = (let is : plain (call.End j) ≡ w = cc in subst (λ (x : Wanted). Carries n Composed x.call) is home)
+
+    first_carries : (v : Verb) → first_call p v ≡ Some w → Carries n Composed w.call
+    first_carries (verb.Acquire s) asks = of_test (is_some p.canvas) (plain (call.Acquire (handle p s))) asks tt
+    first_carries verb.Post asks = of_canvas call.Post (λ c. tt) p.canvas asks
+    first_carries verb.Discard asks = of_canvas call.Discard (λ c. tt) p.canvas asks
+    first_carries (verb.Paint paint) asks = absurd cc
+    first_carries (verb.Frame s paint) asks = of_test (is_some p.canvas) (plain (call.Acquire (handle p s))) asks tt
+    first_carries verb.Tick asks = of_test false (waiting (call.BeginNext 0)) asks tt
+    first_carries v asks = of_call (plain_call (handle p) v) (plain_carries (handle p) v) asks
+
+    stage_carries : (v : Verb) (s : Stage) → wanted_at p v s ≡ Some w → Carries n Composed w.call
+    stage_carries v stage.Fresh asks = first_carries v asks
+    stage_carries v stage.Posting asks = of_canvas call.Post (λ c. tt) p.canvas asks
+    stage_carries v (stage.Ticking (leg.Contexts asked last)) asks = of_test false (waiting (call.BeginNext last)) asks tt
+    stage_carries v (stage.Ticking (leg.Ports port)) asks = of_test false (waiting (call.BeginPort (pos port))) asks tt
+    stage_carries v (stage.Ending m) asks = of_job p.job brings.1 asks
+
+    next_carries : next p ≡ Some w → Carries n Composed w.call
+    next_carries asks = of_line (first_line p) refl
+      where
+        of_line : (o : Option Line) → first_line p ≡ o → Carries n Composed w.call
+        of_line None none = absurd (let no : None ≡ Some w = rw none at asks in cc)
+        of_line (Some l) is = stage_carries l.verb p.stage (rw is at asks)
+
+  -- what a Job that comes brings home, where the entry that tells of it is taken for one that composes
+  module _ (h : State) (client : ℕ) (m : Bool) (are : AreScreens n Composed h) where
+    abbrev Tells : Reply → Type 0
+    Tells reply = (stream : ℕ) (image : Bitmap) → Composes stream image h (entry client reply) → Composed stream image
+
+    abbrev Brought : (JobKind → Scene → Format → ℕ → Type 0) → Type 0
+    Brought Of =
+        (k : JobKind) (scene : Scene) (f : Format) (value : ℕ) → Of k scene f value → Tells (with_payload value (job_of k scene f h))
+        → BringsHome n Composed (painted_job (job_of k scene f h))
+
+    contents_home : (scene : Scene) → AreHome n Composed (newest_images (scene_streams scene) h.streams)
+    contents_home scene = newest_home n Composed h.frame (scene_streams scene) h.streams are.streams
+
+    context_brings : (after : ℕ) → Brought (OfContext after h)
+    context_brings after (kind.Context handle target) scene f value of tells =
+        let next = of.1 in
+        record {
+          contents = contents_home scene;
+          image = λ screen. tells target (painted_job (job_of (kind.Context handle target) scene f h)).image (record {
+            above = after;
+            context = next.context;
+            next = next.next;
+            target = next.target_is;
+            code = refl;
+            value = of.0 ∙ sym next.handle_is;
+            shows = rw (next.at, next.scene_is, next.format_is) refl;
+          });
+        }
+    context_brings after (kind.Port port) scene f value of tells = absurd of
+
+    port_brings : Brought (OfPort h)
+    port_brings (kind.Context handle target) scene f value of tells = absurd of
+    port_brings (kind.Port port) scene f value of tells = record { contents = contents_home scene; image = tt }
+
+    start_brings : (Of : JobKind → Scene → Format → ℕ → Type 0) (x : State × Reply) → Brought Of → Starts Of h x → Tells x.1 → (job : Job) → x.1.payload ≡ payload.Job job → BringsHome n Composed (painted_job job)
+    start_brings Of x brought (inl none) tells job has = absurd (let no : payload.Nothing ≡ payload.Job job = sym none.payload ∙ has in cc)
+    start_brings Of x brought (inr begun) tells job has =
+        let own : Job = job_of begun.kind begun.scene begun.format h in
+        let reply : x.1 ≡ with_payload begun.value own = ap (λ (y : State × Reply). y.1) begun.is in
+        let same : own ≡ job = (let both : payload.Job own ≡ payload.Job job = sym (ap (λ (r : Reply). r.payload) reply) ∙ has in cc) in
+        subst (λ (j : Job). BringsHome n Composed (painted_job j)) same (brought begun.kind begun.scene begun.format begun.value begun.of (subst Tells reply tells))
+
+    begin_brings : (c : Call) → is_begin c ≡ true → Tells (step h client c m).1 → (job : Job) → (step h client c m).1.payload ≡ payload.Job job → BringsHome n Composed (painted_job job)
+    unfolding step act
+    begin_brings (call.BeginNext after) begins tells job has = start_brings (OfContext after h) (begin_next after h) (context_brings after) (next_starts after h) tells job has
+    begin_brings (call.BeginPort port) begins tells job has = start_brings (OfPort h) (begin_port port h) port_brings (port_starts port h) tells job has
+    begin_brings _ begins tells job has = absurd cc
+
+  -- a show whose screens have what was composed
+  record AreComposed (show : Show) : Type 0 where
+    state : AreScreens n Composed show.state
+    programs : AllHold Brings show.programs
+
+  turn_composed : (show : Show) (client : ℕ) (m : Bool) (done : Show × Turn) → turn show client m ≡ Some done → ((stream : ℕ) (image : Bitmap) → Composes stream image show.state done.1 → Composed stream image) → AreComposed show → AreComposed done.0
+  turn_composed show client m done taken tells are =
+      let t = turn_of show client m done taken in
+      let p : Program = t.program in
+      let reply : Reply = (step show.state client t.wanted.call m).1 in
+      let brings : Brings p.job p.unpainted = one_holds Brings show.programs client p are.programs t.own in
+      let own_tells : (stream : ℕ) (image : Bitmap) → Composes stream image show.state (entry client reply) → Composed stream image = subst (λ (x : Show × Turn). (stream : ℕ) (image : Bitmap) → Composes stream image show.state x.1 → Composed stream image) (sym t.is) tells in
+      let comes = λ (begins : is_begin t.wanted.call ≡ true) (job : Job) (has : reply.payload ≡ payload.Job job). begin_brings show.state client m are.state t.wanted.call begins own_tells job has in
+      let will : WillBring (took p reply).job (took p reply).unpainted = took_holds WillBring tt p t.wanted reply (rw brings.0 brings.1) comes t.asks in
+      subst (λ (x : Show × Turn). AreComposed x.0) t.is
+      (record {
+        state = step_keeps n Composed show.state client t.wanted.call m (next_carries p t.wanted brings t.asks) are.state;
+        programs = handed_hold Brings show.programs client (worked (took p reply)) (worked_brings (took p reply) will) are.programs;
+      })
+
+  opening_fine : (modes : List Modes) (i : ℕ) → AreFine n Composed None (map screen (zip (range_with_len i (length modes)) modes))
+  opening_fine [] i = tt
+  opening_fine (m ∷ ms) i = (λ up. record { bare = refl; drawn = λ out. absurd cc; ready = tt; read = tt }, opening_fine ms (i + 1))
+
+module _ (script : PlainScript) (order : List Turn) where
+  step_composed : (show after : Show) → Step script order show after → AreComposed (length script.ports.modes.items) (IsComposed script order) show → AreComposed (length script.ports.modes.items) (IsComposed script order) after
+  step_composed show after s are =
+      let t : Turn = s.entry in
+      let taken = taken_turn t (turn show t.client (is_marked t)) after s.takes in
+      turn_composed (length script.ports.modes.items) (IsComposed script order) show t.client (is_marked t) (after, taken.entry) taken.is (λ stream image told. record {
+        earlier = s.earlier;
+        entry = t;
+        later = s.later;
+        cut = s.cut;
+        moment = show;
+        reached = s.reached;
+        holds = record {
+          above = told.above;
+          context = told.context;
+          next = told.next;
+          target = told.target;
+          code = sym taken.code ∙ told.code;
+          value = sym taken.value ∙ told.value;
+          shows = told.shows;
+        };
+      }) are
+
+  opening_composed : AreComposed (length script.ports.modes.items) (IsComposed script order) (opening_show script)
+  opening_composed =
+      record {
+        state = record { streams = opening_fine (length script.ports.modes.items) (IsComposed script order) script.ports.modes.items 1; numbered = grind (arith, nat_tests) };
+        programs = opening_hold (Brings (length script.ports.modes.items) (IsComposed script order)) (refl, tt) script 0 8;
+      }
+
+  pub screens_composed : (port : ℕ) (image : Bitmap) → nat_le port (length script.ports.modes.items) ≡ true → image_after port (replay script order) ≡ Some image → IsComposed script order port image
+  screens_composed port image declared has = of_show (replay script order) refl has
+    where
+      of_show : (o : Option Show) → replay script order ≡ o → image_after port o ≡ Some image → IsComposed script order port image
+      of_show None none has = absurd cc
+      of_show (Some last) is has =
+          let are = order_keeps script order (AreComposed (length script.ports.modes.items) (IsComposed script order)) step_composed opening_composed last is in
+          screen_composed (length script.ports.modes.items) (IsComposed script order) last.state.frame port last.state.streams image are.state.streams declared has
