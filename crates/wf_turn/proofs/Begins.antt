@@ -1,7 +1,7 @@
 -- A turn and the running frame: a frame that begins is held by the program that began it, to be ended next.
-use Rattle.std.proofs.Common.{◌≡◌, ◌∙◌, ℕ, ◌+◌, Bool, true, false, not, cond, ◌||◌, inl, inr, [], Option, Some, None, refl, sym, ap, subst}
+use Rattle.std.proofs.Common.{◌≡◌, ◌∙◌, ℕ, Bool, true, false, not, ◌||◌, inl, inr, [], Option, Some, None, refl, sym, ap, subst}
 use Rattle.std.specs.Prelude.{ℤ, pos, Result, Ok, Err}
-use Rattle.std.specs.Option.{is_some, option_map, IfSome}
+use Rattle.std.specs.Option.{IfSome}
 use Rattle.wf_pixel.specs.declared.Format.{Format}
 use Rattle.wf_life.specs.Handles.{is_full}
 use Rattle.wf_image.specs.declared.canvas.Canvas.{Canvas}
@@ -25,14 +25,14 @@ use Rattle.wf_script.specs.declared.line.Verb.{Verb}
 use Rattle.wf_script.specs.declared.line.Verb.TheVariants as verb
 use Rattle.wf_script.specs.declared.name.Name.{Name}
 use Rattle.wf_turn.specs.declared.stage.Leg.{Leg}
-use Rattle.wf_turn.specs.declared.stage.Leg.TheVariants as leg
 use Rattle.wf_turn.specs.declared.stage.Stage.{Stage}
 use Rattle.wf_turn.specs.declared.stage.Stage.TheVariants as stage
 use Rattle.wf_turn.specs.declared.stage.Wanted.{Wanted}
 use Rattle.wf_turn.specs.Calls.{plain_call}
 use Rattle.wf_turn.specs.Playing.{Ends, EndsAt}
-use Rattle.wf_turn.specs.Program.{Program, first_call, first_line, given_canvas, go_on, handle, line_done, next, plain, ticking, took, took_at, took_canvas, took_first, took_frame, took_job, waiting, wanted_at, worked}
+use Rattle.wf_turn.specs.Program.{Program, first_line, given_canvas, go_on, handle, line_done, next, plain, took, took_canvas, took_frame, took_job, worked}
 use Rattle.wf_turn.specs.Turns.{frames_of}
+use Rattle.wf_turn.proofs.Cases.{map_some, turn_case}
 use Rattle.wf_turn.proofs.Own.{own_job}
 use Rattle.wf_turn.proofs.Painting.{done_painted, on_painted}
 use Rattle.wf_turn.proofs.Starts.{OfContext, OfPort, Starts, next_starts, port_starts}
@@ -160,62 +160,22 @@ module _ (p : Program) (h : State) (client : ℕ) (m : Bool) (w : Wanted) (free 
   unfolding step act
   at_end job l = no_frame p (go_on (record p { job = None; unpainted = false }) l) (answer_of (call.End job)).0.frame (rw free refl) (on_painted (record p { job = None; unpainted = false }) refl l)
 
-  -- what is asked for where no canvas is held, and with one
-  unheld : (b : Bool) (x : Wanted) → cond b None (Some x) ≡ Some w → x ≡ w
-  unheld true x asks = absurd cc
-  unheld false x asks = cc
-
-  -- a line that is one such call
-  plain_leaves : (o : Option Call) → IfSome o (λ c. (act h c m).0.frame ≡ h.frame) → option_map plain o ≡ Some w → Left w.call (λ x. line_done p x.1.value)
-  plain_leaves None kept asks = absurd cc
-  plain_leaves (Some c) kept asks = (let is : plain c ≡ w = cc in subst (λ (y : Wanted). Left y.call (λ x. line_done p x.1.value)) is (at_plain c kept))
-
-  first_leaves : (l : Line) (v : Verb) → first_call p v ≡ Some w → Left w.call (λ x. took_first p (record l { verb = v }) x.1)
-  first_leaves l (verb.Acquire s) asks =
-      subst (λ (y : Wanted). Left y.call (λ x. took_canvas p x.1.payload)) (unheld (is_some p.canvas) (plain (call.Acquire (handle p s))) asks) (at_acquire (handle p s))
-  first_leaves l verb.Post asks = of_canvas p.canvas asks
-    where
-      of_canvas : (o : Option Canvas) → option_map (λ (c : Canvas). plain (call.Post c)) o ≡ Some w → Left w.call (λ x. took_canvas p x.1.payload)
-      of_canvas None asks = absurd cc
-      of_canvas (Some c) asks = (let is : plain (call.Post c) ≡ w = cc in subst (λ (y : Wanted). Left y.call (λ x. took_canvas p x.1.payload)) is (at_post c))
-  first_leaves l verb.Discard asks = of_canvas p.canvas asks
-    where
-      of_canvas : (o : Option Canvas) → option_map (λ (c : Canvas). plain (call.Discard c)) o ≡ Some w → Left w.call (λ x. took_canvas p x.1.payload)
-      of_canvas None asks = absurd cc
-      of_canvas (Some c) asks = (let is : plain (call.Discard c) ≡ w = cc in subst (λ (y : Wanted). Left y.call (λ x. took_canvas p x.1.payload)) is (at_discard c))
-  first_leaves l (verb.Paint paint) asks = absurd cc
-  first_leaves l (verb.Frame s paint) asks =
-      subst (λ (y : Wanted). Left y.call (λ x. took_frame p paint (given_canvas x.1.payload))) (unheld (is_some p.canvas) (plain (call.Acquire (handle p s))) asks) (at_frame paint (handle p s))
-  first_leaves l verb.Tick asks =
-      let is : waiting (call.BeginNext 0) ≡ w = cc in
-      subst (λ (y : Wanted). Left y.call (λ x. took_job (ticking p) x.1.payload (leg.Contexts 1 x.1.value))) is (at_next (ticking p) 0 (λ v. leg.Contexts 1 v) painted refl)
-  first_leaves l v asks = plain_leaves (plain_call (handle p) v) (plain_frame (handle p) h m v) asks
-
-  stage_leaves : (l : Line) (s : Stage) → wanted_at p l.verb s ≡ Some w → Left w.call (λ x. took_at p l x.1 s)
-  stage_leaves l stage.Fresh asks = first_leaves l l.verb asks
-  stage_leaves l stage.Posting asks = of_canvas p.canvas asks
-    where
-      of_canvas : (o : Option Canvas) → option_map (λ (c : Canvas). plain (call.Post c)) o ≡ Some w → Left w.call (λ x. took_canvas p x.1.payload)
-      of_canvas None asks = absurd cc
-      of_canvas (Some c) asks = (let is : plain (call.Post c) ≡ w = cc in subst (λ (y : Wanted). Left y.call (λ x. took_canvas p x.1.payload)) is (at_post c))
-  stage_leaves l (stage.Ticking (leg.Contexts asked last)) asks =
-      let is : waiting (call.BeginNext last) ≡ w = cc in
-      subst (λ (y : Wanted). Left y.call (λ x. took_job p x.1.payload (leg.Contexts (asked + 1) x.1.value))) is (at_next p last (λ v. leg.Contexts (asked + 1) v) painted refl)
-  stage_leaves l (stage.Ticking (leg.Ports port)) asks =
-      let is : waiting (call.BeginPort (pos port)) ≡ w = cc in
-      subst (λ (y : Wanted). Left y.call (λ x. took_job p x.1.payload (leg.Ports (port + 1)))) is (at_port p (pos port) (leg.Ports (port + 1)) painted refl)
-  stage_leaves l (stage.Ending leg) asks = of_job p.job asks
-    where
-      of_job : (o : Option Job) → option_map (λ (j : Job). plain (call.End j)) o ≡ Some w → Left w.call (λ x. go_on (record p { job = None; unpainted = false }) leg)
-      of_job None asks = absurd cc
-      of_job (Some j) asks = (let is : plain (call.End j) ≡ w = cc in subst (λ (y : Wanted). Left y.call (λ x. go_on (record p { job = None; unpainted = false }) leg)) is (at_end j leg))
+  abbrev LeftBy : Call → (Reply → Program) → Type 0
+  LeftBy c now = Left c (λ x. now x.1)
 
   pub turn_leaves : next p ≡ Some w → Left w.call (λ x. took p x.1)
-  turn_leaves asks = of_line (first_line p) refl
-    where
-      of_line : (o : Option Line) → first_line p ≡ o → Left w.call (λ x. took p x.1)
-      of_line None none = absurd (let no : None ≡ Some w = rw none at asks in cc)
-      of_line (Some l) is = rw is (stage_leaves l p.stage (rw is at asks))
+  turn_leaves asks =
+      turn_case p LeftBy w
+      (record {
+        acquire = at_acquire;
+        frame = λ s paint. at_frame paint s;
+        post = at_post;
+        discard = at_discard;
+        plain = λ v. map_some (λ c. (act h c m).0.frame ≡ h.frame) (λ c. LeftBy c (λ reply. line_done p reply.value)) at_plain (plain_call (handle p) v) (plain_frame (handle p) h m v);
+        contexts = λ tick s after leg_of. at_next (record p { tick = tick; stage = s }) after leg_of painted refl;
+        port = λ port l. at_port p (pos port) l painted refl;
+        ended = λ job held l. at_end job l;
+      }) asks
 
 pub nothing_shown : (q : Program) → q.unpainted ≡ false → frames_of q ≡ []
 nothing_shown q painted = rw painted refl

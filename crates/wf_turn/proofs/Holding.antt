@@ -1,26 +1,25 @@
 -- The Job that a program holds, and whether that is not painted yet: what is true of both stays true through an answer.
-use Rattle.std.proofs.Common.{◌≡◌, ℕ, zero, suc, ◌+◌, Bool, true, false, not, cond, ◌==◌, ◌&&◌, ◌||◌, List, [], ◌∷◌, map, Option, Some, None, refl, sym, ap, subst, set}
+use Rattle.std.proofs.Common.{◌≡◌, ℕ, zero, suc, ◌+◌, Bool, true, false, not, cond, ◌==◌, ◌&&◌, ◌||◌, List, [], ◌∷◌, map, Option, Some, None, refl, subst, set}
 use Rattle.std.specs.Prelude.{nat_lt, slice_get}
 use Rattle.std.specs.List.{range_with_len}
 use Rattle.wf_image.specs.declared.canvas.Canvas.{Canvas}
 use Rattle.wf_image.specs.declared.paint.Paint.{Paint}
-use Rattle.wf_calls.specs.declared.call.Call.TheVariants as call
+use Rattle.wf_calls.specs.declared.call.Call.{Call}
 use Rattle.wf_calls.specs.declared.call.Job.{Job}
 use Rattle.wf_calls.specs.declared.call.Payload.{Payload}
 use Rattle.wf_calls.specs.declared.call.Payload.TheVariants as payload
 use Rattle.wf_calls.specs.declared.call.Reply.{Reply}
 use Rattle.wf_machine.specs.Object.{is_begin}
 use Rattle.wf_script.specs.declared.line.Line.{Line}
-use Rattle.wf_script.specs.declared.line.Verb.{Verb}
-use Rattle.wf_script.specs.declared.line.Verb.TheVariants as verb
 use Rattle.wf_script.specs.Script.{PlainScript}
 use Rattle.wf_turn.specs.declared.stage.Leg.{Leg}
 use Rattle.wf_turn.specs.declared.stage.Leg.TheVariants as leg
-use Rattle.wf_turn.specs.declared.stage.Stage.{Stage}
 use Rattle.wf_turn.specs.declared.stage.Stage.TheVariants as stage
 use Rattle.wf_turn.specs.declared.stage.Wanted.{Wanted}
-use Rattle.wf_turn.specs.Program.{Program, asked_for, at_port, first_call, first_line, given_canvas, go_on, line_done, next, port_count, program, taught, ticking, took, took_at, took_first, took_frame, took_job, took_leg, waiting, wanted_at}
+use Rattle.wf_turn.specs.Calls.{plain_call}
+use Rattle.wf_turn.specs.Program.{Program, handle, at_port, given_canvas, go_on, line_done, next, port_count, program, taught, took, took_frame, took_job}
 use Rattle.wf_turn.specs.Turns.{all_taught, handed_on, is_setting_up}
+use Rattle.wf_turn.proofs.Cases.{all_some, turn_case}
 
 module _ (Q : Option Job → Bool → Type 0) where
   abbrev pub Holds : Program → Type 0
@@ -54,32 +53,22 @@ module _ (Q : Option Job → Bool → Type 0) where
 
   -- the answer to its next call
   module _ (none : Q None false) (p : Program) (w : Wanted) (reply : Reply) (holds : Q p.job p.unpainted) (comes : is_begin w.call ≡ true → (job : Job) → reply.payload ≡ payload.Job job → Q (Some job) true) where
-    first_holds : (l : Line) (v : Verb) → first_call p v ≡ Some w → Holds (took_first p (record l { verb = v }) reply)
-    first_holds l (verb.Acquire s) asks = done_holds (record p { canvas = given_canvas reply.payload }) 0 holds
-    first_holds l verb.Post asks = done_holds (record p { canvas = given_canvas reply.payload }) 0 holds
-    first_holds l verb.Discard asks = done_holds (record p { canvas = given_canvas reply.payload }) 0 holds
-    first_holds l (verb.Frame s paint) asks = frame_holds p paint (given_canvas reply.payload) holds
-    first_holds l verb.Tick asks =
-        let is : waiting (call.BeginNext 0) ≡ w = cc in
-        job_holds (ticking p) reply.payload (leg.Contexts 1 reply.value) holds (comes (ap (λ (x : Wanted). is_begin x.call) (sym is)))
-    first_holds l _ asks = done_holds p reply.value holds
-
-    leg_holds : (m : Leg) → asked_for m ≡ w → Holds (took_leg p reply m)
-    leg_holds (leg.Contexts asked last) is = job_holds p reply.payload (leg.Contexts (asked + 1) reply.value) holds (comes (ap (λ (x : Wanted). is_begin x.call) (sym is)))
-    leg_holds (leg.Ports port) is = job_holds p reply.payload (leg.Ports (port + 1)) holds (comes (ap (λ (x : Wanted). is_begin x.call) (sym is)))
-
-    stage_holds : (l : Line) (s : Stage) → wanted_at p l.verb s ≡ Some w → Holds (took_at p l reply s)
-    stage_holds l stage.Fresh asks = first_holds l l.verb asks
-    stage_holds l stage.Posting asks = done_holds (record p { canvas = given_canvas reply.payload }) 0 holds
-    stage_holds l (stage.Ticking m) asks = leg_holds m cc
-    stage_holds l (stage.Ending m) asks = on_holds (record p { job = None; unpainted = false }) m none
+    abbrev Kept : Call → (Reply → Program) → Type 0
+    Kept c now = (is_begin c ≡ true → (job : Job) → reply.payload ≡ payload.Job job → Q (Some job) true) → Holds (now reply)
 
     pub took_holds : next p ≡ Some w → Holds (took p reply)
-    took_holds asks = of_line (first_line p) refl
-      where
-        of_line : (o : Option Line) → first_line p ≡ o → Holds (took p reply)
-        of_line None absent = absurd (let no : None ≡ Some w = rw absent at asks in cc)
-        of_line (Some l) is = rw is (stage_holds l p.stage (rw is at asks))
+    took_holds asks =
+        turn_case p Kept w
+        (record {
+          acquire = λ s comes. done_holds (record p { canvas = given_canvas reply.payload }) 0 holds;
+          frame = λ s paint comes. frame_holds p paint (given_canvas reply.payload) holds;
+          post = λ canvas comes. done_holds (record p { canvas = given_canvas reply.payload }) 0 holds;
+          discard = λ canvas comes. done_holds (record p { canvas = given_canvas reply.payload }) 0 holds;
+          plain = λ v. all_some (λ c. Kept c (λ r. line_done p r.value)) (λ c comes. done_holds p reply.value holds) (plain_call (handle p) v);
+          contexts = λ tick s after leg_of comes. job_holds (record p { tick = tick; stage = s }) reply.payload (leg_of reply.value) holds (comes refl);
+          port = λ port l comes. job_holds p reply.payload l holds (comes refl);
+          ended = λ job held l comes. on_holds (record p { job = None; unpainted = false }) l none;
+        }) asks comes
 
   -- programs
 

@@ -1,5 +1,5 @@
 -- Each frame of an order is what a port shows at a moment of it.
-use Rattle.std.proofs.Common.{◌≡◌, ◌∙◌, ℕ, ◌+◌, Bool, true, false, cond, inl, inr, List, [], ◌++◌, Option, Some, None, refl, sym, subst, get_or}
+use Rattle.std.proofs.Common.{◌≡◌, ℕ, Bool, true, false, cond, inl, inr, List, [], ◌++◌, Option, Some, None, refl, sym, subst, get_or}
 use Rattle.std.specs.Prelude.{ℤ, pos, All}
 use Rattle.std.specs.Option.{option_map}
 use Rattle.std.proofs.lemmas.List.Elements.{All-append, All-cons, All-nil}
@@ -19,23 +19,19 @@ use Rattle.wf_film.specs.Film.{Frame, frame_of}
 use Rattle.wf_model.specs.Frames.{begin_next, begin_port, job_of}
 use Rattle.wf_model.specs.State.{State}
 use Rattle.wf_model.specs.Step.{act, step}
-use Rattle.wf_script.specs.declared.line.Line.{Line}
-use Rattle.wf_script.specs.declared.line.Verb.{Verb}
-use Rattle.wf_script.specs.declared.line.Verb.TheVariants as verb
 use Rattle.wf_script.specs.Script.{PlainScript}
 use Rattle.wf_turn.specs.declared.stage.Leg.{Leg}
-use Rattle.wf_turn.specs.declared.stage.Leg.TheVariants as leg
-use Rattle.wf_turn.specs.declared.stage.Stage.{Stage}
-use Rattle.wf_turn.specs.declared.stage.Stage.TheVariants as stage
 use Rattle.wf_turn.specs.declared.stage.Wanted.{Wanted}
+use Rattle.wf_turn.specs.Calls.{plain_call}
 use Rattle.wf_turn.specs.Moments.{Begins, IsOfMoment}
 use Rattle.wf_turn.specs.Play.{frames_after, is_marked, replay}
-use Rattle.wf_turn.specs.Program.{Program, first_call, first_line, given_canvas, go_on, line_done, next, painted_job, ticking, took, took_at, took_first, took_frame, took_job, waiting, wanted_at, worked}
+use Rattle.wf_turn.specs.Program.{given_canvas, go_on, handle, line_done, next, painted_job, Program, took, took_canvas, took_frame, took_job, worked}
 use Rattle.wf_turn.specs.Turns.{Show, frames_of, shown, turn}
 use Rattle.wf_turn.proofs.Begins.{nothing_shown}
+use Rattle.wf_turn.proofs.Cases.{all_some, turn_case}
 use Rattle.wf_turn.proofs.Holding.{AllHold, handed_hold, one_holds, opening_hold}
 use Rattle.wf_turn.proofs.Painting.{IsPainted, done_painted, on_painted}
-use Rattle.wf_turn.proofs.Replays.{Step, order_keeps, taken_turn, turn_of}
+use Rattle.wf_turn.proofs.Replays.{Step, at_step, order_keeps, taken_turn, turn_of}
 use Rattle.wf_turn.proofs.Starts.{OfContext, OfPort, Starts, next_starts, port_starts}
 
 -- between two turns no program has a Job to paint
@@ -100,33 +96,19 @@ module _ (p : Program) (h : State) (client : ℕ) (m : Bool) (w : Wanted) (paint
   frame_clean paint None = done_painted p painted 0
   frame_clean paint (Some canvas) = painted
 
-  first_told : (l : Line) (v : Verb) → first_call p v ≡ Some w → Told w.call (took_first p (record l { verb = v }))
-  first_told l (verb.Acquire s) asks = at_other w.call (took_first p (record l { verb = verb.Acquire s })) (λ reply. canvas_clean reply.payload)
-  first_told l verb.Post asks = at_other w.call (took_first p (record l { verb = verb.Post })) (λ reply. canvas_clean reply.payload)
-  first_told l verb.Discard asks = at_other w.call (took_first p (record l { verb = verb.Discard })) (λ reply. canvas_clean reply.payload)
-  first_told l (verb.Frame s paint) asks = at_other w.call (took_first p (record l { verb = verb.Frame s paint })) (λ reply. frame_clean paint (given_canvas reply.payload))
-  first_told l verb.Tick asks =
-      let is : waiting (call.BeginNext 0) ≡ w = cc in
-      subst (λ (y : Wanted). Told y.call (λ reply. took_job (ticking p) reply.payload (leg.Contexts 1 reply.value))) is (at_next (ticking p) 0 (λ v. leg.Contexts 1 v) painted)
-  first_told l v asks = at_other w.call (λ reply. line_done p reply.value) (λ reply. done_painted p painted reply.value)
-
-  stage_told : (l : Line) (s : Stage) → wanted_at p l.verb s ≡ Some w → Told w.call (λ reply. took_at p l reply s)
-  stage_told l stage.Fresh asks = first_told l l.verb asks
-  stage_told l stage.Posting asks = at_other w.call (λ reply. took_at p l reply stage.Posting) (λ reply. canvas_clean reply.payload)
-  stage_told l (stage.Ticking (leg.Contexts asked last)) asks =
-      let is : waiting (call.BeginNext last) ≡ w = cc in
-      subst (λ (y : Wanted). Told y.call (λ reply. took_job p reply.payload (leg.Contexts (asked + 1) reply.value))) is (at_next p last (λ v. leg.Contexts (asked + 1) v) painted)
-  stage_told l (stage.Ticking (leg.Ports port)) asks =
-      let is : waiting (call.BeginPort (pos port)) ≡ w = cc in
-      subst (λ (y : Wanted). Told y.call (λ reply. took_job p reply.payload (leg.Ports (port + 1)))) is (at_port p (pos port) (leg.Ports (port + 1)) painted)
-  stage_told l (stage.Ending leg) asks = at_other w.call (λ reply. took_at p l reply (stage.Ending leg)) (λ reply. on_painted (record p { job = None; unpainted = false }) refl leg)
-
-  turn_told : next p ≡ Some w → Told w.call (took p)
-  turn_told asks = of_line (first_line p) refl
-    where
-      of_line : (o : Option Line) → first_line p ≡ o → Told w.call (took p)
-      of_line None none = absurd (let no : None ≡ Some w = rw none at asks in cc)
-      of_line (Some l) is = rw is (stage_told l p.stage (rw is at asks))
+  pub turn_told : next p ≡ Some w → Told w.call (took p)
+  turn_told asks =
+      turn_case p Told w
+      (record {
+        acquire = λ s. at_other (call.Acquire s) (λ reply. took_canvas p reply.payload) (λ reply. canvas_clean reply.payload);
+        frame = λ s paint. at_other (call.Acquire s) (λ reply. took_frame p paint (given_canvas reply.payload)) (λ reply. frame_clean paint (given_canvas reply.payload));
+        post = λ canvas. at_other (call.Post canvas) (λ reply. took_canvas p reply.payload) (λ reply. canvas_clean reply.payload);
+        discard = λ canvas. at_other (call.Discard canvas) (λ reply. took_canvas p reply.payload) (λ reply. canvas_clean reply.payload);
+        plain = λ v. all_some (λ c. Told c (λ reply. line_done p reply.value)) (λ c. at_other c (λ reply. line_done p reply.value) (λ reply. done_painted p painted reply.value)) (plain_call (handle p) v);
+        contexts = λ tick s after leg_of. at_next (record p { tick = tick; stage = s }) after leg_of painted;
+        port = λ port l. at_port p (pos port) l painted;
+        ended = λ job held l. at_other (call.End job) (λ reply. go_on (record p { job = None; unpainted = false }) l) (λ reply. on_painted (record p { job = None; unpainted = false }) refl l);
+      }) asks
 
 -- what a turn adds to a show: frames that its entry tells of
 record Adds (show after : Show) (t : Turn) : Type 0 where
@@ -157,17 +139,8 @@ module _ (script : PlainScript) (order : List Turn) where
   turn_keeps : (show after : Show) → Step script order show after → AreOfMoments show → AreOfMoments after
   turn_keeps show after step are =
       let t : Turn = step.entry in
-      let taken = taken_turn t (turn show t.client (is_marked t)) after step.takes in
-      let adds = turn_adds show t.client (is_marked t) (after, taken.entry) are.painted taken.is in
-      let own : (f : Frame) → Begins f show.state taken.entry → IsOfMoment script order f = λ f begins. record {
-        earlier = step.earlier;
-        entry = t;
-        later = step.later;
-        cut = step.cut;
-        moment = show;
-        reached = step.reached;
-        holds = record { code = sym taken.code ∙ begins.code; value = sym taken.value ∙ begins.value; shows = begins.shows };
-      } in
+      let adds = turn_adds show t.client (is_marked t) (after, t) are.painted (taken_turn t (turn show t.client (is_marked t)) after step.takes) in
+      let own : (f : Frame) → Begins f show.state t → IsOfMoment script order f = λ f begins. at_step (Begins f) step begins in
       record {
         painted = adds.painted;
         frames = subst (All (IsOfMoment script order)) (sym adds.behind) (All-append (IsOfMoment script order) show.frames adds.frames are.frames (λ k d within. own (get_or adds.frames k d) (adds.begun k d within)));

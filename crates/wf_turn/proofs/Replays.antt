@@ -5,37 +5,34 @@ use Rattle.std.specs.Option.{unwrap_or}
 use Rattle.std.proofs.lemmas.Bool.{and_parts, eqb-true}
 use Rattle.wf_calls.specs.declared.order.Turn.{Turn}
 use Rattle.wf_model.specs.Frames.{is_running}
+use Rattle.wf_model.specs.State.{State}
 use Rattle.wf_model.specs.Step.{step}
 use Rattle.wf_script.specs.Script.{PlainScript}
 use Rattle.wf_turn.specs.declared.stage.Wanted.{Wanted}
+use Rattle.wf_turn.specs.Moments.{At}
 use Rattle.wf_turn.specs.Play.{is_marked, replay, replay_from, replay_turn, same_turn}
 use Rattle.wf_turn.specs.Program.{Program, next}
 use Rattle.wf_turn.specs.Turns.{Show, answered, is_setting_up, opening_show, program_at, turn}
 use Rattle.wf_turn.proofs.Serials.{nothing_replayed}
 
--- the entry of a turn that a replay took
-pub record Taken (t : Turn) (o : Option (Show × Turn)) (after : Show) : Type 0 where
-  pub entry : Turn
-  pub is : o ≡ Some (after, entry)
-  pub code : entry.code ≡ t.code
-  pub value : entry.value ≡ t.value
+same_is : (s t : Turn) → same_turn s t ≡ true → s ≡ t
+same_is s t same =
+    let most = and_parts ((s.client == t.client) && (s.code == t.code)) (s.value == t.value) same in
+    let first = and_parts (s.client == t.client) (s.code == t.code) most.0 in
+    ap (λ (n : ℕ). record { client = n; code = s.code; value = s.value }) (eqb-true s.client t.client first.0)
+    ∙ ap (λ (n : ℕ). record { client = t.client; code = n; value = s.value }) (eqb-true s.code t.code first.1)
+    ∙ ap (λ (n : ℕ). record { client = t.client; code = t.code; value = n }) (eqb-true s.value t.value most.1)
 
-pub taken_turn : (t : Turn) (o : Option (Show × Turn)) (after : Show) → replay_turn t o ≡ Some after → Taken t o after
+-- a replay takes the turn that its entry tells
+pub taken_turn : (t : Turn) (o : Option (Show × Turn)) (after : Show) → replay_turn t o ≡ Some after → o ≡ Some (after, t)
 taken_turn t None after is = absurd cc
 taken_turn t (Some done) after is = of_same (same_turn done.1 t) refl
   where
-    of_same : (b : Bool) → same_turn done.1 t ≡ b → Taken t (Some done) after
+    of_same : (b : Bool) → same_turn done.1 t ≡ b → Some done ≡ Some (after, t)
     of_same false apart = absurd (let no : None ≡ Some after = rw apart at is in cc)
     of_same true same =
         let now : Some done.0 ≡ Some after = rw same at is in
-        let most = and_parts ((done.1.client == t.client) && (done.1.code == t.code)) (done.1.value == t.value) same in
-        let first = and_parts (done.1.client == t.client) (done.1.code == t.code) most.0 in
-        record {
-          entry = done.1;
-          is = ap (λ (o : Option Show). Some (unwrap_or o after, done.1)) now;
-          code = eqb-true done.1.code t.code first.1;
-          value = eqb-true done.1.value t.value most.1;
-        }
+        ap (λ (o : Option Show). Some (unwrap_or o after, done.1)) now ∙ ap (λ (x : Turn). Some (after, x)) (same_is done.1 t same)
 
 abbrev pub next_show : Show → Turn → Option Show
 next_show show t = replay_turn t (turn show t.client (is_marked t))
@@ -64,6 +61,10 @@ pub record Step (script : PlainScript) (order : List Turn) (show after : Show) :
   pub cut : order ≡ earlier ++ entry ∷ later
   pub reached : replay script earlier ≡ Some show
   pub takes : next_show show entry ≡ Some after
+
+-- what holds at its moment holds at one entry of the order
+pub at_step : {script : PlainScript} {order : List Turn} {show after : Show} (Holds : State → Turn → Type 0) (s : Step script order show after) → Holds show.state s.entry → At script order Holds
+at_step {show = show} Holds s holds = record { earlier = s.earlier; entry = s.entry; later = s.later; cut = s.cut; moment = show; reached = s.reached; holds = holds }
 
 module _ (script : PlainScript) (order : List Turn) (Holds : Show → Type 0) (keeps : (show after : Show) → Step script order show after → Holds show → Holds after) where
   rest_keeps : (later earlier : List Turn) (show last : Show) → order ≡ earlier ++ later → replay script earlier ≡ Some show → Holds show → replay_from show later ≡ Some last → Holds last

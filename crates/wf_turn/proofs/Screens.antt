@@ -1,11 +1,10 @@
 -- Each image of a screen, after any order, was composed of a context's committed scene.
 use Rattle.std.proofs.Common.{◌≡◌, ◌∙◌, ℕ, ◌+◌, Bool, true, false, cond, inl, inr, List, [], ◌∷◌, map, length, Option, Some, None, refl, sym, ap, subst, arith}
-use Rattle.std.specs.Prelude.{nat_le, pos, zip}
+use Rattle.std.specs.Prelude.{nat_le, zip}
 use Rattle.std.specs.List.{range_with_len}
-use Rattle.std.specs.Option.{IfSome, is_some, option_map}
+use Rattle.std.specs.Option.{IfSome}
 use Rattle.std.proofs.lemmas.Bool.Decides.{nat_tests}
 use Rattle.wf_pixel.specs.declared.Format.{Format}
-use Rattle.wf_image.specs.declared.canvas.Canvas.{Canvas}
 use Rattle.wf_image.specs.Bitmap.{Bitmap}
 use Rattle.wf_scene.specs.declared.Scene.{Scene}
 use Rattle.wf_calls.specs.declared.call.Call.{Call}
@@ -22,22 +21,19 @@ use Rattle.wf_machine.specs.Object.{is_begin}
 use Rattle.wf_model.specs.Frames.{begin_next, begin_port, job_of, newest_images, scene_streams, with_payload}
 use Rattle.wf_model.specs.State.{State, screen}
 use Rattle.wf_model.specs.Step.{act, step}
-use Rattle.wf_script.specs.declared.line.Line.{Line}
 use Rattle.wf_script.specs.declared.line.Verb.{Verb}
 use Rattle.wf_script.specs.declared.line.Verb.TheVariants as verb
 use Rattle.wf_script.specs.declared.name.Name.{Name}
 use Rattle.wf_script.specs.Script.{PlainScript}
-use Rattle.wf_turn.specs.declared.stage.Leg.TheVariants as leg
-use Rattle.wf_turn.specs.declared.stage.Stage.{Stage}
-use Rattle.wf_turn.specs.declared.stage.Stage.TheVariants as stage
 use Rattle.wf_turn.specs.declared.stage.Wanted.{Wanted}
 use Rattle.wf_turn.specs.Calls.{plain_call}
 use Rattle.wf_turn.specs.Moments.{Composes, IsComposed, image_after}
 use Rattle.wf_turn.specs.Play.{is_marked, replay}
-use Rattle.wf_turn.specs.Program.{Program, first_call, first_line, handle, next, painted_job, plain, took, waiting, wanted_at, worked}
+use Rattle.wf_turn.specs.Program.{Program, handle, next, painted_job, took, worked}
 use Rattle.wf_turn.specs.Turns.{Show, opening_show, turn}
+use Rattle.wf_turn.proofs.Cases.{turn_case}
 use Rattle.wf_turn.proofs.Holding.{AllHold, handed_hold, one_holds, opening_hold, took_holds}
-use Rattle.wf_turn.proofs.Replays.{Step, order_keeps, taken_turn, turn_of}
+use Rattle.wf_turn.proofs.Replays.{Step, at_step, order_keeps, taken_turn, turn_of}
 use Rattle.wf_turn.proofs.Screening.{AreFine, AreHome, BringsHome, newest_home, screen_composed}
 use Rattle.wf_turn.proofs.ScreenCalls.{AreScreens, Carries, step_keeps}
 use Rattle.wf_turn.proofs.Starts.{OfContext, OfPort, Starts, next_starts, port_starts}
@@ -71,45 +67,19 @@ module _ (n : ℕ) (Composed : ℕ → Bitmap → Type 0) where
   plain_carries handle verb.Tick = tt
   plain_carries handle _ = tt
 
-  module _ (p : Program) (w : Wanted) (brings : Brings p.job p.unpainted) where
-    of_call : (o : Option Call) → IfSome o (Carries n Composed) → option_map plain o ≡ Some w → Carries n Composed w.call
-    of_call None carries asks = absurd cc
-    of_call (Some c) carries asks = (let is : plain c ≡ w = cc in subst (λ (x : Wanted). Carries n Composed x.call) is carries)
-
-    of_test : (b : Bool) (x : Wanted) → cond b None (Some x) ≡ Some w → Carries n Composed x.call → Carries n Composed w.call
-    of_test true x asks carries = absurd cc
-    of_test false x asks carries = (let is : x ≡ w = cc in subst (λ (y : Wanted). Carries n Composed y.call) is carries)
-
-    of_canvas : (call_of : Canvas → Call) → ((c : Canvas) → Carries n Composed (call_of c)) → (o : Option Canvas) → option_map (λ c. plain (call_of c)) o ≡ Some w → Carries n Composed w.call
-    of_canvas call_of carries None asks = absurd cc
-    of_canvas call_of carries (Some c) asks = (let is : plain (call_of c) ≡ w = cc in subst (λ (x : Wanted). Carries n Composed x.call) is (carries c))
-
-    of_job : (o : Option Job) → IfSome o (BringsHome n Composed) → option_map (λ j. plain (call.End j)) o ≡ Some w → Carries n Composed w.call
-    of_job None home asks = absurd cc
-    of_job (Some j) home asks = (let is : plain (call.End j) ≡ w = cc in subst (λ (x : Wanted). Carries n Composed x.call) is home)
-
-    first_carries : (v : Verb) → first_call p v ≡ Some w → Carries n Composed w.call
-    first_carries (verb.Acquire s) asks = of_test (is_some p.canvas) (plain (call.Acquire (handle p s))) asks tt
-    first_carries verb.Post asks = of_canvas call.Post (λ c. tt) p.canvas asks
-    first_carries verb.Discard asks = of_canvas call.Discard (λ c. tt) p.canvas asks
-    first_carries (verb.Paint paint) asks = absurd cc
-    first_carries (verb.Frame s paint) asks = of_test (is_some p.canvas) (plain (call.Acquire (handle p s))) asks tt
-    first_carries verb.Tick asks = of_test false (waiting (call.BeginNext 0)) asks tt
-    first_carries v asks = of_call (plain_call (handle p) v) (plain_carries (handle p) v) asks
-
-    stage_carries : (v : Verb) (s : Stage) → wanted_at p v s ≡ Some w → Carries n Composed w.call
-    stage_carries v stage.Fresh asks = first_carries v asks
-    stage_carries v stage.Posting asks = of_canvas call.Post (λ c. tt) p.canvas asks
-    stage_carries v (stage.Ticking (leg.Contexts asked last)) asks = of_test false (waiting (call.BeginNext last)) asks tt
-    stage_carries v (stage.Ticking (leg.Ports port)) asks = of_test false (waiting (call.BeginPort (pos port))) asks tt
-    stage_carries v (stage.Ending m) asks = of_job p.job brings.1 asks
-
-    next_carries : next p ≡ Some w → Carries n Composed w.call
-    next_carries asks = of_line (first_line p) refl
-      where
-        of_line : (o : Option Line) → first_line p ≡ o → Carries n Composed w.call
-        of_line None none = absurd (let no : None ≡ Some w = rw none at asks in cc)
-        of_line (Some l) is = stage_carries l.verb p.stage (rw is at asks)
+  next_carries : (p : Program) (w : Wanted) → Brings p.job p.unpainted → next p ≡ Some w → Carries n Composed w.call
+  next_carries p w brings asks =
+      turn_case p (λ c now. Carries n Composed c) w
+      (record {
+        acquire = λ s. tt;
+        frame = λ s paint. tt;
+        post = λ canvas. tt;
+        discard = λ canvas. tt;
+        plain = plain_carries (handle p);
+        contexts = λ tick s after leg_of. tt;
+        port = λ port l. tt;
+        ended = λ job held l. rw held at brings.1;
+      }) asks
 
   -- what a Job that comes brings home, where the entry that tells of it is taken for one that composes
   module _ (h : State) (client : ℕ) (m : Bool) (are : AreScreens n Composed h) where
@@ -187,24 +157,8 @@ module _ (script : PlainScript) (order : List Turn) where
   step_composed : (show after : Show) → Step script order show after → AreComposed (length script.ports.modes.items) (IsComposed script order) show → AreComposed (length script.ports.modes.items) (IsComposed script order) after
   step_composed show after s are =
       let t : Turn = s.entry in
-      let taken = taken_turn t (turn show t.client (is_marked t)) after s.takes in
-      turn_composed (length script.ports.modes.items) (IsComposed script order) show t.client (is_marked t) (after, taken.entry) taken.is (λ stream image told. record {
-        earlier = s.earlier;
-        entry = t;
-        later = s.later;
-        cut = s.cut;
-        moment = show;
-        reached = s.reached;
-        holds = record {
-          above = told.above;
-          context = told.context;
-          next = told.next;
-          target = told.target;
-          code = sym taken.code ∙ told.code;
-          value = sym taken.value ∙ told.value;
-          shows = told.shows;
-        };
-      }) are
+      turn_composed (length script.ports.modes.items) (IsComposed script order) show t.client (is_marked t) (after, t) (taken_turn t (turn show t.client (is_marked t)) after s.takes)
+      (λ stream image told. at_step (Composes stream image) s told) are
 
   opening_composed : AreComposed (length script.ports.modes.items) (IsComposed script order) (opening_show script)
   opening_composed =
