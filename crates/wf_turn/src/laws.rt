@@ -8,8 +8,8 @@ ghost use Rattle.wf_turn.specs.Moments.{IsComposed, IsOfMoment, image_after};
 ghost use Rattle.wf_turn.specs.Play.{frames_after, replay};
 
 /// Each frame of an order is the picture of one scene, that of its port, and of the images that were the newest of the
-/// scene's streams, all at the moment of one entry, which tells that the frame begins. Of these streams is the port's
-/// screen.
+/// scene's streams, all at the moment of one entry, which tells that the frame begins. The port's screen is one of these
+/// streams; what its image is, says the law below.
 pub fn each_frame_is_of_a_moment()
     ensures { (script : PlainScript) (order : List Turn) → All (IsOfMoment script order) (frames_after (replay script order)) }
 {}
