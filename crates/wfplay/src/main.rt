@@ -1,10 +1,19 @@
 //! The program `wfplay`: plays a scene script from standard input and writes its film to standard output.
 #![tactic(auto)]
 
+ghost use Rattle.std.specs.Prelude.{◌≡◌, ◌≢◌, ◌↔◌, IfSome};
+ghost use Rattle.std.specs.IoError.{error_kind};
+ghost use Rattle.std.specs.declared.io.ErrorKind.TheVariants.{OutOfMemory};
+ghost use Rattle.wf_play.specs.Words.{AreAccepted};
+ghost use Rattle.wfplay.specs.Exit.{PutsFilm};
+
+use std::alloc::Global;
 use std::process::ExitCode;
 use std::rt::Env;
+use std::sync::Wait;
+use std::thread::Threads;
 use std::{env, io};
-use wf_io::{StdSink, StdSource};
+use wf_io::{Sink, Source, StdSink, StdSource};
 use wf_play::{Open, Status, play};
 
 /// The words of the command line, without the program's name.
@@ -13,13 +22,33 @@ fn command_words(rt: &(impl Env + AllocGlobal)) -> io::Result<Vec<String>> {
     Ok(words)
 }
 
-/// The status that stands for words that could not be had.
-fn status_without_words(error: &io::Error) -> Status {
+/// The status that stands for words that could not be had: they are no command, unless there was no memory for them.
+fn status_without_words(error: &io::Error) -> Status
+    ensures memory { error_kind error.now ≡ OutOfMemory → result ≡ Status.NoMemory }
+    ensures usage { error_kind error.now ≢ OutOfMemory → result ≡ Status.Usage }
+{
     if error.kind() == io::ErrorKind::OutOfMemory {
         Status::NoMemory
     } else {
         Status::Usage
     }
+}
+
+/// Plays what the words ask for, and tells the exit status: 0 only where the film is whole, and 2 exactly where the words
+/// are no command.
+fn exit_of_play<R: Threads + Wait + Sync, I: Source, O: Sink, N: Sink>(
+    rt: &R,
+    alloc: Global,
+    words: &[String],
+    input: &mut I,
+    film: &mut O,
+    notes: &mut N,
+) -> u8
+    ensures done { result ≡ 0 → IfSome (I.left input.old) (PutsFilm O.took film.old film.new) }
+    ensures usage { (result ≡ 2) ↔ (¬ (AreAccepted words.now)) }
+{
+    let report = play(rt, alloc, words, input, film, notes, &Open);
+    report.status.exit()
 }
 
 fn main(rt: HostRuntime) -> ExitCode {
@@ -30,14 +59,5 @@ fn main(rt: HostRuntime) -> ExitCode {
     let mut input = StdSource::new(rt.reader());
     let mut film = StdSink::new(rt.stdout());
     let mut notes = StdSink::new(rt.stderr());
-    let report = play(
-        &rt,
-        rt.alloc(),
-        &words,
-        &mut input,
-        &mut film,
-        &mut notes,
-        &Open,
-    );
-    ExitCode::from(report.status.exit())
+    ExitCode::from(exit_of_play(&rt, rt.alloc(), &words, &mut input, &mut film, &mut notes))
 }

@@ -1,0 +1,8 @@
+-- What an exit status of 0 says of the film.
+use Rattle.std.specs.Prelude.{ℕ, List}
+use Rattle.wf_calls.specs.declared.order.Turn.{Turn}
+use Rattle.wf_play.specs.Report.{IsPlainFilm}
+
+-- what was put is the plain film of the script of the input's bytes, under an order
+abbrev pub PutsFilm : {O : Type 0} → (O → List ℕ → Type 0) → (old new : O) → List ℕ → Type 0
+PutsFilm took old new bytes = (order : List Turn) × IsPlainFilm took old new bytes order
