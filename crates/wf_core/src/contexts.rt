@@ -183,9 +183,9 @@ impl Core {
         by_scene(self.contexts[place].cached.get_context(attr, index))
     }
 
-    /// Makes the context of a port's screen, whose handle it answers. The screen's stream is given where the port was
-    /// declared. IllegalArgument is a port that was not declared; InUse a port that has a context; Limit a 17th context, or
-    /// that all handles were given.
+    /// Makes the context of a port's screen, whose handle it answers. `screen` is the number of the screen's stream, which is
+    /// one of pixels, or None where the port was not declared. IllegalArgument is a port that was not declared; InUse a port
+    /// that has a context; Limit a 17th context, or that all handles were given.
     pub fn screen_context(
         &mut self,
         store: &mut Store,
