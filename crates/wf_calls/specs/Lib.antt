@@ -1,3 +1,5 @@
--- The numbers of the codes, the entry of a reply, and which ports may be declared.
+-- The numbers of the codes, answers and replies, who answers a call, and which ports may be declared.
 pub mod Codes
+pub mod Replies
+pub mod Parts
 pub mod PortRules

@@ -189,19 +189,3 @@ pub enum Call {
     /// Ends the running frame.
     End(Job),
 }
-
-/// What comes with a reply.
-#[derive(Drop)]
-pub enum Payload {
-    Nothing,
-    Canvas(Canvas),
-    Job(Job),
-}
-
-/// The answer to a call.
-#[derive(Drop)]
-pub struct Reply {
-    pub code: Code,
-    pub value: u32,
-    pub payload: Payload,
-}

@@ -1,7 +1,7 @@
 //! What a call answers.
 
 ghost use Rattle.std.specs.Prelude.{◌≡◌};
-ghost use Rattle.wf_calls.specs.Codes.{code_number};
+ghost use Rattle.wf_calls.specs.Codes.{code_number, is_ok_code};
 
 /// What a call answers: Ok, or why it is refused. The journal prints the numbers of `number`.
 #[derive(Clone, Copy, Debug, PartialEq, Eq)]
@@ -21,14 +21,14 @@ pub enum Code {
     Limit,
 }
 
-/// Why a call is refused: its code, and its value.
-#[derive(Clone, Copy, Debug, PartialEq, Eq)]
-pub struct Refusal {
-    pub code: Code,
-    pub value: u32,
-}
-
 impl Code {
+    /// Whether this says that a call was carried out.
+    pub fn is_ok(self) -> bool
+        ensures { result ≡ is_ok_code self }
+    {
+        matches!(self, Code::Ok)
+    }
+
     /// The number that stands for the code in the journal, from 0 for Ok to 12 for Limit.
     pub fn number(self) -> u8
         ensures { result ≡ code_number self }

@@ -4,9 +4,13 @@
 mod call;
 mod code;
 mod order;
+mod part;
 mod ports;
+mod reply;
 
-pub use call::{Call, Job, JobKind, Payload, Reply, StatWord};
-pub use code::{Code, Refusal};
+pub use call::{Call, Job, JobKind, StatWord};
+pub use code::Code;
 pub use order::{Order, Turn};
+pub use part::Part;
 pub use ports::{Modes, Ports};
+pub use reply::{Answer, Payload, Refusal, Reply};

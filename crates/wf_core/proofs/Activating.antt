@@ -2,13 +2,14 @@
 use Rattle.std.proofs.Common.{◌≡◌, ℕ, Bool, set, slice_get, Some, Ok, refl, sym, ap, ◌∙◌}
 use Rattle.wf_stream.specs.Streams.{StoreView}
 use Rattle.wf_model.specs.declared.Context.{Context}
+use Rattle.wf_model.specs.Objects.{CoreState}
 use Rattle.wf_model.specs.Outcome.{Outcome}
-use Rattle.wf_model.specs.Composition.{CoreSide, CoreState, change_context}
+use Rattle.wf_model.specs.Composition.{CoreSide, change_context}
 use Rattle.wf_model.specs.Core.{set_active, with_active}
 use Rattle.wf_core.specs.Fits.{ContextFits, Fits}
 use Rattle.wf_core.specs.Owners.{owned_context}
 use Rattle.wf_core.specs.Sides.{side_of}
-use Rattle.wf_core.proofs.Lists.{each_at}
+use Rattle.wf_words.specs.Each.{each_at}
 use Rattle.wf_core.proofs.Owners.{in_owned, owned_parts}
 use Rattle.wf_core.proofs.Scenes.{placed_fits, placed_is}
 

@@ -8,17 +8,18 @@ use Rattle.wf_scene.specs.declared.Scene.{Scene}
 use Rattle.wf_scene.specs.Consistent.{consistent}
 use Rattle.wf_scene.specs.Layers.{is_placed_layer}
 use Rattle.wf_scene.specs.Sight.{Sight}
-use Rattle.wf_calls.specs.declared.code.Refusal.{Refusal}
+use Rattle.wf_calls.specs.declared.reply.Refusal.{Refusal}
 use Rattle.wf_model.specs.declared.Context.{Context}
+use Rattle.wf_model.specs.Objects.{CoreState}
 use Rattle.wf_model.specs.Outcome.{Outcome}
-use Rattle.wf_model.specs.Composition.{CoreSide, CoreState, change_context, sight_of}
+use Rattle.wf_model.specs.Composition.{CoreSide, change_context, sight_of}
 use Rattle.wf_model.specs.Core.{commit, fault_as_refusal, with_committed}
 use Rattle.wf_core.specs.Fits.{ContextFits, Fits}
 use Rattle.wf_core.specs.Owners.{owned_context}
 use Rattle.wf_core.specs.Sides.{side_of}
 use Rattle.wf_core.specs.Sights.{sight_in}
 use Rattle.wf_core.proofs.Layering.{consistent_fits, sights}
-use Rattle.wf_core.proofs.Lists.{each_at}
+use Rattle.wf_words.specs.Each.{each_at}
 use Rattle.wf_core.proofs.Owners.{in_owned, owned_parts}
 use Rattle.wf_core.proofs.Scenes.{placed_fits, placed_is}
 

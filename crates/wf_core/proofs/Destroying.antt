@@ -1,5 +1,5 @@
 -- The cases of the plain machine in which an object is destroyed, or refused.
-use Rattle.std.proofs.Common.{◌≡◌, ℕ, Bool, true, false, ◌==◌, ◌&&◌, ◌||◌, List, [], ◌∷◌, find, Option, Some, None, Ok, Err, is_some, refl, sym, ap, ◌∙◌}
+use Rattle.std.proofs.Common.{◌≡◌, ℕ, Bool, true, false, ◌==◌, ◌&&◌, Some, None, Ok, Err, is_some, refl, sym, ap, ◌∙◌}
 use Rattle.std.specs.List.{list_any}
 use Rattle.wf_words.specs.Refusals.{◌>>=◌}
 use Rattle.wf_life.specs.declared.Kind.TheVariants as kind
@@ -10,8 +10,10 @@ use Rattle.wf_scene.specs.Cached as cached
 use Rattle.wf_model.specs.declared.Context.{Context}
 use Rattle.wf_model.specs.declared.Device.{Device}
 use Rattle.wf_model.specs.declared.Source.{Source}
-use Rattle.wf_model.specs.Outcome.{Outcome, refusal}
-use Rattle.wf_model.specs.Composition.{CoreSide, CoreState, change_context, device, is_of_device, with_cached}
+use Rattle.wf_model.specs.Objects.{CoreState}
+use Rattle.wf_model.specs.Outcome.{Outcome}
+use Rattle.wf_calls.specs.Replies.{refusal}
+use Rattle.wf_model.specs.Composition.{CoreSide, change_context, device, is_of_device, with_cached}
 use Rattle.wf_model.specs.Core.{element_destroy, mask_destroy, source_destroy, without_source, context_destroy, device_destroy, without_context, without_device}
 use Rattle.wf_core.specs.Fits.{HandlesFit}
 use Rattle.wf_core.specs.Losses.{Loses}
@@ -19,32 +21,9 @@ use Rattle.wf_core.specs.Owners.{owning_context, owned_context}
 use Rattle.wf_core.specs.Sides.{done_by, side_of}
 use Rattle.wf_core.proofs.Dropping.{side_left}
 use Rattle.wf_core.proofs.ElementCalls.{in_owner}
-use Rattle.wf_core.proofs.Lists.{any_found}
+use Rattle.wf_words.specs.Found.{any_found, none_at, some_at}
 use Rattle.wf_core.proofs.Lookups.{a_device, no_device}
 use Rattle.wf_core.proofs.Owners.{in_owned}
-
--- what passes two tests passes the first
-pub any_first : {A : Type 0} (p q : A → Bool) (xs : List A) → list_any (λ x. p x && q x) xs ≡ true → list_any p xs ≡ true
-any_first p q [] any = absurd cc
-any_first p q (x ∷ xs) any = by_test (any_first p q xs) (p x) any
-  where
-    by_test : (list_any (λ y. p y && q y) xs ≡ true → list_any p xs ≡ true) → (b : Bool) → ((b && q x) || list_any (λ y. p y && q y) xs) ≡ true → (b || list_any p xs) ≡ true
-    by_test later true at = refl
-    by_test later false at = later at
-
-pub none_at : {A : Type 0} (p : A → Bool) (xs : List A) → list_any p xs ≡ false → find p xs ≡ None
-none_at p xs none = of_found (find p xs) (sym (any_found p xs) ∙ none)
-  where
-    of_found : {A : Type 0} (o : Option A) → is_some o ≡ false → o ≡ None
-    of_found None is = refl
-    of_found (Some x) is = absurd cc
-
-pub some_at : {A : Type 0} (p : A → Bool) (xs : List A) → list_any p xs ≡ true → (x : A) × (find p xs ≡ Some x)
-some_at p xs some = of_found (find p xs) refl (sym (any_found p xs) ∙ some)
-  where
-    of_found : (o : Option _) → find p xs ≡ o → is_some o ≡ true → (x : _) × (find p xs ≡ Some x)
-    of_found None at is = absurd cc
-    of_found (Some x) at is = (x, at)
 
 -- a call that was carried out, and leaves these objects and a store that lost handles
 pub left_so : (core after left : CoreState) (old new : StoreView) → left ≡ after → Loses old new

@@ -5,23 +5,26 @@ use Rattle.std.proofs.lemmas.Bool.{and_parts, eqb-true, ne_eqb, and_from}
 use Rattle.wf_words.specs.Keyed.{is_in}
 use Rattle.wf_life.specs.declared.Kind.{Kind}
 use Rattle.wf_life.specs.declared.Kind.TheVariants as kind
-use Rattle.wf_life.specs.Handles.{Live, IsRising, is_live, live_count, same_kind, without}
+use Rattle.wf_life.specs.Handles.{Live, IsRising, is_live, live_count, same_kind, without, rising_without, rises_live}
 use Rattle.wf_stream.specs.Streams.{StoreView}
 use Rattle.wf_scene.specs.Cached as cached
 use Rattle.wf_scene.specs.Cached.{handle_of, handles, has_element}
 use Rattle.wf_model.specs.declared.Context.{Context}
 use Rattle.wf_model.specs.declared.Source.{Source}
-use Rattle.wf_model.specs.Composition.{CoreState}
+use Rattle.wf_model.specs.Objects.{CoreState}
+use Rattle.wf_model.specs.declared.Device.{Device}
 use Rattle.wf_model.specs.Core.{without_source}
 use Rattle.wf_core.specs.Fits.{ContextFits, Fits, HandlesFit, HasElements, Shows, context_live, element_live, has_owner, mask_live, of_kind, source_live, device_live, elements_of}
 use Rattle.wf_core.specs.Losses.{Loses, but_context}
 use Rattle.wf_core.specs.Sides.{KeepsRest, is_of_composition, side_of}
-use Rattle.wf_core.proofs.Leaving.{all_filtered, count_stays, each_filtered, filter_mapped, left_out, rising_without, taken_out, any_left}
-use Rattle.wf_core.proofs.Lists.{any_found, any_mapped, each_at, each_other, each_set, find_filtered, map_set, passes}
+use Rattle.wf_words.specs.Filtered.{all_filtered, filter_mapped, any_left}
+use Rattle.wf_core.proofs.Leaving.{count_stays, left_out, taken_out}
+use Rattle.wf_words.specs.Each.{each_filtered, each_at, each_other, each_set}
+use Rattle.wf_words.specs.Found.{any_found, any_mapped, find_filtered, passes}
+use Rattle.wf_words.specs.Places.{map_set}
 use Rattle.wf_core.proofs.Lookups.{has_by_key, is_named, rises_contexts}
-use Rattle.wf_core.proofs.Rises.{each_replaced, found_above, rises_live}
+use Rattle.wf_words.specs.Rising.{each_replaced, found_above}
 use Rattle.std.proofs.lemmas.Bool.Decides.{nat_tests}
-use Rattle.wf_model.specs.declared.Device.{Device}
 
 -- the kinds that are one
 pub same_is : (k l : Kind) → same_kind k l ≡ true → k ≡ l

@@ -9,16 +9,19 @@ use Rattle.wf_stream.specs.Streams.{StoreView, with_other}
 use Rattle.wf_scene.specs.declared.attributes.Refused.{Refused}
 use Rattle.wf_scene.specs.Cached as cached
 use Rattle.wf_scene.specs.Cached.{CachedScene, has_element}
-use Rattle.wf_calls.specs.declared.code.Refusal.{Refusal}
+use Rattle.wf_calls.specs.declared.reply.Refusal.{Refusal}
 use Rattle.wf_model.specs.declared.Context.{Context}
+use Rattle.wf_model.specs.Objects.{CoreState}
 use Rattle.wf_model.specs.Outcome.{Outcome}
-use Rattle.wf_model.specs.Composition.{CoreSide, CoreState, change_context, device, element_context, with_cached}
+use Rattle.wf_model.specs.Composition.{CoreSide, change_context, device, element_context, with_cached}
 use Rattle.wf_model.specs.Core.{by_scene, element_new, is_element_or_0}
 use Rattle.wf_core.specs.Sides.{done_by, side_of}
 use Rattle.wf_core.specs.Fits.{Fits}
 use Rattle.wf_core.specs.Owners.{of_element, owned_context, owning_context}
-use Rattle.wf_core.proofs.Lists.{any_found, count_left}
-use Rattle.wf_core.proofs.Owners.{both, joined, owned_parts, within}
+use Rattle.wf_words.specs.Found.{any_found}
+use Rattle.wf_words.specs.Filtered.{count_left}
+use Rattle.wf_core.proofs.Owners.{both, joined, owned_parts}
+use Rattle.wf_words.specs.Places.{within}
 use Rattle.wf_core.proofs.Scenes.{placed_is}
 
 -- a call that goes on in the context of an element

@@ -3,9 +3,10 @@ use Rattle.std.proofs.Common.{◌≡◌, ℕ, Option, refl, sym, ◌∙◌}
 use Rattle.wf_stream.specs.Streams.{StoreView}
 use Rattle.wf_calls.specs.declared.code.Code.{Code}
 use Rattle.wf_model.specs.declared.Device.{Device}
-use Rattle.wf_model.specs.Composition.{CoreState, change_register}
+use Rattle.wf_model.specs.Objects.{CoreState}
+use Rattle.wf_model.specs.Composition.{change_register}
 use Rattle.wf_core.specs.Fits.{Fits, device_live}
-use Rattle.wf_core.proofs.Lists.{map_change}
+use Rattle.wf_words.specs.Keyed.{map_change}
 
 -- other registers
 pub register_fits : (d : ℕ) (f : Option Code → Option Code) (core new : CoreState) (store : StoreView) → new ≡ change_register d f core → Fits core store → Fits new store

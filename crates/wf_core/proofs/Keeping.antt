@@ -1,6 +1,6 @@
 -- What a call on a cached scene keeps: the handles of the elements, and the size.
 use Rattle.std.proofs.Common.{◌≡◌, ℕ, Bool, true, false, not, ℤ, List, Option, Some, None, Ok, refl, subst}
-use Rattle.wf_words.specs.Keyed.{change, is_in}
+use Rattle.wf_words.specs.Keyed.{change, is_in, map_change}
 use Rattle.wf_words.specs.Refusals.{◌>>=◌, found_or, refuse_if}
 use Rattle.wf_scene.specs.declared.attributes.Refused.TheVariants as refused
 use Rattle.wf_scene.specs.declared.attributes.ContextAttr.{ContextAttr}
@@ -13,7 +13,6 @@ use Rattle.wf_scene.specs.Values.{component, colour_of, turn_of}
 use Rattle.wf_scene.specs.Cached as cached
 use Rattle.wf_scene.specs.Cached.{CachedScene, handle_of, handles}
 use Rattle.wf_scene.specs.Keeping.{keeps_handle}
-use Rattle.wf_core.proofs.Lists.{map_change}
 
 -- what sets nothing of the elements keeps their handles
 

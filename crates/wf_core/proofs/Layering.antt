@@ -12,7 +12,7 @@ use Rattle.wf_life.specs.declared.Kind.{Kind}
 use Rattle.wf_life.specs.declared.Kind.TheVariants as kind
 use Rattle.wf_life.specs.Handles.{Live, key_of}
 use Rattle.wf_stream.specs.Buffers.{Buffers}
-use Rattle.wf_stream.specs.Streams.{KeptStream, StoreView, buffers_at, stream_at}
+use Rattle.wf_stream.specs.Streams.{KeptStream, StoreView, buffers_at, stream_at, has_number}
 use Rattle.wf_scene.specs.declared.element.Element.{Element}
 use Rattle.wf_scene.specs.declared.look.Seen.{Seen}
 use Rattle.wf_scene.specs.declared.Scene.{Scene}
@@ -21,14 +21,16 @@ use Rattle.wf_scene.specs.Consistent.{consistent, inserted_elements, layer_of, s
 use Rattle.wf_scene.specs.Layers.{holds_rect, is_placed_layer}
 use Rattle.wf_scene.specs.Sight.{Sight}
 use Rattle.wf_model.specs.declared.Source.{Source}
-use Rattle.wf_model.specs.Composition.{CoreState, seen, seen_source, sight_of}
+use Rattle.wf_model.specs.Objects.{CoreState}
+use Rattle.wf_model.specs.Composition.{seen, seen_source, sight_of}
 use Rattle.wf_core.specs.Fits.{Fits, HandlesFit, LayerFits, Shows, mask_live, of_kind, source_live}
 use Rattle.wf_core.specs.Sides.{side_of}
 use Rattle.wf_core.specs.Sights.{seen_key, sight_in}
 use Rattle.wf_core.proofs.Faults.{Keeps, faultless, no_fault}
-use Rattle.wf_core.proofs.Lists.{each_found}
+use Rattle.wf_words.specs.Each.{each_found}
 use Rattle.wf_core.proofs.Lookups.{keyed}
-use Rattle.wf_core.proofs.Seeing.{behind, has_number}
+use Rattle.wf_core.proofs.Seeing.{behind}
+use Rattle.wf_words.specs.Options.{from_some}
 
 -- what is seen behind the keys of a kind is what is seen of the objects
 seen_same : (k : Kind) (g : Source → Live) (sources : List Source) (store : StoreView) → ((s : Source) → (g s).handle ≡ s.handle) → of_kind k store.others ≡ map g sources
@@ -66,11 +68,6 @@ seen_shape mask streams sources h s shows is = of_object (at_key (λ (x : Source
         let format : is_a8 k.0.buffers.format ≡ mask = rw k.1 at shown in
         let number : s.stream ≡ x.stream = ap (λ (y : Seen). y.stream) k.2 ∙ has_number x.stream streams k.0 k.1 in
         rw (number, k.1) (format, sym (ap (λ (y : Seen). y.size) k.2))
-
--- a fact about a value that is there, from another
-from_some : {A : Type 0} (P Q : A → Type 0) (o : Option A) → IsSomeAnd o P → ((x : A) → P x → Q x) → IsSomeAnd o Q
-from_some P Q None holds from = absurd holds
-from_some P Q (Some x) holds from = from x holds
 
 same_sides : (s t : Size) → same_size s t ≡ true → s ≡ t
 same_sides s t is =

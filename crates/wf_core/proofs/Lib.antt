@@ -1,6 +1,3 @@
-pub mod Steps
-pub mod Lists
-pub mod Rises
 pub mod Fitting
 pub mod Lookups
 pub mod Owners

@@ -5,19 +5,20 @@ use Rattle.std.proofs.lemmas.Bool.Decides.{nat_tests}
 use Rattle.wf_words.specs.Keyed.{at_key}
 use Rattle.wf_life.specs.declared.Kind.{Kind}
 use Rattle.wf_life.specs.declared.Kind.TheVariants as kind
-use Rattle.wf_life.specs.Handles.{Live, IsRising, key_of, same_kind}
+use Rattle.wf_life.specs.Handles.{Live, IsRising, key_of, same_kind, rises_live}
 use Rattle.wf_stream.specs.Streams.{StoreView}
 use Rattle.wf_scene.specs.Cached.{has_element, handles, handle_of}
 use Rattle.wf_calls.specs.declared.code.Code.TheVariants as code
 use Rattle.wf_model.specs.declared.Device.{Device}
 use Rattle.wf_model.specs.declared.Context.{Context}
-use Rattle.wf_model.specs.Outcome.{refusal, found}
-use Rattle.wf_model.specs.Composition.{CoreState}
+use Rattle.wf_model.specs.Objects.{CoreState}
+use Rattle.wf_calls.specs.Replies.{refusal}
+use Rattle.wf_model.specs.Outcome.{found}
 use Rattle.wf_core.specs.Sides.{side_of}
 use Rattle.wf_core.specs.Fits.{HandlesFit, HasElements, of_kind, elements_of, device_live, context_live, element_live}
 use Rattle.wf_core.specs.Owners.{of_device, of_element, owned_context, owning_context}
-use Rattle.wf_core.proofs.Lists.{find_filtered, find_mapped, any_found, any_mapped}
-use Rattle.wf_core.proofs.Rises.{Rises, get_position, rises_live, rises_filter, rises_map, find_tested}
+use Rattle.wf_words.specs.Found.{find_filtered, find_mapped, any_found, any_mapped, get_position}
+use Rattle.wf_words.specs.Rising.{Rises, rises_filter, rises_map, find_tested}
 
 mapped_twice : {A B C : Type 0} (f : B → C) (g : A → B) (o : Option A) → option_map f (option_map g o) ≡ option_map (λ x. f (g x)) o
 mapped_twice f g None = refl

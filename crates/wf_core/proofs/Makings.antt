@@ -1,14 +1,13 @@
 -- A new object fits with the handle that was made for it.
-use Rattle.std.proofs.Common.{◌≡◌, ℕ, zero, suc, ◌+◌, ◌≤◌, Bool, true, false, cond, not, ◌==◌, ◌&&◌, ◌||◌, List, [], ◌∷◌, ◌++◌, map, filter, set, slice_get, Option, Some, None, option_map, refl, sym, ap, subst, ◌∙◌, arith}
+use Rattle.std.proofs.Common.{◌≡◌, ℕ, zero, suc, ◌+◌, ◌≤◌, Bool, true, false, cond, not, ◌==◌, ◌&&◌, ◌||◌, List, [], ◌∷◌, ◌++◌, map, set, slice_get, Option, Some, None, option_map, refl, sym, ap, subst, ◌∙◌, arith}
 use Rattle.std.specs.List.{list_all, AllByRecursion}
-use Rattle.std.proofs.lemmas.Bool.{and_parts, and_from, eqb-true, eq-eqb, ne_eqb}
+use Rattle.std.proofs.lemmas.Bool.{and_parts, eqb-true, eq-eqb, ne_eqb}
 use Rattle.std.proofs.lemmas.Bool.Decides.{nat_tests}
-use Rattle.std.proofs.lemmas.List.{append-nil, map-append}
-use Rattle.std.proofs.lemmas.List.Elements.{filter-append}
+use Rattle.std.proofs.lemmas.List.{map-append}
 use Rattle.wf_words.specs.Keyed.{is_in}
 use Rattle.wf_life.specs.declared.Kind.{Kind}
 use Rattle.wf_life.specs.declared.Kind.TheVariants as kind
-use Rattle.wf_life.specs.Handles.{Live, IsRising, same_kind}
+use Rattle.wf_life.specs.Handles.{Live, IsRising, same_kind, rising_more}
 use Rattle.wf_stream.specs.Streams.{StoreView, with_other}
 use Rattle.wf_scene.specs.Cached as cached
 use Rattle.wf_scene.specs.Cached.{handle_of, handles}
@@ -16,34 +15,13 @@ use Rattle.wf_scene.specs.Elements.{new_element}
 use Rattle.wf_model.specs.declared.Device.{Device}
 use Rattle.wf_model.specs.declared.Context.{Context}
 use Rattle.wf_model.specs.declared.Source.{Source}
-use Rattle.wf_model.specs.Composition.{CoreState}
+use Rattle.wf_model.specs.Objects.{CoreState}
 use Rattle.wf_core.specs.Fits.{ContextFits, Fits, HasElements, Shows, context_live, device_live, element_live, elements_of, has_owner, live, mask_live, of_kind, source_live}
-use Rattle.wf_core.proofs.Lists.{each_at, each_more, each_other, each_set, map_set}
+use Rattle.wf_words.specs.Each.{each_at, each_more, each_other, each_set}
+use Rattle.wf_words.specs.Places.{map_set}
 use Rattle.wf_core.proofs.Lookups.{has_by_key, is_named, rises_contexts}
-use Rattle.wf_core.proofs.Rises.{Rises, each_replaced, none_over}
-
-rising_more : (low high : ℕ) (others : List Live) (k : Kind) (key : ℕ) → IsRising low others high → IsRising low (others ++ live k (high + 1) key ∷ []) (high + 1)
-rising_more low high [] k key rising = (omega (arith, rising), omega arith)
-rising_more low high (l ∷ others) k key rising = (rising.0, rising_more l.handle high others k key rising.1)
-
-all_more : {A : Type 0} (p : A → Bool) (xs : List A) (y : A) → list_all p xs ≡ true → p y ≡ true → list_all p (xs ++ y ∷ []) ≡ true
-all_more p [] y all passes = rw passes refl
-all_more p (x ∷ xs) y all passes =
-    let parts = and_parts (p x) (list_all p xs) all in
-    and_from (p x) (list_all p (xs ++ y ∷ [])) parts.0 (all_more p xs y parts.1 passes)
-
-all_other : {A : Type 0} (p q : A → Bool) → ((x : A) → p x ≡ true → q x ≡ true) → (xs : List A) → list_all p xs ≡ true → list_all q xs ≡ true
-all_other p q from [] all = refl
-all_other p q from (x ∷ xs) all =
-    let parts = and_parts (p x) (list_all p xs) all in
-    and_from (q x) (list_all q xs) (from x parts.0) (all_other p q from xs parts.1)
-
--- one more live handle passes a test or not
-more_passed : {A : Type 0} (p : A → Bool) (xs : List A) (y : A) → p y ≡ true → filter p (xs ++ y ∷ []) ≡ filter p xs ++ y ∷ []
-more_passed p xs y passes = filter-append p xs (y ∷ []) ∙ ap (λ b. filter p xs ++ cond b (y ∷ []) []) passes
-
-more_left : {A : Type 0} (p : A → Bool) (xs : List A) (y : A) → p y ≡ false → filter p (xs ++ y ∷ []) ≡ filter p xs
-more_left p xs y fails = filter-append p xs (y ∷ []) ∙ ap (λ b. filter p xs ++ cond b (y ∷ []) []) fails ∙ append-nil (filter p xs)
+use Rattle.wf_words.specs.Rising.{Rises, each_replaced, none_over}
+use Rattle.wf_words.specs.Filtered.{more_left, all_more, more_passed, all_other}
 
 last_under : (low high : ℕ) (ls : List Live) → IsRising low ls high → low ≤ high
 last_under low high [] rising = rising
@@ -126,7 +104,7 @@ module _ (core : CoreState) (store : StoreView) (fits : Fits core store) where
   pub fresh : (c : Context) → HasElements store.others c → cached.has_element next c.cached ≡ false
   fresh c has =
       has_by_key core store fits.handles next c has
-      ∙ ap (λ (o : Option ℕ). is_named o c.handle) (ap (option_map (λ (l : Live). l.key)) (none_over (λ (l : Live). same_kind l.kind kind.Element) 0 store.made next store.others fits.handles.rising (omega arith)))
+      ∙ ap (λ (o : Option ℕ). is_named o c.handle) (ap (option_map (λ (l : Live). l.key)) (none_over (λ (l : Live). l.handle) (λ (l : Live). same_kind l.kind kind.Element) 0 store.made next store.others fits.handles.rising (omega arith)))
 
   -- another element in the context at a place
   pub element_fits : (place : ℕ) (c : Context) → slice_get core.contexts place ≡ Some c → Fits (record core { contexts = set core.contexts place (record c { cached = cached.add next c.cached }) }) (with_other kind.Element c.handle store)

@@ -1,20 +1,22 @@
 -- The context at a place that was found is the one that the call names.
-use Rattle.std.proofs.Common.{◌≡◌, ℕ, zero, suc, ◌<◌, arith, length, true, ◌&&◌, ◌==◌, List, [], ◌∷◌, find, slice_get, slice_index_or, Option, Some, None, Result, Ok, Err, refl, sym, ap, ◌∙◌}
+use Rattle.std.proofs.Common.{◌≡◌, ℕ, ◌<◌, length, true, ◌&&◌, ◌==◌, List, find, slice_get, slice_index_or, Option, Some, None, Result, Ok, Err, refl, sym, ap, ◌∙◌}
 use Rattle.std.proofs.lemmas.Bool.{and_parts, eqb-true}
 use Rattle.std.proofs.lemmas.Option.{slice_get_read}
 use Rattle.wf_words.specs.Refusals.{◌>>=◌}
 use Rattle.wf_stream.specs.Streams.{StoreView}
 use Rattle.wf_scene.specs.Cached.{has_element}
-use Rattle.wf_calls.specs.declared.code.Refusal.{Refusal}
+use Rattle.wf_calls.specs.declared.reply.Refusal.{Refusal}
 use Rattle.wf_calls.specs.declared.code.Code.TheVariants as code
 use Rattle.wf_words.specs.Keyed.{at_key}
 use Rattle.wf_model.specs.declared.Context.{Context}
 use Rattle.wf_model.specs.declared.Device.{Device}
+use Rattle.wf_model.specs.Objects.{CoreState}
 use Rattle.wf_model.specs.Outcome.{Outcome, found}
-use Rattle.wf_model.specs.Composition.{CoreSide, CoreState, device, context}
+use Rattle.wf_model.specs.Composition.{CoreSide, device, context}
 use Rattle.wf_core.specs.Sides.{side_of}
 use Rattle.wf_core.specs.Owners.{at_place, of_device, owned_context, owning_context}
-use Rattle.wf_core.proofs.Lists.{passes}
+use Rattle.wf_words.specs.Found.{passes}
+use Rattle.wf_words.specs.Places.{within}
 
 -- steps one after another, joined otherwise
 pub joined : {A B C E : Type 0} (m : Result A E) (f : A → Result B E) (k : B → Result C E) → (m >>= (λ x. f x >>= k)) ≡ ((m >>= f) >>= k)
@@ -61,12 +63,6 @@ both d h w c is = of_device_found (at_key (λ (x : Device). x.handle) d w.core.d
         → (x : Device) × (at_key (λ (x : Device). x.handle) d w.core.devices ≡ Some x) × (of_device d h w.core.contexts ≡ Some c)
     of_device_found None at same = absurd cc
     of_device_found (Some x) at same = (x, at, found_is (of_device d h w.core.contexts) c same)
-
--- a place within the list has an element
-pub within : {A : Type 0} (xs : List A) (i : ℕ) → i < length xs → (x : A) × (slice_get xs i ≡ Some x)
-within [] i less = absurd (omega (arith, less))
-within (x ∷ xs) zero less = (x, refl)
-within (x ∷ xs) (suc i) less = within xs i (omega (arith, less))
 
 -- a place that was found tells that there is such a context
 pub some_owned : (d h place : ℕ) (core : CoreState) (store : StoreView) → at_place (Ok place) core.contexts ≡ owned_context d h (side_of core store) → place < length core.contexts

@@ -4,22 +4,25 @@ use Rattle.std.specs.List.{list_any}
 use Rattle.wf_life.specs.declared.Kind.TheVariants as kind
 use Rattle.wf_stream.specs.Streams.{StoreView}
 use Rattle.wf_model.specs.declared.Source.{Source}
-use Rattle.wf_model.specs.Composition.{CoreState, change_context, is_of_device, with_cached}
+use Rattle.wf_model.specs.Objects.{CoreState}
+use Rattle.wf_model.specs.declared.Context.{Context}
+use Rattle.wf_model.specs.Composition.{change_context, is_of_device, with_cached}
 use Rattle.wf_model.specs.Core.{without_source, without_those_of, without_context}
 use Rattle.wf_core.specs.Fits.{Fits, mask_live, source_live, HasElements, element_live, elements_of}
 use Rattle.wf_core.specs.Losses.{but_context, but_contexts_of}
-use Rattle.wf_core.proofs.Leaving.{none_out, one_fewer, shorter, all_kept, any_by, any_left, change_left, filter_twice, set_here}
-use Rattle.wf_core.proofs.Lists.{any_found, passes, each_at}
+use Rattle.wf_words.specs.Filtered.{none_out, shorter, all_kept, any_left, filter_twice}
+use Rattle.wf_words.specs.Rising.{one_fewer, Rises, found_above}
+use Rattle.wf_words.specs.Found.{any_by, any_found, passes}
+use Rattle.wf_words.specs.Keyed.{change_left}
+use Rattle.wf_words.specs.Places.{get_set, within}
+use Rattle.wf_words.specs.Each.{each_at}
 use Rattle.wf_core.proofs.Lookups.{rises_kind, rises_contexts}
-use Rattle.wf_core.proofs.Rises.{Rises, found_above}
 use Rattle.std.proofs.lemmas.Bool.{and_from, eq-eqb, eqb-true}
 use Rattle.std.proofs.lemmas.Bool.Decides.{nat_tests}
-use Rattle.wf_model.specs.declared.Context.{Context}
 use Rattle.wf_scene.specs.declared.element.Element.{Element}
 use Rattle.wf_scene.specs.Cached as cached
 use Rattle.wf_scene.specs.Cached.{handle_of, handles}
 use Rattle.wf_core.proofs.Dropping.{and_false, and_true}
-use Rattle.wf_core.proofs.Owners.{within}
 use Rattle.wf_core.proofs.Scenes.{placed_is}
 
 -- the handle of the first source or mask of a context
@@ -104,7 +107,7 @@ module _ (core : CoreState) (store : StoreView) (fits : Fits core store) (h plac
   left_is = is ∙ placed_is core store fits place c at (with_cached (cached.forget e c.cached))
 
   pub still_at : slice_get left.contexts place ≡ Some fewer_in
-  still_at = ap (λ (k : CoreState). slice_get k.contexts place) left_is ∙ set_here core.contexts place c fewer_in at
+  still_at = ap (λ (k : CoreState). slice_get k.contexts place) left_is ∙ get_set core.contexts place c fewer_in at
 
   pub still_stands : place < length core.contexts → Stands h place left.contexts
   still_stands less =

@@ -8,18 +8,20 @@ use Rattle.wf_life.specs.Handles.{Live, same_kind}
 use Rattle.wf_stream.specs.Streams.{StoreView}
 use Rattle.wf_scene.specs.declared.attributes.Refused.{Refused}
 use Rattle.wf_scene.specs.Cached.{CachedScene, handles}
-use Rattle.wf_calls.specs.declared.code.Refusal.{Refusal}
+use Rattle.wf_calls.specs.declared.reply.Refusal.{Refusal}
 use Rattle.wf_model.specs.declared.Context.{Context}
+use Rattle.wf_model.specs.Objects.{CoreState}
 use Rattle.wf_model.specs.Outcome.{Outcome}
-use Rattle.wf_model.specs.Composition.{CoreSide, CoreState, change_context, context, device, with_cached}
+use Rattle.wf_model.specs.Composition.{CoreSide, change_context, context, device, with_cached}
 use Rattle.wf_model.specs.Core.{by_scene}
 use Rattle.wf_core.specs.Sides.{side_of}
 use Rattle.wf_core.specs.Fits.{ContextFits, Fits, HasElements, context_live}
 use Rattle.wf_core.specs.Owners.{owned_context}
 use Rattle.wf_core.proofs.Owners.{joined, owned_parts}
-use Rattle.wf_core.proofs.Lists.{each_at, each_set, map_set}
+use Rattle.wf_words.specs.Each.{each_at, each_set}
+use Rattle.wf_words.specs.Places.{map_set}
 use Rattle.wf_core.proofs.Lookups.{rises_contexts}
-use Rattle.wf_core.proofs.Rises.{change_at}
+use Rattle.wf_words.specs.Rising.{change_at}
 
 -- one context replaced by another of the same handles and streams
 module _ (core : CoreState) (store : StoreView) (fits : Fits core store) (place : ℕ) (c : Context) (at : slice_get core.contexts place ≡ Some c) where

@@ -5,24 +5,25 @@ use Rattle.wf_words.specs.Refusals.{◌>>=◌}
 use Rattle.wf_words.specs.Whole.{count_of}
 use Rattle.wf_life.specs.declared.Kind.TheVariants as kind
 use Rattle.wf_life.specs.Handles.{Live, is_full, key_of, same_kind}
-use Rattle.wf_stream.specs.Streams.{KeptStream, StoreView, stream_at, with_other}
+use Rattle.wf_stream.specs.Streams.{KeptStream, StoreView, stream_at, with_other, has_number}
 use Rattle.wf_scene.specs.declared.look.Seen.{Seen}
 use Rattle.wf_scene.specs.Cached.{empty}
 use Rattle.wf_calls.specs.declared.code.Code.TheVariants as code
-use Rattle.wf_calls.specs.declared.code.Refusal.{Refusal}
+use Rattle.wf_calls.specs.declared.reply.Refusal.{Refusal}
 use Rattle.wf_calls.specs.Codes.{is_out_of_memory}
 use Rattle.wf_model.specs.declared.Context.{Context}
-use Rattle.wf_model.specs.Outcome.{Outcome, found, refusal, refuse}
-use Rattle.wf_model.specs.Composition.{CoreSide, CoreState, created, seen_stream}
+use Rattle.wf_model.specs.Objects.{CoreState}
+use Rattle.wf_model.specs.Outcome.{Outcome, found, refuse}
+use Rattle.wf_calls.specs.Replies.{refusal}
+use Rattle.wf_model.specs.Composition.{CoreSide, created, seen_stream}
 use Rattle.wf_model.specs.Core.{blank_scene, contexts_full, has_port, new_context, room, screen_context}
 use Rattle.wf_pixel.specs.Choice.{is_a8}
 use Rattle.std.specs.Option.{IfSome}
 use Rattle.wf_core.specs.Fits.{ContextFits, Fits, IsOfPixels}
 use Rattle.wf_core.specs.Sides.{refused_handle, side_of}
 use Rattle.wf_core.specs.Sights.{screen_seen}
-use Rattle.wf_core.proofs.Lists.{count_left}
+use Rattle.wf_words.specs.Filtered.{count_left}
 use Rattle.wf_core.proofs.Lookups.{a_device, no_device}
-use Rattle.wf_core.proofs.Seeing.{has_number}
 
 -- the stream of a screen that is seen
 screen_parts : (screen : Option ℕ) (streams : List KeptStream) (seen : Seen) → Ok seen ≡ screen_seen screen streams

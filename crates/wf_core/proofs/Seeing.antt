@@ -1,6 +1,5 @@
 -- What streams show, by their numbers and by their handles; and sources and masks of them.
 use Rattle.std.proofs.Common.{◌≡◌, ℕ, ◌+◌, Bool, true, false, not, ◌&&◌, ◌==◌, List, [], ◌∷◌, ◌++◌, option_map, Option, Some, None, Ok, IfSome, refl, sym, ap, ◌∙◌}
-use Rattle.std.proofs.lemmas.Bool.{eqb-true}
 use Rattle.wf_words.specs.Refusals.{◌>>=◌}
 use Rattle.wf_pixel.specs.declared.Format.{Format}
 use Rattle.wf_pixel.specs.declared.Size.{Size}
@@ -9,23 +8,21 @@ use Rattle.wf_life.specs.declared.Kind.{Kind}
 use Rattle.wf_life.specs.declared.Kind.TheVariants as kind
 use Rattle.wf_life.specs.Handles.{Live, is_full, live_count, same_kind}
 use Rattle.wf_stream.specs.Buffers.{Buffers}
-use Rattle.wf_stream.specs.Streams.{KeptStream, IsNumbered, StoreView, buffers_at, number_of, stream_at, stream_of, with_other}
+use Rattle.wf_stream.specs.Streams.{KeptStream, IsNumbered, StoreView, buffers_at, number_of, stream_at, stream_of, with_other, rises_streams, has_number}
 use Rattle.wf_scene.specs.declared.look.Seen.{Seen}
 use Rattle.wf_calls.specs.declared.code.Code.TheVariants as code
 use Rattle.wf_model.specs.declared.Context.{Context}
 use Rattle.wf_model.specs.declared.Source.{Source}
+use Rattle.wf_model.specs.Objects.{CoreState}
 use Rattle.wf_model.specs.Outcome.{Outcome, refuse}
-use Rattle.wf_model.specs.Composition.{CoreSide, CoreState, seen_stream}
+use Rattle.wf_model.specs.Composition.{CoreSide, seen_stream}
 use Rattle.wf_model.specs.Core.{mask_new, source_new, sources_full}
 use Rattle.wf_core.specs.Sides.{refused_handle, side_of}
 use Rattle.wf_core.specs.Fits.{Shows}
 use Rattle.wf_core.specs.Owners.{owned_context}
-use Rattle.wf_core.proofs.Lists.{count_left, passes}
+use Rattle.wf_words.specs.Filtered.{count_left}
 use Rattle.wf_core.proofs.Owners.{both}
-use Rattle.wf_core.proofs.Rises.{found_above, rises_streams}
-
-pub has_number : (n : ℕ) (streams : List KeptStream) (s : KeptStream) → stream_at n streams ≡ Some s → s.number ≡ n
-has_number n streams s found = eqb-true s.number n (passes (λ (x : KeptStream). x.number == n) streams s found)
+use Rattle.wf_words.specs.Rising.{found_above}
 
 -- the stream of a number shows what its buffers are for
 pub seen_number : (n : ℕ) (streams : List KeptStream) (b : Buffers) (size : Size) (format : Format) → Some b ≡ buffers_at n streams → size ≡ b.size → format ≡ b.format

@@ -14,7 +14,7 @@ use Rattle.wf_scene.specs.Layers.{holds_rect, is_placed_layer}
 use Rattle.wf_model.specs.declared.Device.{Device}
 use Rattle.wf_model.specs.declared.Context.{Context}
 use Rattle.wf_model.specs.declared.Source.{Source}
-use Rattle.wf_model.specs.Composition.{CoreState}
+use Rattle.wf_model.specs.Objects.{CoreState}
 
 -- handles
 

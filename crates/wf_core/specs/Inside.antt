@@ -2,7 +2,7 @@
 use Rattle.std.specs.Prelude.{◌≡◌}
 use Rattle.std.specs.Vec.{vec_capacity}
 use Rattle.wf_core.specs.declared.composition.Core.TheInside.{Inside}
-use Rattle.wf_model.specs.Composition.{CoreState}
+use Rattle.wf_model.specs.Objects.{CoreState}
 
 -- what the fields stand for
 abbrev pub core_inside : Inside → CoreState

@@ -7,3 +7,4 @@ pub mod Shows
 pub mod Marks
 pub mod Losses
 pub mod Inside
+pub mod Steps

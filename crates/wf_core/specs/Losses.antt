@@ -3,7 +3,7 @@ use Rattle.std.specs.Prelude.{◌≡◌, ℕ, not, ◌==◌, [], filter}
 use Rattle.wf_life.specs.declared.Kind.TheVariants as kind
 use Rattle.wf_life.specs.Handles.{live_count}
 use Rattle.wf_stream.specs.Streams.{StoreView}
-use Rattle.wf_model.specs.Composition.{CoreState}
+use Rattle.wf_model.specs.Objects.{CoreState}
 use Rattle.wf_model.specs.Core.{without_device}
 use Rattle.wf_core.specs.Sides.{beside}
 

@@ -3,7 +3,7 @@ use Rattle.std.specs.Prelude.{ℕ, ◌&&◌, ◌==◌, List, find, slice_get, Op
 use Rattle.wf_words.specs.Refusals.{◌>>=◌}
 use Rattle.wf_scene.specs.Cached.{has_element}
 use Rattle.wf_calls.specs.declared.code.Code.TheVariants as code
-use Rattle.wf_calls.specs.declared.code.Refusal.{Refusal}
+use Rattle.wf_calls.specs.declared.reply.Refusal.{Refusal}
 use Rattle.wf_model.specs.declared.Context.{Context}
 use Rattle.wf_model.specs.Outcome.{found}
 use Rattle.wf_model.specs.Composition.{CoreSide, device, context, element_context}

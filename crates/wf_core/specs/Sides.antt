@@ -6,10 +6,11 @@ use Rattle.wf_life.specs.Handles.{Live, is_full, live_count}
 use Rattle.wf_words.specs.Refusals.{◌>>=◌}
 use Rattle.wf_stream.specs.Streams.{StoreView}
 use Rattle.wf_calls.specs.declared.code.Code.TheVariants as code
-use Rattle.wf_calls.specs.declared.code.Refusal.{Refusal}
+use Rattle.wf_calls.specs.declared.reply.Refusal.{Refusal}
 use Rattle.wf_calls.specs.Codes.{is_out_of_memory}
 use Rattle.wf_model.specs.Outcome.{Outcome, refuse}
-use Rattle.wf_model.specs.Composition.{CoreSide, CoreState}
+use Rattle.wf_model.specs.Composition.{CoreSide}
+use Rattle.wf_model.specs.Objects.{CoreState}
 
 -- what a call sees of these objects and this store
 abbrev pub side_of : CoreState → StoreView → CoreSide

@@ -9,7 +9,7 @@ use Rattle.wf_scene.specs.declared.look.Seen.{Seen}
 use Rattle.wf_scene.specs.Sight.{Sight}
 use Rattle.wf_scene.specs.Values.{is_count}
 use Rattle.wf_calls.specs.declared.code.Code.TheVariants as code
-use Rattle.wf_calls.specs.declared.code.Refusal.{Refusal}
+use Rattle.wf_calls.specs.declared.reply.Refusal.{Refusal}
 use Rattle.wf_model.specs.declared.Context.{Context}
 use Rattle.wf_model.specs.declared.Source.{Source}
 use Rattle.wf_model.specs.Outcome.{found, refuse}

@@ -3,6 +3,7 @@
 ghost use Rattle.std.specs.Prelude.{◌≡◌, true, false, OnErr};
 ghost use Rattle.wf_model.specs.Composition.{core_answer};
 ghost use Rattle.wf_model.specs.Core.{activate, deactivate, set_active};
+ghost use Rattle.wf_core.specs.Steps.{KeepsAll, Steps};
 ghost use Rattle.wf_core.specs.Fits.{Fits};
 ghost use Rattle.wf_core.specs.Sides.{done_by, side_of};
 
@@ -11,7 +12,7 @@ use wf_calls::{Refusal, Reply};
 use wf_stream::Store;
 
 impl Core {
-    fn try_set_active(
+    pub(crate) fn try_set_active(
         &mut self,
         store: &Store,
         device: u32,
@@ -31,22 +32,18 @@ impl Core {
     /// Makes a context active. One that is active stays so.
     pub fn activate(&mut self, store: &mut Store, device: u32, context: u32) -> Reply
         requires { Fits self.old store.old }
-        ensures step { let before = side_of self.old store.old in core_answer device before (activate device context before) ≡ (side_of self.new store.new, result) }
-        ensures kept { store.new ≡ store.old }
-        ensures fits { Fits self.new store.new }
+        ensures { Steps device (λ _. activate device context) KeepsAll self.old self.new store.old store.new result }
     {
         let done = self.try_set_active(store, device, context, true);
-        self.answer(store, device, done)
+        Reply::bare(self.answer(store, device, done))
     }
 
     /// Makes a context inactive. One that is inactive stays so.
     pub fn deactivate(&mut self, store: &mut Store, device: u32, context: u32) -> Reply
         requires { Fits self.old store.old }
-        ensures step { let before = side_of self.old store.old in core_answer device before (deactivate device context before) ≡ (side_of self.new store.new, result) }
-        ensures kept { store.new ≡ store.old }
-        ensures fits { Fits self.new store.new }
+        ensures { Steps device (λ _. deactivate device context) KeepsAll self.old self.new store.old store.new result }
     {
         let done = self.try_set_active(store, device, context, false);
-        self.answer(store, device, done)
+        Reply::bare(self.answer(store, device, done))
     }
 }

@@ -2,47 +2,29 @@
 
 ghost use Rattle.std.specs.Prelude.{◌≡◌, ◌+◌, Bool, false, IfOk, OnOk, OnErr, Result, IsTrue};
 ghost use Rattle.wf_calls.specs.Codes.{is_out_of_memory};
-ghost use Rattle.wf_model.specs.Outcome.{answer, refusal};
+ghost use Rattle.wf_calls.specs.Replies.{refusal};
 ghost use Rattle.wf_model.specs.Composition.{core_answer};
 ghost use Rattle.wf_core.specs.Sides.{side_of, done_by, lacks_memory};
 ghost use Rattle.wf_core.specs.Fits.{Fits};
 
 use crate::composition::Core;
 use crate::registers::record_in;
-use wf_calls::{Code, Payload, Refusal, Reply};
+use wf_calls::{Answer, Refusal};
 use wf_stream::Store;
-
-/// The refusal by a code alone.
-pub(crate) fn refusal(code: Code) -> Refusal
-    ensures { result ≡ refusal code }
-{
-    Refusal { code, value: 0 }
-}
-
-/// An answer without a payload.
-fn reply(code: Code, value: u32) -> Reply
-    ensures { result ≡ answer code value }
-{
-    Reply {
-        code,
-        value,
-        payload: Payload::Nothing,
-    }
-}
 
 impl Core {
     /// The answer of a call of a device that was carried out or refused.
-    pub(crate) fn answer(&mut self, store: &Store, device: u32, done: Result<u32, Refusal>) -> Reply
+    pub(crate) fn answer(&mut self, store: &Store, device: u32, done: Result<u32, Refusal>) -> Answer
         requires { Fits self.old store.now }
         ensures answered { core_answer device (side_of self.old store.now) (done_by done (side_of self.old store.now)) ≡ (side_of self.new store.now, result) }
         ensures memory { is_out_of_memory result.code ≡ lacks_memory done }
         ensures fits { Fits self.new store.now }
     {
         match done {
-            Ok(value) => reply(Code::Ok, value),
+            Ok(value) => Answer::done(value),
             Err(refused) => {
                 record_in(&mut self.devices, device, refused.code);
-                reply(refused.code, refused.value)
+                Answer::refused(refused)
             }
         }
     }

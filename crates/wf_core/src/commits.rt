@@ -10,6 +10,7 @@ ghost use Rattle.wf_model.specs.Composition.{core_answer};
 ghost use Rattle.wf_model.specs.Core.{commit, fault_as_refusal};
 ghost use Rattle.wf_core.specs.Sides.{side_of, done_by};
 ghost use Rattle.wf_core.specs.Sights.{seen_key, sight_in};
+ghost use Rattle.wf_core.specs.Steps.{KeepsAll, Steps};
 ghost use Rattle.wf_core.specs.Fits.{Fits};
 
 use crate::composition::Core;
@@ -63,7 +64,7 @@ fn committed(cached: &Cached, store: &Store) -> Result<Scene, Refusal>
 }
 
 impl Core {
-    fn try_commit(&mut self, store: &Store, device: u32, context: u32) -> Result<u32, Refusal>
+    pub(crate) fn try_commit(&mut self, store: &Store, device: u32, context: u32) -> Result<u32, Refusal>
         requires { Fits self.old store.now }
         ensures case { commit device context (side_of self.old store.now) ≡ done_by result (side_of self.new store.now) }
         ensures refused { OnErr result (self.new ≡ self.old) }
@@ -82,11 +83,9 @@ impl Core {
     /// takes no memory.
     pub fn commit(&mut self, store: &mut Store, device: u32, context: u32) -> Reply
         requires { Fits self.old store.old }
-        ensures step { let before = side_of self.old store.old in core_answer device before (commit device context before) ≡ (side_of self.new store.new, result) }
-        ensures kept { store.new ≡ store.old }
-        ensures fits { Fits self.new store.new }
+        ensures { Steps device (λ _. commit device context) KeepsAll self.old self.new store.old store.new result }
     {
         let done = self.try_commit(store, device, context);
-        self.answer(store, device, done)
+        Reply::bare(self.answer(store, device, done))
     }
 }

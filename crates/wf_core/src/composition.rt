@@ -1,7 +1,7 @@
 //! The objects of composition.
 
 ghost use Rattle.std.specs.Prelude.{◌≡◌, IfOk};
-ghost use Rattle.wf_model.specs.Composition.{no_objects};
+ghost use Rattle.wf_model.specs.Objects.{no_objects};
 
 use std::alloc::Global;
 use std::marker::Model;
@@ -29,7 +29,7 @@ pub struct Core {
 }
 
 impl Model for Core {
-    ghost use Rattle.wf_model.specs.Composition.{CoreState};
+    ghost use Rattle.wf_model.specs.Objects.{CoreState};
 
     ghost Value = { CoreState };
 

@@ -5,14 +5,14 @@ ghost use Rattle.wf_life.specs.Handles.{is_full};
 ghost use Rattle.wf_words.specs.Whole.{count_of};
 ghost use Rattle.wf_pixel.specs.Choice.{is_between};
 ghost use Rattle.wf_calls.specs.Codes.{is_out_of_memory};
-ghost use Rattle.wf_model.specs.Outcome.{refusal};
+ghost use Rattle.wf_calls.specs.Replies.{refusal};
 ghost use Rattle.wf_model.specs.Composition.{core_answer};
 ghost use Rattle.wf_model.specs.Core.{blank_scene, by_scene, context_get, context_set, contexts_full, has_port, refusal_code, screen_context};
 ghost use Rattle.wf_core.specs.Sides.{KeepsRest, side_of, done_by, lacks_memory};
+ghost use Rattle.wf_core.specs.Steps.{KeepsAll, Steps};
 ghost use Rattle.wf_core.specs.Fits.{Fits, IsOfPixels};
 ghost use Rattle.wf_core.specs.Sights.{screen_seen};
 
-use crate::answers::refusal;
 use crate::composition::{Core, MOST_CONTEXTS};
 use crate::finding::key_of;
 use crate::making::mint;
@@ -29,9 +29,9 @@ pub(crate) fn scene_refusal(refused: Refused) -> Refusal
     ensures { result ≡ refusal (refusal_code refused) }
 {
     match refused {
-        Refused::BadAttribute => refusal(Code::BadAttribute),
-        Refused::IllegalArgument => refusal(Code::IllegalArgument),
-        Refused::Limit => refusal(Code::Limit),
+        Refused::BadAttribute => Refusal::of(Code::BadAttribute),
+        Refused::IllegalArgument => Refusal::of(Code::IllegalArgument),
+        Refused::Limit => Refusal::of(Code::Limit),
     }
 }
 
@@ -76,11 +76,11 @@ fn screen_stream(store: &Store, screen: Option<u32>) -> Result<Seen, Refusal>
     ensures { result ≡ screen_seen screen store.now.streams }
 {
     let Some(number) = screen else {
-        return Err(refusal(Code::IllegalArgument));
+        return Err(Refusal::of(Code::IllegalArgument));
     };
     match seen_by_number(store, number) {
         Some(seen) => Ok(seen),
-        None => Err(refusal(Code::IllegalArgument)),
+        None => Err(Refusal::of(Code::IllegalArgument)),
     }
 }
 
@@ -99,7 +99,7 @@ impl Core {
         self.contexts.len() >= MOST_CONTEXTS || store.full()
     }
 
-    fn try_screen_context(
+    pub(crate) fn try_screen_context(
         &mut self,
         store: &mut Store,
         device: u32,
@@ -116,7 +116,7 @@ impl Core {
         ensures fits { Fits self.new store.new }
     {
         let Some(_) = key_of(store, device, Kind::Device) else {
-            return Err(refusal(Code::BadDevice));
+            return Err(Refusal::of(Code::BadDevice));
         };
         let target = match screen_stream(store, screen) {
             Ok(target) => target,
@@ -124,13 +124,13 @@ impl Core {
         };
         let port = port_number(port);
         if self.has_port(store, port) {
-            return Err(refusal(Code::InUse));
+            return Err(Refusal::of(Code::InUse));
         }
         if self.has_no_room(store) {
-            return Err(refusal(Code::Limit));
+            return Err(Refusal::of(Code::Limit));
         }
         let Ok(cached) = Cached::new(self.alloc, target.size, true) else {
-            return Err(refusal(Code::OutOfMemory));
+            return Err(Refusal::of(Code::OutOfMemory));
         };
         let handle = match mint(store, Kind::Context, device) {
             Ok(handle) => handle,
@@ -148,7 +148,7 @@ impl Core {
         Ok(handle)
     }
 
-    fn try_context_set(
+    pub(crate) fn try_context_set(
         &mut self,
         store: &Store,
         device: u32,
@@ -168,7 +168,7 @@ impl Core {
         Ok(0)
     }
 
-    fn try_context_get(
+    pub(crate) fn try_context_get(
         &self,
         store: &Store,
         device: u32,
@@ -196,12 +196,10 @@ impl Core {
         requires fits { Fits self.old store.old }
         requires declared { IsSome screen → IsTrue (is_between (pos 1) (pos 4) port) }
         requires pixels { IfSome screen (IsOfPixels store.old.streams) }
-        ensures step { let before = side_of self.old store.old in core_answer device before (screen_context device port screen (is_out_of_memory result.code) before) ≡ (side_of self.new store.new, result) }
-        ensures kept { KeepsRest store.old store.new }
-        ensures fits { Fits self.new store.new }
+        ensures { Steps device (λ m. screen_context device port screen m) KeepsRest self.old self.new store.old store.new result }
     {
         let done = self.try_screen_context(store, device, port, screen);
-        self.answer(store, device, done)
+        Reply::bare(self.answer(store, device, done))
     }
 
     /// Sets an attribute of a context: its rotation or its background. IllegalArgument is a number outside its range.
@@ -214,12 +212,10 @@ impl Core {
         value: [i64; 4],
     ) -> Reply
         requires { Fits self.old store.old }
-        ensures step { let before = side_of self.old store.old in core_answer device before (context_set device context attr value before) ≡ (side_of self.new store.new, result) }
-        ensures kept { store.new ≡ store.old }
-        ensures fits { Fits self.new store.new }
+        ensures { Steps device (λ _. context_set device context attr value) KeepsAll self.old self.new store.old store.new result }
     {
         let done = self.try_context_set(store, device, context, attr, value);
-        self.answer(store, device, done)
+        Reply::bare(self.answer(store, device, done))
     }
 
     /// One number of an attribute of a context, by its index from 0.
@@ -232,11 +228,9 @@ impl Core {
         index: i64,
     ) -> Reply
         requires { Fits self.old store.old }
-        ensures step { let before = side_of self.old store.old in core_answer device before (context_get device context attr index before) ≡ (side_of self.new store.new, result) }
-        ensures kept { store.new ≡ store.old }
-        ensures fits { Fits self.new store.new }
+        ensures { Steps device (λ _. context_get device context attr index) KeepsAll self.old self.new store.old store.new result }
     {
         let done = self.try_context_get(store, device, context, attr, index);
-        self.answer(store, device, done)
+        Reply::bare(self.answer(store, device, done))
     }
 }

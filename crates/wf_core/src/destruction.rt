@@ -7,11 +7,11 @@ ghost use Rattle.wf_life.specs.Handles.{is_live, without};
 ghost use Rattle.wf_scene.specs.Cached.{forget, has_element};
 ghost use Rattle.wf_model.specs.Composition.{change_context, core_answer, with_cached};
 ghost use Rattle.wf_model.specs.Core.{element_destroy, mask_destroy, source_destroy, without_source, context_destroy, device_destroy};
+ghost use Rattle.wf_core.specs.Steps.{KeepsAll, Steps};
 ghost use Rattle.wf_core.specs.Fits.{Fits};
 ghost use Rattle.wf_core.specs.Losses.{Loses};
 ghost use Rattle.wf_core.specs.Sides.{KeepsRest, done_by, side_of};
 
-use crate::answers::refusal;
 use crate::composition::Core;
 use crate::finding::key_of;
 use crate::links::is_of_device;
@@ -76,7 +76,7 @@ impl Core {
         leave_out(&mut self.masks, mask);
     }
 
-    fn try_source_destroy(
+    pub(crate) fn try_source_destroy(
         &mut self,
         store: &mut Store,
         device: u32,
@@ -90,16 +90,16 @@ impl Core {
         ensures fits { Fits self.new store.new }
     {
         let Some(_) = key_of(store, device, Kind::Device) else {
-            return Err(refusal(Code::BadDevice));
+            return Err(Refusal::of(Code::BadDevice));
         };
         if !is_owned(&self.sources, &self.contexts, device, source) {
-            return Err(refusal(Code::BadHandle));
+            return Err(Refusal::of(Code::BadHandle));
         }
         self.drop_source(store, source);
         Ok(0)
     }
 
-    fn try_mask_destroy(
+    pub(crate) fn try_mask_destroy(
         &mut self,
         store: &mut Store,
         device: u32,
@@ -113,10 +113,10 @@ impl Core {
         ensures fits { Fits self.new store.new }
     {
         let Some(_) = key_of(store, device, Kind::Device) else {
-            return Err(refusal(Code::BadDevice));
+            return Err(Refusal::of(Code::BadDevice));
         };
         if !is_owned(&self.masks, &self.contexts, device, mask) {
-            return Err(refusal(Code::BadHandle));
+            return Err(Refusal::of(Code::BadHandle));
         }
         self.drop_mask(store, mask);
         Ok(0)
@@ -135,7 +135,7 @@ impl Core {
         self.contexts[place].cached.forget(element);
     }
 
-    fn try_element_destroy(
+    pub(crate) fn try_element_destroy(
         &mut self,
         store: &mut Store,
         device: u32,
@@ -156,39 +156,33 @@ impl Core {
     /// Destroys an element, which leaves the order too. BadHandle is no element of the device.
     pub fn element_destroy(&mut self, store: &mut Store, device: u32, element: u32) -> Reply
         requires { Fits self.old store.old }
-        ensures step { let before = side_of self.old store.old in core_answer device before (element_destroy device element before) ≡ (side_of self.new store.new, result) }
-        ensures kept { KeepsRest store.old store.new }
-        ensures fits { Fits self.new store.new }
+        ensures { Steps device (λ _. element_destroy device element) KeepsRest self.old self.new store.old store.new result }
     {
         let done = self.try_element_destroy(store, device, element);
-        self.answer(store, device, done)
+        Reply::bare(self.answer(store, device, done))
     }
 
     /// Destroys a source. BadHandle is no source of the device. Its stream is still kept, and a committed scene may show
     /// it.
     pub fn source_destroy(&mut self, store: &mut Store, device: u32, source: u32) -> Reply
         requires { Fits self.old store.old }
-        ensures step { let before = side_of self.old store.old in core_answer device before (source_destroy device source before) ≡ (side_of self.new store.new, result) }
-        ensures kept { KeepsRest store.old store.new }
-        ensures fits { Fits self.new store.new }
+        ensures { Steps device (λ _. source_destroy device source) KeepsRest self.old self.new store.old store.new result }
     {
         let done = self.try_source_destroy(store, device, source);
-        self.answer(store, device, done)
+        Reply::bare(self.answer(store, device, done))
     }
 
     /// Destroys a mask. BadHandle is no mask of the device. Its stream is still kept, and a committed scene may show
     /// through it.
     pub fn mask_destroy(&mut self, store: &mut Store, device: u32, mask: u32) -> Reply
         requires { Fits self.old store.old }
-        ensures step { let before = side_of self.old store.old in core_answer device before (mask_destroy device mask before) ≡ (side_of self.new store.new, result) }
-        ensures kept { KeepsRest store.old store.new }
-        ensures fits { Fits self.new store.new }
+        ensures { Steps device (λ _. mask_destroy device mask) KeepsRest self.old self.new store.old store.new result }
     {
         let done = self.try_mask_destroy(store, device, mask);
-        self.answer(store, device, done)
+        Reply::bare(self.answer(store, device, done))
     }
 
-    fn try_context_destroy(
+    pub(crate) fn try_context_destroy(
         &mut self,
         store: &mut Store,
         device: u32,
@@ -210,12 +204,10 @@ impl Core {
     /// still kept.
     pub fn context_destroy(&mut self, store: &mut Store, device: u32, context: u32) -> Reply
         requires { Fits self.old store.old }
-        ensures step { let before = side_of self.old store.old in core_answer device before (context_destroy device context before) ≡ (side_of self.new store.new, result) }
-        ensures kept { KeepsRest store.old store.new }
-        ensures fits { Fits self.new store.new }
+        ensures { Steps device (λ _. context_destroy device context) KeepsRest self.old self.new store.old store.new result }
     {
         let done = self.try_context_destroy(store, device, context);
-        self.answer(store, device, done)
+        Reply::bare(self.answer(store, device, done))
     }
 
     /// Takes out a device, and its handle.
@@ -230,7 +222,7 @@ impl Core {
         leave_out_device(&mut self.devices, device);
     }
 
-    fn try_device_destroy(&mut self, store: &mut Store, device: u32) -> Result<u32, Refusal>
+    pub(crate) fn try_device_destroy(&mut self, store: &mut Store, device: u32) -> Result<u32, Refusal>
         requires { Fits self.old store.old }
         ensures case { device_destroy device (side_of self.old store.old) ≡ done_by result (side_of self.new store.new) }
         ensures refused { OnErr result (self.new ≡ self.old) }
@@ -239,7 +231,7 @@ impl Core {
         ensures fits { Fits self.new store.new }
     {
         let Some(_) = key_of(store, device, Kind::Device) else {
-            return Err(refusal(Code::BadDevice));
+            return Err(Refusal::of(Code::BadDevice));
         };
         self.drop_contexts(store, device);
         self.drop_device(store, device);
@@ -249,11 +241,9 @@ impl Core {
     /// Destroys a device with its contexts and all that is theirs. BadDevice is no live device.
     pub fn device_destroy(&mut self, store: &mut Store, device: u32) -> Reply
         requires { Fits self.old store.old }
-        ensures step { let before = side_of self.old store.old in core_answer device before (device_destroy device before) ≡ (side_of self.new store.new, result) }
-        ensures kept { KeepsRest store.old store.new }
-        ensures fits { Fits self.new store.new }
+        ensures { Steps device (λ _. device_destroy device) KeepsRest self.old self.new store.old store.new result }
     {
         let done = self.try_device_destroy(store, device);
-        self.answer(store, device, done)
+        Reply::bare(self.answer(store, device, done))
     }
 }

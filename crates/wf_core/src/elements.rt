@@ -5,9 +5,9 @@ ghost use Rattle.wf_calls.specs.Codes.{is_out_of_memory};
 ghost use Rattle.wf_model.specs.Composition.{core_answer};
 ghost use Rattle.wf_model.specs.Core.{element_above, element_below, element_get, element_insert, element_new, element_remove, element_set, is_element_or_0};
 ghost use Rattle.wf_core.specs.Sides.{KeepsRest, side_of, done_by, lacks_memory};
+ghost use Rattle.wf_core.specs.Steps.{KeepsAll, Steps};
 ghost use Rattle.wf_core.specs.Fits.{Fits};
 
-use crate::answers::refusal;
 use crate::composition::Core;
 use crate::contexts::{by_scene, scene_refusal};
 use crate::making::mint;
@@ -19,7 +19,7 @@ use wf_stream::{Kind, Store};
 const MOST_ELEMENTS: u32 = 64;
 
 impl Core {
-    fn try_element_new(
+    pub(crate) fn try_element_new(
         &mut self,
         store: &mut Store,
         device: u32,
@@ -34,14 +34,14 @@ impl Core {
     {
         let place = self.context_place(store, device, context)?;
         if self.contexts[place].cached.count() >= MOST_ELEMENTS {
-            return Err(refusal(Code::Limit));
+            return Err(Refusal::of(Code::Limit));
         }
         let handle = mint(store, Kind::Element, context)?;
         self.contexts[place].cached.add(handle);
         Ok(handle)
     }
 
-    fn try_element_get(
+    pub(crate) fn try_element_get(
         &self,
         store: &Store,
         device: u32,
@@ -56,7 +56,7 @@ impl Core {
         by_scene(self.contexts[place].cached.get(element, attr, index))
     }
 
-    fn try_element_set(
+    pub(crate) fn try_element_set(
         &mut self,
         store: &Store,
         device: u32,
@@ -88,7 +88,7 @@ impl Core {
         handle == 0 || self.element_in_device(store, device, handle).is_some()
     }
 
-    fn try_element_insert(
+    pub(crate) fn try_element_insert(
         &mut self,
         store: &Store,
         device: u32,
@@ -102,7 +102,7 @@ impl Core {
     {
         let place = self.element_place(store, device, element)?;
         if !self.is_element_or_0(store, device, below) {
-            return Err(refusal(Code::BadHandle));
+            return Err(Refusal::of(Code::BadHandle));
         }
         if let Err(refused) = self.contexts[place].cached.insert(element, below) {
             return Err(scene_refusal(refused));
@@ -110,7 +110,7 @@ impl Core {
         Ok(0)
     }
 
-    fn try_element_remove(
+    pub(crate) fn try_element_remove(
         &mut self,
         store: &Store,
         device: u32,
@@ -128,7 +128,7 @@ impl Core {
         Ok(0)
     }
 
-    fn try_element_above(&self, store: &Store, device: u32, element: u32) -> Result<u32, Refusal>
+    pub(crate) fn try_element_above(&self, store: &Store, device: u32, element: u32) -> Result<u32, Refusal>
         requires { Fits self.now store.now }
         ensures { element_above device element (side_of self.now store.now) ≡ done_by result (side_of self.now store.now) }
     {
@@ -136,7 +136,7 @@ impl Core {
         by_scene(self.contexts[place].cached.above(element))
     }
 
-    fn try_element_below(&self, store: &Store, device: u32, element: u32) -> Result<u32, Refusal>
+    pub(crate) fn try_element_below(&self, store: &Store, device: u32, element: u32) -> Result<u32, Refusal>
         requires { Fits self.now store.now }
         ensures { element_below device element (side_of self.now store.now) ≡ done_by result (side_of self.now store.now) }
     {
@@ -148,12 +148,10 @@ impl Core {
     /// were given.
     pub fn element_new(&mut self, store: &mut Store, device: u32, context: u32) -> Reply
         requires { Fits self.old store.old }
-        ensures step { let before = side_of self.old store.old in core_answer device before (element_new device context (is_out_of_memory result.code) before) ≡ (side_of self.new store.new, result) }
-        ensures kept { KeepsRest store.old store.new }
-        ensures fits { Fits self.new store.new }
+        ensures { Steps device (λ m. element_new device context m) KeepsRest self.old self.new store.old store.new result }
     {
         let done = self.try_element_new(store, device, context);
-        self.answer(store, device, done)
+        Reply::bare(self.answer(store, device, done))
     }
 
     /// Sets an attribute of an element. BadHandle is a source or a mask that is neither 0 nor one of the device;
@@ -167,12 +165,10 @@ impl Core {
         value: [i64; 4],
     ) -> Reply
         requires { Fits self.old store.old }
-        ensures step { let before = side_of self.old store.old in core_answer device before (element_set device element attr value before) ≡ (side_of self.new store.new, result) }
-        ensures kept { store.new ≡ store.old }
-        ensures fits { Fits self.new store.new }
+        ensures { Steps device (λ _. element_set device element attr value) KeepsAll self.old self.new store.old store.new result }
     {
         let done = self.try_element_set(store, device, element, attr, value);
-        self.answer(store, device, done)
+        Reply::bare(self.answer(store, device, done))
     }
 
     /// One number of an attribute of an element, by its index from 0. A negative one is answered in two's complement.
@@ -185,12 +181,10 @@ impl Core {
         index: i64,
     ) -> Reply
         requires { Fits self.old store.old }
-        ensures step { let before = side_of self.old store.old in core_answer device before (element_get device element attr index before) ≡ (side_of self.new store.new, result) }
-        ensures kept { store.new ≡ store.old }
-        ensures fits { Fits self.new store.new }
+        ensures { Steps device (λ _. element_get device element attr index) KeepsAll self.old self.new store.old store.new result }
     {
         let done = self.try_element_get(store, device, element, attr, index);
-        self.answer(store, device, done)
+        Reply::bare(self.answer(store, device, done))
     }
 
     /// Puts or moves an element directly above another, or to the bottom where that is 0. BadHandle is no element of the
@@ -203,44 +197,36 @@ impl Core {
         below: u32,
     ) -> Reply
         requires { Fits self.old store.old }
-        ensures step { let before = side_of self.old store.old in core_answer device before (element_insert device element below before) ≡ (side_of self.new store.new, result) }
-        ensures kept { store.new ≡ store.old }
-        ensures fits { Fits self.new store.new }
+        ensures { Steps device (λ _. element_insert device element below) KeepsAll self.old self.new store.old store.new result }
     {
         let done = self.try_element_insert(store, device, element, below);
-        self.answer(store, device, done)
+        Reply::bare(self.answer(store, device, done))
     }
 
     /// Takes an inserted element out of the order. It lives on.
     pub fn element_remove(&mut self, store: &mut Store, device: u32, element: u32) -> Reply
         requires { Fits self.old store.old }
-        ensures step { let before = side_of self.old store.old in core_answer device before (element_remove device element before) ≡ (side_of self.new store.new, result) }
-        ensures kept { store.new ≡ store.old }
-        ensures fits { Fits self.new store.new }
+        ensures { Steps device (λ _. element_remove device element) KeepsAll self.old self.new store.old store.new result }
     {
         let done = self.try_element_remove(store, device, element);
-        self.answer(store, device, done)
+        Reply::bare(self.answer(store, device, done))
     }
 
     /// The element directly above an inserted one, or 0.
     pub fn element_above(&mut self, store: &mut Store, device: u32, element: u32) -> Reply
         requires { Fits self.old store.old }
-        ensures step { let before = side_of self.old store.old in core_answer device before (element_above device element before) ≡ (side_of self.new store.new, result) }
-        ensures kept { store.new ≡ store.old }
-        ensures fits { Fits self.new store.new }
+        ensures { Steps device (λ _. element_above device element) KeepsAll self.old self.new store.old store.new result }
     {
         let done = self.try_element_above(store, device, element);
-        self.answer(store, device, done)
+        Reply::bare(self.answer(store, device, done))
     }
 
     /// The element directly below an inserted one, or 0.
     pub fn element_below(&mut self, store: &mut Store, device: u32, element: u32) -> Reply
         requires { Fits self.old store.old }
-        ensures step { let before = side_of self.old store.old in core_answer device before (element_below device element before) ≡ (side_of self.new store.new, result) }
-        ensures kept { store.new ≡ store.old }
-        ensures fits { Fits self.new store.new }
+        ensures { Steps device (λ _. element_below device element) KeepsAll self.old self.new store.old store.new result }
     {
         let done = self.try_element_below(store, device, element);
-        self.answer(store, device, done)
+        Reply::bare(self.answer(store, device, done))
     }
 }

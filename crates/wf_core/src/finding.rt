@@ -8,7 +8,6 @@ ghost use Rattle.wf_core.specs.Sides.{side_of};
 ghost use Rattle.wf_core.specs.Fits.{Fits};
 ghost use Rattle.wf_core.specs.Owners.{of_device, of_element, owned_context, owning_context, at_place};
 
-use crate::answers::refusal;
 use crate::composition::Core;
 use wf_calls::{Code, Refusal};
 use wf_model::Context;
@@ -55,11 +54,11 @@ impl Core {
         ensures within { IfOk result (λ place. place < length self.now.contexts) }
     {
         let Some(_) = key_of(store, device, Kind::Device) else {
-            return Err(refusal(Code::BadDevice));
+            return Err(Refusal::of(Code::BadDevice));
         };
         match self.place_in_device(store, device, context) {
             Some(place) => Ok(place),
-            None => Err(refusal(Code::BadHandle)),
+            None => Err(Refusal::of(Code::BadHandle)),
         }
     }
 
@@ -92,11 +91,11 @@ impl Core {
         ensures within { IfOk result (λ place. place < length self.now.contexts) }
     {
         let Some(_) = key_of(store, device, Kind::Device) else {
-            return Err(refusal(Code::BadDevice));
+            return Err(Refusal::of(Code::BadDevice));
         };
         match self.element_in_device(store, device, element) {
             Some(place) => Ok(place),
-            None => Err(refusal(Code::BadHandle)),
+            None => Err(Refusal::of(Code::BadHandle)),
         }
     }
 }

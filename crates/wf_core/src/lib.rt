@@ -15,6 +15,7 @@ mod links;
 mod making;
 mod marking;
 mod registers;
+mod running;
 mod shown;
 mod sources;
 mod streams;

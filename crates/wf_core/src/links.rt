@@ -8,7 +8,6 @@ ghost use Rattle.wf_model.specs.Core.{linked};
 ghost use Rattle.wf_core.specs.Sides.{side_of};
 ghost use Rattle.wf_core.specs.Sights.{may_name, named_source};
 
-use crate::answers::refusal;
 use crate::composition::Core;
 use wf_calls::{Code, Refusal};
 use wf_model::{Context, Source};
@@ -64,10 +63,10 @@ fn may_name(
         return Ok(());
     }
     let Some(source) = named_source(sources, contexts, device, number) else {
-        return Err(refusal(Code::BadHandle));
+        return Err(Refusal::of(Code::BadHandle));
     };
     if source.context != owner {
-        return Err(refusal(Code::IllegalArgument));
+        return Err(Refusal::of(Code::IllegalArgument));
     }
     Ok(())
 }

@@ -4,7 +4,6 @@ ghost use Rattle.std.specs.Prelude.{◌≡◌, ◌+◌, false, IfOk, OnOk, OnErr
 ghost use Rattle.wf_stream.specs.Streams.{is_stream, with_other};
 ghost use Rattle.wf_core.specs.Sides.{lacks_memory, refused_handle, without_value};
 
-use crate::answers::refusal;
 use wf_calls::{Code, Refusal};
 use wf_stream::{Kind, MakeStop, Store};
 
@@ -18,7 +17,7 @@ pub(crate) fn mint(store: &mut Store, kind: Kind, key: u32) -> Result<u32, Refus
 {
     match store.mint(kind, key) {
         Ok(handle) => Ok(handle),
-        Err(MakeStop::Limit) => Err(refusal(Code::Limit)),
-        Err(MakeStop::NoMemory) => Err(refusal(Code::OutOfMemory)),
+        Err(MakeStop::Limit) => Err(Refusal::of(Code::Limit)),
+        Err(MakeStop::NoMemory) => Err(Refusal::of(Code::OutOfMemory)),
     }
 }

@@ -5,9 +5,9 @@ ghost use Rattle.wf_words.specs.Keyed.{at_key, change};
 ghost use Rattle.wf_model.specs.Composition.{core_answer, recorded};
 ghost use Rattle.wf_model.specs.Core.{get_error, register_number};
 ghost use Rattle.wf_core.specs.Sides.{side_of, done_by};
+ghost use Rattle.wf_core.specs.Steps.{KeepsAll, Steps};
 ghost use Rattle.wf_core.specs.Fits.{Fits};
 
-use crate::answers::refusal;
 use crate::composition::Core;
 use wf_calls::{Code, Refusal, Reply};
 use wf_model::Device;
@@ -77,14 +77,14 @@ pub(crate) fn record_in(devices: &mut [Device], handle: u32, code: Code)
 
 impl Core {
     /// Takes the code out of a device's register, or refuses.
-    fn take_error(&mut self, store: &Store, device: u32) -> Result<u32, Refusal>
+    pub(crate) fn take_error(&mut self, store: &Store, device: u32) -> Result<u32, Refusal>
         requires { Fits self.old store.now }
         ensures case { get_error device (side_of self.old store.now) ≡ done_by result (side_of self.new store.now) }
         ensures refused { OnErr result (self.new ≡ self.old) }
         ensures fits { Fits self.new store.now }
     {
         match device_at(&self.devices, device) {
-            None => Err(refusal(Code::BadDevice)),
+            None => Err(Refusal::of(Code::BadDevice)),
             Some(found) => {
                 clear_in(&mut self.devices, device);
                 Ok(register_number(found.register))
@@ -95,11 +95,9 @@ impl Core {
     /// The number of the code in a device's register, or 0 for an empty one. The register is emptied.
     pub fn get_error(&mut self, store: &mut Store, device: u32) -> Reply
         requires { Fits self.old store.old }
-        ensures step { let before = side_of self.old store.old in core_answer device before (get_error device before) ≡ (side_of self.new store.new, result) }
-        ensures kept { store.new ≡ store.old }
-        ensures fits { Fits self.new store.new }
+        ensures { Steps device (λ _. get_error device) KeepsAll self.old self.new store.old store.new result }
     {
         let done = self.take_error(store, device);
-        self.answer(store, device, done)
+        Reply::bare(self.answer(store, device, done))
     }
 }

@@ -5,9 +5,9 @@ ghost use Rattle.wf_calls.specs.Codes.{is_out_of_memory};
 ghost use Rattle.wf_model.specs.Composition.{core_answer};
 ghost use Rattle.wf_model.specs.Core.{mask_new, source_new, sources_full};
 ghost use Rattle.wf_core.specs.Sides.{KeepsRest, side_of, done_by, lacks_memory};
+ghost use Rattle.wf_core.specs.Steps.{KeepsAll, Steps};
 ghost use Rattle.wf_core.specs.Fits.{Fits};
 
-use crate::answers::refusal;
 use crate::composition::{Core, MOST_SOURCES};
 use crate::making::mint;
 use crate::streams::{is_a8, seen_by_handle};
@@ -25,7 +25,7 @@ impl Core {
         here >= MOST_SOURCES || here + there >= MOST_SOURCES
     }
 
-    fn try_source_new(
+    pub(crate) fn try_source_new(
         &mut self,
         store: &mut Store,
         device: u32,
@@ -41,13 +41,13 @@ impl Core {
     {
         self.context_place(store, device, context)?;
         let Some(seen) = seen_by_handle(store, stream) else {
-            return Err(refusal(Code::BadHandle));
+            return Err(Refusal::of(Code::BadHandle));
         };
         if is_a8(seen.format) {
-            return Err(refusal(Code::Unsupported));
+            return Err(Refusal::of(Code::Unsupported));
         }
         if self.sources_full(store) {
-            return Err(refusal(Code::Limit));
+            return Err(Refusal::of(Code::Limit));
         }
         let handle = mint(store, Kind::Source, seen.stream)?;
         self.sources.push_reserved(Source {
@@ -58,7 +58,7 @@ impl Core {
         Ok(handle)
     }
 
-    fn try_mask_new(
+    pub(crate) fn try_mask_new(
         &mut self,
         store: &mut Store,
         device: u32,
@@ -74,13 +74,13 @@ impl Core {
     {
         self.context_place(store, device, context)?;
         let Some(seen) = seen_by_handle(store, stream) else {
-            return Err(refusal(Code::BadHandle));
+            return Err(Refusal::of(Code::BadHandle));
         };
         if !is_a8(seen.format) {
-            return Err(refusal(Code::Unsupported));
+            return Err(Refusal::of(Code::Unsupported));
         }
         if self.sources_full(store) {
-            return Err(refusal(Code::Limit));
+            return Err(Refusal::of(Code::Limit));
         }
         let handle = mint(store, Kind::Mask, seen.stream)?;
         self.masks.push_reserved(Source {
@@ -95,23 +95,19 @@ impl Core {
     /// Unsupported a stream for masks; Limit a 257th source or mask, or that all handles were given.
     pub fn source_new(&mut self, store: &mut Store, device: u32, context: u32, stream: u32) -> Reply
         requires { Fits self.old store.old }
-        ensures step { let before = side_of self.old store.old in core_answer device before (source_new device context stream (is_out_of_memory result.code) before) ≡ (side_of self.new store.new, result) }
-        ensures kept { KeepsRest store.old store.new }
-        ensures fits { Fits self.new store.new }
+        ensures { Steps device (λ m. source_new device context stream m) KeepsRest self.old self.new store.old store.new result }
     {
         let done = self.try_source_new(store, device, context, stream);
-        self.answer(store, device, done)
+        Reply::bare(self.answer(store, device, done))
     }
 
     /// Makes a mask of a context, whose handle it answers. It is refused as a source is, but that Unsupported is a stream
     /// that is not for masks.
     pub fn mask_new(&mut self, store: &mut Store, device: u32, context: u32, stream: u32) -> Reply
         requires { Fits self.old store.old }
-        ensures step { let before = side_of self.old store.old in core_answer device before (mask_new device context stream (is_out_of_memory result.code) before) ≡ (side_of self.new store.new, result) }
-        ensures kept { KeepsRest store.old store.new }
-        ensures fits { Fits self.new store.new }
+        ensures { Steps device (λ m. mask_new device context stream m) KeepsRest self.old self.new store.old store.new result }
     {
         let done = self.try_mask_new(store, device, context, stream);
-        self.answer(store, device, done)
+        Reply::bare(self.answer(store, device, done))
     }
 }

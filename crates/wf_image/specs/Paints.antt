@@ -1,10 +1,10 @@
 -- What a paint leaves: the pixels that it names get its colours, and the others stay.
-use Rattle.std.specs.Prelude.{List, ℕ, ◌+◌, ◌-◌, ◌*◌, ◌/◌, ◌%◌, ◌==◌, ℤ, pos, negsuc, Bool, true, nat_le, length, Option, Some, None, slice_get, unwrap_or, is_some, ◌&&◌, if◌then◌else◌}
+use Rattle.std.specs.Prelude.{List, ℕ, ◌+◌, ◌-◌, ◌*◌, ◌/◌, ◌%◌, ◌==◌, pos, Bool, true, nat_le, length, Option, Some, None, slice_get, unwrap_or, is_some, ◌&&◌, if◌then◌else◌}
 use Rattle.wf_pixel.specs.declared.Size.{Size}
 use Rattle.wf_pixel.specs.declared.Format.{Format}
 use Rattle.wf_pixel.specs.declared.Rgba.{Rgba}
 use Rattle.wf_pixel.specs.Along.{along}
-use Rattle.wf_pixel.specs.Choice.{is_between}
+use Rattle.wf_pixel.specs.Choice.{is_coordinate, most_extent}
 use Rattle.wf_image.specs.declared.paint.Paint.{Paint}
 use Rattle.wf_image.specs.declared.paint.Paint.TheVariants.{Fill, Rectangle, Checker, Ramp, Row}
 use Rattle.wf_image.specs.Bitmap.{Bitmap, pixel_bytes, read_at, pixel, drawn_row, drawn}
@@ -48,14 +48,12 @@ painted image paint =
     drawn image.size image.format (λ x y. unwrap_or (named_colour paint image.size x y) (pixel image x y))
 
 -- a coordinate of a paint
-abbrev pub is_coordinate : ℤ → Bool
-is_coordinate z = is_between (negsuc 16383) (pos 16384) z
 
 -- the numbers of a paint are in their ranges
 abbrev pub is_paint : Paint → Bool
 is_paint (Fill color) = true
 is_paint (Rectangle area color) =
-    is_coordinate area.x && is_coordinate area.y && nat_le area.w 16384 && nat_le area.h 16384
+    is_coordinate area.x && is_coordinate area.y && nat_le area.w most_extent && nat_le area.h most_extent
 is_paint (Checker n first second) = nat_le 1 n && nat_le n 1024
 is_paint (Ramp first second) = true
 is_paint (Row y pixels) = nat_le y 1023 && nat_le 1 (length pixels) && nat_le (length pixels) 1024

@@ -3,9 +3,9 @@
 ghost use Rattle.std.specs.Prelude.{◌≡◌, ℕ, ◌+◌, ◌*◌, ◌<◌, ◌≤◌, ◌++◌, ◌&&◌, pos, length, take, drop, is_some, unwrap_or, nat_le, nat_lt, IsTrue, Some, slice_get};
 ghost use Rattle.std.specs.Int.{int_max, int_min};
 ghost use Rattle.wf_pixel.specs.Along.{along};
-ghost use Rattle.wf_pixel.specs.Choice.{has_sides};
+ghost use Rattle.wf_pixel.specs.Choice.{has_sides, is_coordinate};
 ghost use Rattle.wf_image.specs.Bitmap.{image_bytes, pixel_bytes, stored};
-ghost use Rattle.wf_image.specs.Paints.{is_paint, is_coordinate, ramp_channel, ramp_colour, named_colour, painted_row, painted_bytes};
+ghost use Rattle.wf_image.specs.Paints.{is_paint, ramp_channel, ramp_colour, named_colour, painted_row, painted_bytes};
 
 use crate::image::bytes_of_pixel;
 use crate::paint::{Paint, Pixels};

@@ -1,8 +1,8 @@
 //! Paints on small images of every format, over every edge, and the images of a frame.
 
 ghost use Rattle.std.specs.Prelude.{◌<◌, ◌≤◌, IsTrue};
-ghost use Rattle.wf_pixel.specs.Choice.{has_sides};
-ghost use Rattle.wf_image.specs.Paints.{is_paint, is_coordinate};
+ghost use Rattle.wf_pixel.specs.Choice.{has_sides, is_coordinate};
+ghost use Rattle.wf_image.specs.Paints.{is_paint};
 
 use super::*;
 use std::alloc::Global;

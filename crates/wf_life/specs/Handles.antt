@@ -1,6 +1,8 @@
 -- The handle table: how many objects were made, and the live handles with what they stand for.
-use Rattle.std.specs.Prelude.{ℕ, ◌+◌, ◌<◌, ◌≤◌, Bool, true, false, ◌&&◌, ◌==◌, nat_lt, not, List, [], ◌∷◌, ◌++◌, count_by, find, filter, Option, option_map}
+use Rattle.std.proofs.Common.{arith}
+use Rattle.std.specs.Prelude.{ℕ, ◌+◌, Bool, true, false, ◌&&◌, ◌==◌, nat_lt, not, List, [], ◌∷◌, ◌++◌, count_by, find, filter, Option, option_map}
 use Rattle.std.specs.List.{list_any}
+use Rattle.wf_words.specs.Rising.{Rises, RisesTo, rises_to, rises_to_filter, rises_to_more}
 use Rattle.wf_life.specs.declared.Kind.{Kind}
 use Rattle.wf_life.specs.declared.Kind.TheVariants as kind
 
@@ -28,8 +30,7 @@ pub record Table : Type 0 where
 
 -- the handles rise, from above `low` up to `high` at most
 abbrev pub IsRising : ℕ → List Live → ℕ → Type 0
-IsRising low [] high = low ≤ high
-IsRising low (l ∷ live) high = (low < l.handle) × IsRising l.handle live high
+IsRising low live high = RisesTo (λ l. l.handle) low live high
 
 -- the live handles rise, and were all given out
 abbrev pub IsOrderly : Table → Type 0
@@ -58,3 +59,19 @@ without handle live = filter (λ l. not (l.handle == handle)) live
 -- one more object was made, and lives under the next handle
 abbrev pub with_new : Kind → ℕ → Table → Table
 with_new k key t = record { made = t.made + 1; live = t.live ++ record { handle = t.made + 1; kind = k; key = key } ∷ [] }
+
+-- what is known of handles that rise
+
+pub rises_live : (low high : ℕ) (live : List Live) → IsRising low live high → Rises (λ l. l.handle) low live
+rises_live low high live rising = rises_to (λ (l : Live). l.handle) low high live rising
+
+-- they still rise without one of them
+pub rising_without : (h low high : ℕ) (live : List Live) → IsRising low live high → IsRising low (without h live) high
+rising_without h low high live rising = rises_to_filter (λ (l : Live). l.handle) (λ (l : Live). not (l.handle == h)) low high live rising
+
+-- and with the next one
+pub rising_more : (low high : ℕ) (live : List Live) (k : Kind) (key : ℕ) → IsRising low live high
+    → IsRising low (live ++ record { handle = high + 1; kind = k; key = key } ∷ []) (high + 1)
+rising_more low high live k key rising =
+    let new : Live = record { handle = high + 1; kind = k; key = key } in
+    rises_to_more (λ (l : Live). l.handle) low high (high + 1) live new (omega arith) (omega arith) rising

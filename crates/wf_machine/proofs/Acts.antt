@@ -8,24 +8,29 @@ use Rattle.wf_image.specs.Bitmap.{Bitmap}
 use Rattle.wf_stream.specs.Buffers.{Buffers}
 use Rattle.wf_stream.specs.Streams.{KeptStream, StoreView}
 use Rattle.wf_calls.specs.declared.code.Code.{Code}
-use Rattle.wf_calls.specs.declared.code.Refusal.{Refusal}
+use Rattle.wf_calls.specs.declared.reply.Refusal.{Refusal}
 use Rattle.wf_calls.specs.declared.call.Call.{Call}
 use Rattle.wf_calls.specs.declared.call.Job.{Job}
 use Rattle.wf_calls.specs.declared.call.JobKind.{JobKind}
 use Rattle.wf_calls.specs.declared.call.JobKind.TheVariants as kind
-use Rattle.wf_calls.specs.declared.call.Payload.{Payload}
-use Rattle.wf_calls.specs.declared.call.Payload.TheVariants as payload
-use Rattle.wf_calls.specs.declared.call.Reply.{Reply}
+use Rattle.wf_calls.specs.declared.reply.Payload.{Payload}
+use Rattle.wf_calls.specs.declared.reply.Payload.TheVariants as payload
+use Rattle.wf_calls.specs.declared.reply.Reply.{Reply}
 use Rattle.wf_calls.specs.Codes.{is_ok_code, is_out_of_memory}
-use Rattle.wf_model.specs.Composition.{CoreSide, CoreState, core_answer}
-use Rattle.wf_model.specs.Composing.{composed, core_side, with_side}
+use Rattle.wf_model.specs.Composition.{CoreSide, core_answer}
+use Rattle.wf_model.specs.Objects.{CoreState}
+use Rattle.wf_model.specs.Composing.{composed, core_side, screen_of, with_side}
+use Rattle.wf_model.specs.Core.{core_call}
 use Rattle.wf_model.specs.Frames.{end, is_of_frame}
-use Rattle.wf_model.specs.Outcome.{Outcome, answer}
+use Rattle.wf_calls.specs.Parts.{device_of, is_of_core, of_core, part_of}
+use Rattle.wf_calls.specs.Replies.{bare, refused}
+use Rattle.wf_calls.specs.declared.reply.Answer.{Answer}
 use Rattle.wf_model.specs.State.{Running, State}
 use Rattle.wf_model.specs.Step.{act}
-use Rattle.wf_model.specs.Streams.{acquire_step, canvas_back, is_out_at_client, stream_step}
+use Rattle.wf_model.specs.Streams.{acquire_step, canvas_back, is_out_at_client}
 use Rattle.wf_core.specs.Fits.{Fits}
 use Rattle.wf_core.specs.Sides.{KeepsRest, beside, side_of}
+use Rattle.wf_core.specs.Steps.{Steps}
 use Rattle.wf_machine.specs.declared.parts.Parts.TheInside.{Inside}
 use Rattle.wf_machine.specs.Inside.{IsSound, state_of}
 use Rattle.wf_machine.specs.Object.{CarriesPaintable, IsAct, IsAnswer, SameImage, SamePayload}
@@ -42,14 +47,16 @@ same_image false k image = refl
 same_payload : (is_new : Bool) (p : Payload) → SamePayload is_new p p
 same_payload is_new payload.Nothing = refl
 same_payload is_new (payload.Canvas canvas) = refl
-same_payload is_new (payload.Job job) = record { number = refl; kind = refl; scene = refl; contents = refl; image = same_image is_new job.kind job.image }
+same_payload is_new (payload.Job job) = record { number = refl; kind = refl; scene = refl; contents = refl; image =
+    same_image is_new job.kind job.image }
 
 -- an answer as wanted that has no Job to paint
 itself : (r : Reply) → IsPlain r → IsAnswer r r
 itself r plain = record { code = refl; value = refl; payload = same_payload (is_ok_code r.code) r.payload; paintable = plain }
 
 -- a call was matched, and did and answered as the plain machine does, without a Job to paint
-pub as_act : (h left : State) (c wanted : Call) (reply : Reply) → c ≡ wanted → act h wanted (is_out_of_memory reply.code) ≡ (left, reply) → IsPlain reply → IsAct h c left reply
+pub as_act : (h left : State) (c wanted : Call) (reply : Reply) → c ≡ wanted → act h wanted (is_out_of_memory reply.code) ≡ (left, reply)
+    → IsPlain reply → IsAct h c left reply
 as_act h left c wanted reply is goes plain =
     subst (λ (x : Call). IsAct h x left reply) (sym is)
     (record {
@@ -58,27 +65,25 @@ as_act h left c wanted reply is goes plain =
     })
 
 -- a call was matched whose answer may have a Job
-pub as_begin : (h left : State) (c wanted : Call) (reply : Reply) → c ≡ wanted → left ≡ (act h wanted (is_out_of_memory reply.code)).0 → IsAnswer (act h wanted (is_out_of_memory reply.code)).1 reply → IsAct h c left reply
-as_begin h left c wanted reply is leaves answers = subst (λ (x : Call). IsAct h x left reply) (sym is) (record { left_is = leaves; answer = answers })
+pub as_begin : (h left : State) (c wanted : Call) (reply : Reply) → c ≡ wanted → left ≡ (act h wanted (is_out_of_memory reply.code)).0
+    → IsAnswer (act h wanted (is_out_of_memory reply.code)).1 reply → IsAct h c left reply
+as_begin h left c wanted reply is leaves answers = subst (λ (x : Call). IsAct h x left reply) (sym is)
+    (record { left_is = leaves; answer = answers })
 
 -- the answer of a step that is plain
 pub plain_of : (x : State × Reply) (left : State) (reply : Reply) → x ≡ (left, reply) → IsPlain x.1 → IsPlain reply
 plain_of x left reply is plain = subst IsPlain (ap (λ (y : State × Reply). y.1) is) plain
 
-pub plain_answer : (c : Code) (value : ℕ) → IsPlain (answer c value)
-plain_answer c value = nothing (is_ok_code c)
+pub plain_answer : (a : Answer) → IsPlain (bare a)
+plain_answer a = nothing (is_ok_code a.code)
   where
     nothing : (b : Bool) → CarriesPaintable b payload.Nothing
     nothing true = tt
     nothing false = tt
 
-pub plain_made : (h : State) (o : Outcome State) → IsPlain (stream_step h o).1
-plain_made h (Ok done) = tt
-plain_made h (Err r) = plain_answer r.code r.value
-
 pub plain_acquired : (h : State) (o : Result KeptStream Refusal) → IsPlain (acquire_step h o).1
 plain_acquired h (Ok s) = tt
-plain_acquired h (Err r) = plain_answer r.code r.value
+plain_acquired h (Err r) = plain_answer (refused r)
 
 pub plain_back : (canvas : Canvas) (f : Buffers → Buffers) (h : State) → IsPlain (canvas_back canvas f h).1
 plain_back canvas f h = of_test (is_out_at_client canvas h) refl
@@ -105,7 +110,8 @@ no_display : (others : List Live) → beside others ≡ [] → live_count lives.
 no_display [] none = refl
 no_display (l ∷ others) none = of_kind l.kind refl (λ rest. no_display others rest)
   where
-    of_kind : (k : Kind) → l.kind ≡ k → (beside others ≡ [] → live_count lives.DisplaySource others ≡ 0) → live_count lives.DisplaySource (l ∷ others) ≡ 0
+    of_kind : (k : Kind) → l.kind ≡ k → (beside others ≡ [] → live_count lives.DisplaySource others ≡ 0)
+        → live_count lives.DisplaySource (l ∷ others) ≡ 0
     of_kind lives.Stream is deeper = absurd (let no = rw is at none in cc)
     of_kind lives.DisplaySource is deeper = absurd (let no = rw is at none in cc)
     of_kind lives.Device is deeper = (let rest : beside others ≡ [] = rw is at none in rw is (deeper rest))
@@ -115,18 +121,13 @@ no_display (l ∷ others) none = of_kind l.kind refl (λ rest. no_display others
     of_kind lives.Mask is deeper = (let rest : beside others ≡ [] = rw is at none in rw is (deeper rest))
 
 side_is : (m : Inside) → IsSound m → side_of m.core m.store ≡ core_side (state_of m)
-side_is m sound = ap (λ (n : ℕ). record { made = m.store.made; streams = m.store.streams; core = m.core; display_sources = n }) (no_display m.store.others sound.others)
+side_is m sound = ap (λ (n : ℕ). record { made = m.store.made; streams = m.store.streams; core = m.core; display_sources = n })
+    (no_display m.store.others sound.others)
 
-pub same_rest : (store now : StoreView) → now ≡ store → KeepsRest store now
-same_rest store now same = record { streams = ap (λ (v : StoreView). v.streams) same; numbered = ap (λ (v : StoreView). v.numbered) same; others = ap (λ (v : StoreView). beside v.others) same }
-
-plain_composed : (d : ℕ) (w : CoreSide) (o : Outcome CoreSide) → IsPlain (core_answer d w o).1
-plain_composed d w (Ok done) = tt
-plain_composed d w (Err r) = plain_answer r.code r.value
-
-module _ (m : Inside) (h : State) (seen : state_of m ≡ h) (sound : IsSound m) (core : CoreState) (store : StoreView) (rest : KeepsRest m.store store) where
+module _ (inside : Inside) (h : State) (seen : state_of inside ≡ h) (sound : IsSound inside) (core : CoreState) (store : StoreView)
+    (rest : KeepsRest inside.store store) where
   -- what holds of the machine holds after a call of composition
-  pub sound_composed : Fits core store → IsSound (record m { core = core; store = store })
+  pub sound_composed : Fits core store → IsSound (record inside { core = core; store = store })
   sound_composed fits =
       record {
         fits = fits;
@@ -142,14 +143,36 @@ module _ (m : Inside) (h : State) (seen : state_of m ≡ h) (sound : IsSound m) 
         known = rw rest.numbered sound.known;
       }
 
-  -- a call of composition was matched
-  pub as_composed : (c wanted : Call) (d : ℕ) (f : State → CoreSide → Outcome CoreSide) (reply : Reply) → c ≡ wanted → ((s : State) → act s wanted (is_out_of_memory reply.code) ≡ composed d (f s) s)
-      → core_answer d (side_of m.core m.store) (f (state_of m) (side_of m.core m.store)) ≡ (side_of core store, reply) → IsAct h c (state_of (record m { core = core; store = store })) reply
-  as_composed c wanted d f reply is acts step =
-      let s = state_of m in
-      let there : core_answer d (core_side s) (f s (core_side s)) ≡ (side_of core store, reply) = subst (λ (w : CoreSide). core_answer d w (f s w) ≡ (side_of core store, reply)) (side_is m sound) step in
-      let left : with_side (side_of core store) s ≡ state_of (record m { core = core; store = store }) = ap (λ (n : ℕ). record s { made = store.made; numbered = n; streams = store.streams; core = core }) (sym rest.numbered) in
-      let goes : act s wanted (is_out_of_memory reply.code) ≡ (state_of (record m { core = core; store = store }), reply) =
-      acts s ∙ ap (λ (x : CoreSide × Reply). (with_side x.0 s, x.1)) there ∙ ap (λ (t : State). (t, reply)) left in
-      let plain : IsPlain reply = subst IsPlain (ap (λ (x : CoreSide × Reply). x.1) there) (plain_composed d (core_side s) (f s (core_side s))) in
-      as_act h (state_of (record m { core = core; store = store })) c wanted reply is (subst (λ (t : State). act t wanted (is_out_of_memory reply.code) ≡ (state_of (record m { core = core; store = store }), reply)) seen goes) plain
+  -- a call of composition did and answered as the plain call
+  pub as_composed : (c : Call) (screen : Option ℕ) (a : Answer) → is_of_core (part_of c) ≡ true → screen ≡ screen_of c h
+      → Steps (device_of c) (λ m. core_call screen m c) KeepsRest inside.core core inside.store store (bare a)
+      → IsAct h c (state_of (record inside { core = core; store = store })) (bare a)
+  unfolding act
+  as_composed c screen a ours asked steps =
+      as_act h left c c (bare a) refl (acts ∙ ap (λ (x : CoreSide × Answer). (with_side x.0 h, bare x.1)) there
+          ∙ ap (λ (t : State). (t, bare a)) left_is) (plain_answer a)
+    where
+      m : Bool
+      m = is_out_of_memory a.code
+
+      left : State
+      left = state_of (record inside { core = core; store = store })
+
+      acts : act h c m ≡ composed (device_of c) (core_call (screen_of c h) m c) h
+      acts = rw (of_core (part_of c) ours) refl
+
+      side : side_of inside.core inside.store ≡ core_side h
+      side = side_is inside sound ∙ ap core_side seen
+
+      there : core_answer (device_of c) (core_side h) (core_call (screen_of c h) m c (core_side h)) ≡ (side_of core store, a)
+      there =
+          ap (λ (w : CoreSide). core_answer (device_of c) w (core_call (screen_of c h) m c w)) (sym side)
+          ∙ ap (λ (s : Option ℕ). core_answer (device_of c) (side_of inside.core inside.store)
+              (core_call s m c (side_of inside.core inside.store))) (sym asked)
+          ∙ steps.step
+
+      left_is : with_side (side_of core store) h ≡ left
+      left_is =
+          ap (λ (s : State). with_side (side_of core store) s) (sym seen)
+          ∙ ap (λ (n : ℕ). record (state_of inside) { made = store.made; numbered = n; streams = store.streams; core = core })
+              (sym rest.numbered)

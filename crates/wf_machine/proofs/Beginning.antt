@@ -1,5 +1,6 @@
 -- The machine once a frame has begun.
-use Rattle.std.proofs.Common.{◌≡◌, ℕ, ◌+◌, ◌-◌, ◌^◌, ◌<◌, true, false, not, List, [], length, map, flat_map, Option, Some, None, refl, sym, ap, subst, ◌∙◌, arith}
+use Rattle.std.proofs.Common.{◌≡◌, ℕ, ◌+◌, ◌-◌, ◌^◌, ◌<◌, true, false, not, List, [], length, map, flat_map, Option, Some, None, refl, sym}
+use Rattle.std.proofs.Common.{ap, subst, ◌∙◌, arith}
 use Rattle.std.specs.Prelude.{is_some, nat_lt}
 use Rattle.std.specs.Option.{option_map}
 use Rattle.std.proofs.lemmas.Bool.{lt-ltb}
@@ -11,17 +12,17 @@ use Rattle.wf_image.specs.Bitmap.{blank}
 use Rattle.wf_scene.specs.declared.Scene.{Scene}
 use Rattle.wf_stream.specs.Buffers.{Buffers, acquired}
 use Rattle.wf_stream.specs.Streams.{KeptStream, StoreView, IsNumbered, buffers_at, held}
-use Rattle.wf_calls.specs.declared.code.Code.TheVariants as code
 use Rattle.wf_calls.specs.declared.call.Job.{Job}
 use Rattle.wf_calls.specs.declared.call.JobKind.{JobKind}
 use Rattle.wf_calls.specs.declared.call.JobKind.TheVariants as kind
-use Rattle.wf_calls.specs.declared.call.Payload.TheVariants as payload
+use Rattle.wf_calls.specs.Replies.{gives_job}
 use Rattle.wf_model.specs.declared.Content.{Content}
-use Rattle.wf_model.specs.Composition.{CoreState}
-use Rattle.wf_model.specs.Frames.{content_shape, drawing, is_running, job_of, latch, latched_among, newest_images, running_of as shape_of_job, scene_streams, with_job, with_payload}
+use Rattle.wf_model.specs.State.{Port, Running, State}
+use Rattle.wf_model.specs.Objects.{CoreState}
+use Rattle.wf_model.specs.Frames.{content_shape, drawing, Beginning, is_running, job_of, latch, latched_among, newest_images}
+use Rattle.wf_model.specs.Frames.{running_of as shape_of_job, scene_streams, start}
 use Rattle.wf_model.specs.Names.{layer_names}
 use Rattle.wf_model.specs.Picture.{Fits, Images}
-use Rattle.wf_model.specs.State.{Port, Running, State}
 use Rattle.wf_machine.specs.declared.frame.Frame.{Frame}
 use Rattle.wf_machine.specs.declared.parts.Parts.TheInside.{Inside}
 use Rattle.wf_machine.specs.Fitting.{AllFit, KindFits, PortsFit, contents_of}
@@ -38,19 +39,23 @@ use Rattle.wf_machine.proofs.StillFitting.{acquired_keeps, all_kept, shape_kept}
 -- streams while a frame draws, of which the write buffer of a context's target is out
 
 pub drawn_numbered : (k : JobKind) (high : ℕ) (ss : List KeptStream) → IsNumbered 0 ss high → IsNumbered 0 (drawing k ss) high
-drawn_numbered (kind.Context handle target) high ss rising = numbered_mapped (changed_at target acquired) (changed_keeps target acquired (shape_kept acquired acquired_keeps)) 0 high ss rising
+drawn_numbered (kind.Context handle target) high ss rising =
+    numbered_mapped (changed_at target acquired) (changed_keeps target acquired (shape_kept acquired acquired_keeps)) 0 high ss rising
 drawn_numbered (kind.Port port) high ss rising = rising
 
 drawn_bytes : (k : JobKind) (ss : List KeptStream) → (held (drawing k ss)).bytes ≡ (held ss).bytes
-drawn_bytes (kind.Context handle target) ss = bytes_mapped (changed_at target acquired) (changed_keeps target acquired (shape_kept acquired acquired_keeps)) ss
+drawn_bytes (kind.Context handle target) ss = bytes_mapped (changed_at target acquired)
+    (changed_keeps target acquired (shape_kept acquired acquired_keeps)) ss
 drawn_bytes (kind.Port port) ss = refl
 
-drawn_fit : (k : JobKind) (ports : List Port) (cs : List Content) (ss : List KeptStream) → AllFit ports cs ss → AllFit ports cs (drawing k ss)
+drawn_fit : (k : JobKind) (ports : List Port) (cs : List Content) (ss : List KeptStream) → AllFit ports cs ss
+    → AllFit ports cs (drawing k ss)
 drawn_fit (kind.Context handle target) ports cs ss fit = all_kept acquired target ports cs ss acquired_keeps fit
 drawn_fit (kind.Port port) ports cs ss fit = fit
 
 drawn_seen : (k : JobKind) (n : ℕ) (ss : List KeptStream) → SeenSame (buffers_at n ss) (buffers_at n (drawing k ss))
-drawn_seen (kind.Context handle target) n ss = seen_mapped (changed_at target acquired) (changed_keeps target acquired (shape_kept acquired acquired_keeps)) n ss
+drawn_seen (kind.Context handle target) n ss = seen_mapped (changed_at target acquired)
+    (changed_keeps target acquired (shape_kept acquired acquired_keeps)) n ss
 drawn_seen (kind.Port port) n ss = λ b found. (b, found, refl, refl)
 
 pub seen_twice : (o p q : Option Buffers) → SeenSame o p → SeenSame p q → SeenSame o q
@@ -60,37 +65,41 @@ seen_twice o p q first second b found =
     (d.0, d.1, d.2 ∙ c.2, d.3 ∙ c.3)
 
 -- what a frame of a kind that composes a scene leaves of the streams keeps their shapes
-begun_seen : (k : JobKind) (ns : List ℕ) (n : ℕ) (ss : List KeptStream) → SeenSame (buffers_at n ss) (buffers_at n (drawing k (latch ns ss)))
+begun_seen : (k : JobKind) (ns : List ℕ) (n : ℕ) (ss : List KeptStream)
+    → SeenSame (buffers_at n ss) (buffers_at n (drawing k (latch ns ss)))
 begun_seen k ns n ss =
-    seen_twice (buffers_at n ss) (buffers_at n (latch ns ss)) (buffers_at n (drawing k (latch ns ss))) (seen_mapped (latched_among ns) (latch_keeps ns) n ss) (drawn_seen k n (latch ns ss))
+    seen_twice (buffers_at n ss) (buffers_at n (latch ns ss)) (buffers_at n (drawing k (latch ns ss)))
+        (seen_mapped (latched_among ns) (latch_keeps ns) n ss) (drawn_seen k n (latch ns ss))
 
--- a frame has begun that composes a scene: from the machine as it was to the machine as it is now, with what it took
-pub record HasBegun (was now : Inside) (k : JobKind) (scene : Scene) (format : Format) (frame : Frame) (contents : Images) : Type 0 where
+-- a frame has begun: from the machine as it was to the machine as it is now, with what it took
+pub record HasBegun (was now : Inside) (b : Beginning) (frame : Frame) (contents : Images) : Type 0 where
   pub free : was.frame ≡ None
-  pub taken : contents ≡ newest_images (scene_streams scene) was.store.streams
-  pub store : now.store ≡ record was.store { streams = drawing k (latch (scene_streams scene) was.store.streams) }
+  pub taken : contents ≡ newest_images (scene_streams b.scene) was.store.streams
+  pub store : now.store ≡ record was.store { streams = drawing b.kind (latch (scene_streams b.scene) was.store.streams) }
   pub core : now.core ≡ was.core
-  pub shaped : AreShapedAs (latch (scene_streams scene) was.store.streams) contents
+  pub shaped : AreShapedAs (latch (scene_streams b.scene) was.store.streams) contents
   pub modes : map port_of now.ports.items ≡ map port_of was.ports.items
   pub fit : PortsFit (Some (running_of frame)) 1 now.ports.items
   pub begun : now.begun ≡ was.begun + 1
   pub frame_is : now.frame ≡ Some frame
   pub number : frame.number ≡ was.begun + 1
-  pub kind_is : frame.kind ≡ k
-  pub size : frame.size ≡ scene.size
-  pub format_is : frame.format ≡ format
+  pub kind_is : frame.kind ≡ b.kind
+  pub size : frame.size ≡ b.scene.size
+  pub format_is : frame.format ≡ b.format
   pub shapes : frame.contents.items ≡ map content_shape contents
-  pub own : KindFits (map port_of was.ports.items) (drawing k (latch (scene_streams scene) was.store.streams)) scene.size format k
+  pub own : KindFits (map port_of was.ports.items) (drawing b.kind (latch (scene_streams b.scene) was.store.streams))
+      b.scene.size b.format b.kind
 
-module _ (was now : Inside) (k : JobKind) (scene : Scene) (format : Format) (frame : Frame) (contents : Images) (begun : HasBegun was now k scene format frame contents) (sound : IsSound was) where
+module _ (was now : Inside) (b : Beginning) (frame : Frame) (contents : Images) (begun : HasBegun was now b frame contents)
+    (sound : IsSound was) where
   abbrev names : List ℕ
-  names = scene_streams scene
+  names = scene_streams b.scene
 
   abbrev streams : List KeptStream
   streams = was.store.streams
 
   abbrev after : List KeptStream
-  after = drawing k (latch names streams)
+  after = drawing b.kind (latch names streams)
 
   pub streams_are : now.store.streams ≡ after
   streams_are = ap (λ (v : StoreView). v.streams) begun.store
@@ -99,7 +108,8 @@ module _ (was now : Inside) (k : JobKind) (scene : Scene) (format : Format) (fra
   no_contents = ap (λ (f : Option Frame). contents_of (option_map running_of f)) begun.free
 
   pub contents_are : contents_of (option_map running_of now.frame) ≡ map content_shape (newest_images names streams)
-  contents_are = ap (λ (f : Option Frame). contents_of (option_map running_of f)) begun.frame_is ∙ begun.shapes ∙ ap (λ (c : Images). map content_shape c) begun.taken
+  contents_are = ap (λ (f : Option Frame). contents_of (option_map running_of f)) begun.frame_is ∙ begun.shapes
+      ∙ ap (λ (c : Images). map content_shape c) begun.taken
 
   shaped_now : AreShapedAs (latch names streams) (newest_images names streams)
   shaped_now = subst (λ (c : Images). AreShapedAs (latch names streams) c) begun.taken begun.shaped
@@ -127,60 +137,69 @@ module _ (was now : Inside) (k : JobKind) (scene : Scene) (format : Format) (fra
   pub sound_begun : IsSound now
   sound_begun =
       record {
-        fits = rw begun.core (still_fits was.core was.store now.store others_now (omega (arith, made_now)) (λ n within. rw streams_are (begun_seen k names n streams)) sound.fits);
+        fits = rw begun.core (still_fits was.core was.store now.store others_now (omega (arith, made_now))
+            (λ n within. rw streams_are (begun_seen b.kind names n streams)) sound.fits);
         others = rw others_now sound.others;
-        numbered = rw (streams_are, numbered_now) (drawn_numbered k was.store.numbered (latch names streams) latched_numbered);
+        numbered = rw (streams_are, numbered_now) (drawn_numbered b.kind was.store.numbered (latch names streams) latched_numbered);
         few = omega (arith, as_many, sound.few);
         screens = omega (arith, as_many, numbered_now, sound.screens);
         ports = rw begun.frame_is begun.fit;
-        small = rw streams_are (omega (arith, sound.small, drawn_bytes k (latch names streams), bytes_mapped (latched_among names) (latch_keeps names) streams));
-        streams = rw (contents_are, begun.modes, streams_are) (drawn_fit k (map port_of was.ports.items) (map content_shape (newest_images names streams)) (latch names streams) latched_fit);
+        small = rw streams_are (omega (arith, sound.small, drawn_bytes b.kind (latch names streams),
+            bytes_mapped (latched_among names) (latch_keeps names) streams));
+        streams = rw (contents_are, begun.modes, streams_are)
+            (drawn_fit b.kind (map port_of was.ports.items) (map content_shape (newest_images names streams)) (latch names streams)
+                latched_fit);
         frame = rw (begun.frame_is, begun.kind_is, begun.size, begun.format_is, begun.modes, streams_are) begun.own;
-        once = rw contents_are (taken_once (flat_map layer_names scene.layers.items) streams);
-        known = rw (contents_are, numbered_now) (all_numbered was.store.numbered (latch names streams) (newest_images names streams) latched_numbered shaped_now);
+        once = rw contents_are (taken_once (flat_map layer_names b.scene.layers.items) streams);
+        known = rw (contents_are, numbered_now) (all_numbered was.store.numbered (latch names streams) (newest_images names streams)
+            latched_numbered shaped_now);
       }
 
   -- the Job that the plain machine gives
   abbrev pub job : Job
-  job = job_of k scene format (state_of was)
+  job = job_of b (state_of was)
 
-  pub left_begun : state_of now ≡ with_job job (state_of was)
+  pub left_begun : state_of now ≡ (start b (state_of was)).0
   left_begun =
       let state : ℕ → StoreView → CoreState → List Port → Option Running → State = λ n v core ps f.
-      record { made = v.made; numbered = v.numbered; begun = n; streams = v.streams; core = core; display = record { ports = ps }; frame = f } in
+      record { made = v.made; numbered = v.numbered; begun = n; streams = v.streams; core = core; display = record { ports = ps }; frame =
+          f } in
       let left : StoreView = record was.store { streams = after } in
       let ps = map port_of was.ports.items in
       ap (λ (v : StoreView). state now.begun v now.core (map port_of now.ports.items) (option_map running_of now.frame)) begun.store
       ∙ ap (λ (n : ℕ). state n left now.core (map port_of now.ports.items) (option_map running_of now.frame)) begun.begun
-      ∙ ap (λ (core : CoreState). state (was.begun + 1) left core (map port_of now.ports.items) (option_map running_of now.frame)) begun.core
+      ∙ ap (λ (core : CoreState). state (was.begun + 1) left core (map port_of now.ports.items) (option_map running_of now.frame))
+          begun.core
       ∙ ap (λ (qs : List Port). state (was.begun + 1) left was.core qs (option_map running_of now.frame)) begun.modes
       ∙ ap (λ (o : Option Running). state (was.begun + 1) left was.core ps o) frame_is
     where
       frame_is : option_map running_of now.frame ≡ Some (shape_of_job job)
       frame_is =
-          let shape : ℕ → JobKind → Size → Format → List Content → Option Running = λ n j size f cs. Some (record { number = n; kind = j; size = size; format = f; contents = cs }) in
+          let shape : ℕ → JobKind → Size → Format → List Content
+              → Option Running = λ n j size f cs. Some (record { number = n; kind = j; size = size; format = f; contents = cs }) in
           let cs = frame.contents.items in
           ap (λ (o : Option Frame). option_map running_of o) begun.frame_is
           ∙ ap (λ (n : ℕ). shape n frame.kind frame.size frame.format cs) begun.number
           ∙ ap (λ (j : JobKind). shape (was.begun + 1) j frame.size frame.format cs) begun.kind_is
-          ∙ ap (λ (size : Size). shape (was.begun + 1) k size frame.format cs) begun.size
-          ∙ ap (λ (f : Format). shape (was.begun + 1) k scene.size f cs) begun.format_is
-          ∙ ap (λ (cs : List Content). shape (was.begun + 1) k scene.size format cs) (begun.shapes ∙ ap (λ (c : Images). map content_shape c) begun.taken)
+          ∙ ap (λ (size : Size). shape (was.begun + 1) b.kind size frame.format cs) begun.size
+          ∙ ap (λ (f : Format). shape (was.begun + 1) b.kind b.scene.size f cs) begun.format_is
+          ∙ ap (λ (cs : List Content). shape (was.begun + 1) b.kind b.scene.size b.format cs) (begun.shapes
+              ∙ ap (λ (c : Images). map content_shape c) begun.taken)
 
   -- a Job that is given as the plain machine gives it
   pub record IsGiven (given : Job) : Type 0 where
     pub number : given.number ≡ was.begun + 1
-    pub kind_is : given.kind ≡ k
-    pub scene_is : given.scene ≡ scene
+    pub kind_is : given.kind ≡ b.kind
+    pub scene_is : given.scene ≡ b.scene
     pub contents_are : given.contents ≡ contents
-    pub image : SameImage true k (blank scene.size format) given.image
-    pub size : given.image.size ≡ scene.size
+    pub image : SameImage true b.kind (blank b.scene.size b.format) given.image
+    pub size : given.image.size ≡ b.scene.size
     pub four : is_a8 given.image.format ≡ false
-    pub port : IsOfSomePort k
-    pub fits : Fits scene contents
+    pub port : IsOfSomePort b.kind
+    pub fits : Fits b.scene contents
 
-  pub answer_begun : (value : ℕ) (given : Job) → IsGiven given → IsAnswer (with_payload value job) (record { code = code.Ok; value = value; payload = payload.Job given })
-  answer_begun value given is =
+  pub answer_begun : (given : Job) → IsGiven given → IsAnswer (start b (state_of was)).1 (gives_job b.value given)
+  answer_begun given is =
       record {
         code = refl;
         value = refl;

@@ -10,16 +10,17 @@ use Rattle.wf_image.specs.Contents.{image_of}
 use Rattle.wf_stream.specs.Buffers.{Buffers, HasShape, latched, newest}
 use Rattle.wf_stream.specs.Streams.{KeptStream, IsNumbered, buffers_at, stream_at}
 use Rattle.wf_model.specs.declared.Content.{Content}
+use Rattle.wf_model.specs.State.{Port}
 use Rattle.wf_model.specs.Frames.{content_shape, latch, latched_among, newest_images, newest_of}
 use Rattle.wf_model.specs.Picture.{Images}
-use Rattle.wf_model.specs.State.{Port}
 use Rattle.wf_machine.specs.Latching.{AreAtHome, AreShapedAs, IsShapedAs}
 use Rattle.wf_machine.specs.declared.frame.Frame.{Frame}
 use Rattle.wf_machine.specs.declared.parts.Parts.TheInside.{Inside}
 use Rattle.wf_machine.specs.Fitting.{AllFit, AreNumbered, AreOnce, IsRead, IsScreen, StreamFits, content_at, contents_of}
 use Rattle.wf_machine.specs.Inside.{IsSound}
 use Rattle.wf_machine.specs.Ports.{port_of, running_of}
-use Rattle.wf_machine.proofs.Latches.{by_number, image_newest, is_in-without, latched_keeps}
+use Rattle.wf_words.specs.Once.{by_number, is_in-without, NoneTwice, once_none_twice}
+use Rattle.wf_machine.proofs.Latches.{image_newest, latched_keeps}
 use Rattle.wf_machine.proofs.Mapped.{found_mapped, latch_keeps}
 
 -- the shape of a stream's image among the contents
@@ -118,31 +119,6 @@ all_latched ns ports high streams rising shaped fit = each streams (all_found 0 
     each : (ss : List KeptStream) → AllFound streams ss → AllFit ports [] ss → AllFit ports (map content_shape (newest_images ns streams)) (latch ns ss)
     each [] found fits = tt
     each (s ∷ ss) found fits = (one_fits ns ports streams shaped s found.0 fits.0, each ss found.1 fits.1)
-
--- each number stands once
-abbrev NoneTwice : List ℕ → Type 0
-NoneTwice [] = Unit {0}
-NoneTwice (n ∷ ns) = (is_in n ns ≡ false) × NoneTwice ns
-
-without_itself : (x : ℕ) (ns : List ℕ) → is_in x (filter (λ y. not (y == x)) ns) ≡ false
-without_itself x [] = refl
-without_itself x (y ∷ ns) =
-    elim (y == x) as (λ b. (y == x) ≡ b → is_in x (cond (not b) (y ∷ filter (λ z. not (z == x)) ns) (filter (λ z. not (z == x)) ns)) ≡ false) [
-      | true ↦ λ here. without_itself x ns
-      | false ↦ λ apart. rw apart (without_itself x ns)
-    ] refl
-
-none_without : (x : ℕ) (ns : List ℕ) → NoneTwice ns → NoneTwice (filter (λ y. not (y == x)) ns)
-none_without x [] none = tt
-none_without x (y ∷ ns) none =
-    elim (y == x) as (λ b. (y == x) ≡ b → NoneTwice (cond (not b) (y ∷ filter (λ z. not (z == x)) ns) (filter (λ z. not (z == x)) ns))) [
-      | true ↦ λ here. none_without x ns none.1
-      | false ↦ λ apart. (let other : (x == y) ≡ false = grind (arith, nat_tests, apart) in (is_in-without y x ns other ∙ none.0, none_without x ns none.1))
-    ] refl
-
-once_none_twice : (ns : List ℕ) → NoneTwice (once ns)
-once_none_twice [] = tt
-once_none_twice (x ∷ ns) = (without_itself x (once ns), none_without x (once ns) (once_none_twice ns))
 
 contents_once : (ns : List ℕ) (streams : List KeptStream) → NoneTwice ns → AreOnce (map content_shape (newest_images ns streams))
 contents_once [] streams none = tt

@@ -10,9 +10,9 @@ use Rattle.wf_image.specs.declared.canvas.Canvas.{Canvas}
 use Rattle.wf_stream.specs.Buffers.{Buffers, acquired, is_blocked}
 use Rattle.wf_stream.specs.Streams.{KeptStream, IsNumbered, number_of, stream_at, stream_of}
 use Rattle.wf_calls.specs.declared.code.Code.TheVariants as code
-use Rattle.wf_calls.specs.declared.call.Payload.TheVariants as payload
+use Rattle.wf_calls.specs.declared.reply.Payload.TheVariants as payload
 use Rattle.wf_model.specs.State.{State}
-use Rattle.wf_model.specs.Outcome.{answer}
+use Rattle.wf_calls.specs.Replies.{bare, done, refusal, refused}
 use Rattle.wf_model.specs.Streams.{acquirable, acquire_step, canvas_back, canvas_of, is_out_at_client, is_out_of, with_stream}
 use Rattle.wf_model.specs.Frames.{is_target}
 use Rattle.wf_machine.specs.Latching.{IsOutFrom}
@@ -28,25 +28,25 @@ found handle number high streams rising is = of_stream (stream_of handle streams
 
 module _ (handle : ℕ) (h : State) where
   -- no stream lives under the handle
-  pub no_stream : number_of handle h.streams ≡ None → acquire_step h (acquirable handle h) ≡ (h, answer code.BadHandle 0)
+  pub no_stream : number_of handle h.streams ≡ None → acquire_step h (acquirable handle h) ≡ (h, bare (refused (refusal code.BadHandle)))
   no_stream none = of_stream (stream_of handle h.streams) refl none
     where
-      of_stream : (o : Option KeptStream) → stream_of handle h.streams ≡ o → option_map (λ (s : KeptStream). s.number) o ≡ None → acquire_step h (acquirable handle h) ≡ (h, answer code.BadHandle 0)
+      of_stream : (o : Option KeptStream) → stream_of handle h.streams ≡ o → option_map (λ (s : KeptStream). s.number) o ≡ None → acquire_step h (acquirable handle h) ≡ (h, bare (refused (refusal code.BadHandle)))
       of_stream None at same = rw at refl
       of_stream (Some s) at same = absurd cc
 
   module _ (s : KeptStream) (at : stream_of handle h.streams ≡ Some s) where
-    pub busy : s.buffers.out ≡ true → acquire_step h (acquirable handle h) ≡ (h, answer code.Busy 0)
+    pub busy : s.buffers.out ≡ true → acquire_step h (acquirable handle h) ≡ (h, bare (refused (refusal code.Busy)))
     busy out = rw (at, out) refl
 
-    pub no_buffer : s.buffers.out ≡ false → is_blocked s.buffers ≡ true → acquire_step h (acquirable handle h) ≡ (h, answer code.NoBuffer 0)
+    pub no_buffer : s.buffers.out ≡ false → is_blocked s.buffers ≡ true → acquire_step h (acquirable handle h) ≡ (h, bare (refused (refusal code.NoBuffer)))
     no_buffer home blocked = rw (at, blocked, home) refl
 
     pub given : s.buffers.out ≡ false → is_blocked s.buffers ≡ false → acquire_step h (acquirable handle h) ≡ (with_stream s.number acquired h, record { code = code.Ok; value = 0; payload = payload.Canvas (canvas_of s) })
     given home free = rw (at, free, home) refl
 
 -- a canvas that is out at a client comes back to its stream
-pub comes_back : (canvas : Canvas) (f : Buffers → Buffers) (h : State) → is_out_at_client canvas h ≡ true → canvas_back canvas f h ≡ (with_stream canvas.stream f h, answer code.Ok 0)
+pub comes_back : (canvas : Canvas) (f : Buffers → Buffers) (h : State) → is_out_at_client canvas h ≡ true → canvas_back canvas f h ≡ (with_stream canvas.stream f h, bare (done 0))
 comes_back canvas f h out = rw out refl
 
 pub stays_out : (canvas : Canvas) (f : Buffers → Buffers) (h : State) → is_out_at_client canvas h ≡ false → canvas_back canvas f h ≡ (h, record { code = code.BadHandle; value = 0; payload = payload.Canvas canvas })

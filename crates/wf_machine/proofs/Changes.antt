@@ -8,7 +8,7 @@ use Rattle.wf_image.specs.declared.canvas.Canvas.{Canvas}
 use Rattle.wf_image.specs.Bitmap.{blank}
 use Rattle.wf_model.specs.Streams.{canvas_of}
 use Rattle.wf_stream.specs.Buffers.{Buffers}
-use Rattle.wf_stream.specs.Streams.{KeptStream, StoreView, IsNumbered, buffers_at, change_stream, stream_at, stream_of}
+use Rattle.wf_stream.specs.Streams.{KeptStream, StoreView, IsNumbered, buffers_at, change_stream, stream_at, stream_of, has_number}
 
 -- nothing is found or changed at a number below all others
 pub found_below : (low high n : ℕ) (streams : List KeptStream) → IsNumbered low streams high → n ≤ low → stream_at n streams ≡ None
@@ -69,15 +69,6 @@ unchanged n (s ∷ streams) =
 pub lent_same : (store : StoreView) (n : ℕ) (b now : Buffers) → IsNumbered 0 store.streams store.numbered → Some b ≡ buffers_at n store.streams → now ≡ b → record store { streams = change_stream n (λ _. now) store.streams } ≡ store
 lent_same store n b now rising found is =
     lent store n (λ c. c) b now rising found is ∙ ap (λ (streams : List KeptStream). record store { streams = streams }) (unchanged n store.streams)
-
--- the stream of a number has it
-pub has_number : (n : ℕ) (streams : List KeptStream) (s : KeptStream) → stream_at n streams ≡ Some s → s.number ≡ n
-has_number n [] s found = absurd cc
-has_number n (t ∷ streams) s found =
-    elim (t.number == n) as (λ b. (t.number == n) ≡ b → cond b (Some t) (stream_at n streams) ≡ Some s → s.number ≡ n) [
-      | true ↦ λ here same. (let is : t ≡ s = cc in ap (λ (u : KeptStream). u.number) (sym is) ∙ eqb-true t.number n here)
-      | false ↦ λ apart same. has_number n streams s same
-    ] refl found
 
 -- the stream of a handle is that of its number
 above : (low high h : ℕ) (streams : List KeptStream) (s : KeptStream) → IsNumbered low streams high → stream_of h streams ≡ Some s → low < s.number

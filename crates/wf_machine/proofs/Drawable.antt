@@ -11,7 +11,7 @@ use Rattle.wf_pixel.specs.declared.Rect.{Rect}
 use Rattle.wf_pixel.specs.declared.Size.{Size}
 use Rattle.wf_pixel.specs.declared.Format.{Format}
 use Rattle.wf_pixel.specs.declared.Format.TheVariants.{Rgba8, Rgba8Pre, Rgbx8, A8}
-use Rattle.wf_pixel.specs.Choice.{has_sides, is_a8, is_side}
+use Rattle.wf_pixel.specs.Choice.{has_sides, is_a8, is_side, is_coordinate}
 use Rattle.wf_pixel.specs.Place.{IsDrawn, size_of}
 use Rattle.wf_image.specs.Bitmap.{Bitmap}
 use Rattle.wf_image.specs.Contents.{image_of}
@@ -20,11 +20,10 @@ use Rattle.wf_stream.specs.Streams.{KeptStream, buffers_at, stream_at}
 use Rattle.wf_scene.specs.declared.Layer.{Layer}
 use Rattle.wf_scene.specs.declared.Scene.{Scene}
 use Rattle.wf_scene.specs.Layers.{holds_rect, is_placed_layer}
-use Rattle.wf_scene.specs.Values.{is_coordinate}
 use Rattle.wf_core.specs.Fits.{LayerFits}
 use Rattle.wf_model.specs.declared.Content.{Content}
-use Rattle.wf_model.specs.Picture.{Fits, Images, LayerFits as Shows}
 use Rattle.wf_model.specs.State.{Port}
+use Rattle.wf_model.specs.Picture.{Fits, Images, LayerFits as Shows}
 use Rattle.wf_machine.specs.Fitting.{AllFit, IsComposable}
 use Rattle.wf_machine.specs.Latching.{AreShapedAs}
 use Rattle.wf_machine.proofs.Begun.{shaped_at}

@@ -8,7 +8,7 @@ use Rattle.wf_pixel.specs.declared.Format.{Format}
 use Rattle.wf_image.specs.Bitmap.{Bitmap}
 use Rattle.wf_image.specs.Contents.{image_of}
 use Rattle.wf_stream.specs.Buffers.{Buffers, acquired}
-use Rattle.wf_stream.specs.Streams.{KeptStream, buffers_at, change_stream, stream_at, unnamed}
+use Rattle.wf_stream.specs.Streams.{KeptStream, buffers_at, change_stream, stream_at, unnamed, has_number}
 use Rattle.wf_calls.specs.declared.call.JobKind.{JobKind}
 use Rattle.wf_calls.specs.declared.call.JobKind.TheVariants as kind
 use Rattle.wf_model.specs.Frames.{home_if, is_target}
@@ -16,7 +16,6 @@ use Rattle.wf_model.specs.Names.{target_names}
 use Rattle.wf_model.specs.Picture.{Images}
 use Rattle.wf_model.specs.State.{Port, Running}
 use Rattle.wf_machine.specs.Fitting.{FrameFits, IsOfTarget, KindFits}
-use Rattle.wf_machine.proofs.Changes.{has_number}
 use Rattle.wf_machine.proofs.Latches.{KeepsShape}
 use Rattle.wf_machine.proofs.Mapped.{KeepsStream, buffers_mapped, changed_at, changed_keeps, home_among, home_keeps, unnamed_keeps}
 use Rattle.wf_machine.proofs.StillComposed.{in_first}

@@ -14,10 +14,10 @@ use Rattle.wf_stream.specs.Streams.{KeptStream, StoreView, IsNumbered, buffers_a
 use Rattle.wf_calls.specs.declared.call.JobKind.{JobKind}
 use Rattle.wf_calls.specs.declared.call.JobKind.TheVariants as kind
 use Rattle.wf_model.specs.declared.Content.{Content}
+use Rattle.wf_model.specs.State.{Port, Running, State, initial_port, opening, screen}
 use Rattle.wf_model.specs.Names.{all_names, core_names, display_names, frame_names, kept, own_names, settle, target_names}
 use Rattle.wf_calls.specs.declared.ports.Modes.{Modes}
 use Rattle.wf_calls.specs.declared.ports.Ports.{Ports}
-use Rattle.wf_model.specs.State.{Port, Running, State, initial_port, opening, screen}
 use Rattle.wf_machine.specs.declared.parts.Parts.TheInside.{Inside}
 use Rattle.wf_machine.specs.Fitting.{AllFit, FrameFits, IsOfTarget, KindFits, contents_of}
 use Rattle.wf_machine.specs.Inside.{IsSound, state_of}

@@ -16,13 +16,13 @@ use Rattle.wf_calls.specs.declared.code.Code.TheVariants as code
 use Rattle.wf_calls.specs.declared.call.Job.{Job}
 use Rattle.wf_calls.specs.declared.call.JobKind.{JobKind}
 use Rattle.wf_calls.specs.declared.call.JobKind.TheVariants as kind
-use Rattle.wf_calls.specs.declared.call.Reply.{Reply}
+use Rattle.wf_calls.specs.declared.reply.Reply.{Reply}
 use Rattle.wf_model.specs.declared.Content.{Content}
-use Rattle.wf_model.specs.Frames.{brought_home, delivered, end, end_frame, has_shape, home_if, is_of_frame, same_kind}
-use Rattle.wf_model.specs.Composition.{CoreState}
-use Rattle.wf_model.specs.Outcome.{answer}
-use Rattle.wf_model.specs.Picture.{Images}
 use Rattle.wf_model.specs.State.{Port, Running, State, mode_size}
+use Rattle.wf_model.specs.Frames.{brought_home, delivered, end, end_frame, has_shape, home_if, is_of_frame, same_kind}
+use Rattle.wf_model.specs.Objects.{CoreState}
+use Rattle.wf_calls.specs.Replies.{bare, done, refusal, refused}
+use Rattle.wf_model.specs.Picture.{Images}
 use Rattle.wf_machine.specs.declared.frame.Frame.{Frame}
 use Rattle.wf_machine.specs.declared.parts.Parts.TheInside.{Inside}
 use Rattle.wf_machine.specs.declared.port.Port as declared
@@ -33,7 +33,8 @@ use Rattle.wf_machine.specs.Ports.{HoldsBut, IsFrameImage, port_of, running_of}
 use Rattle.wf_machine.proofs.Buffering.{format_is, size_is}
 use Rattle.wf_machine.proofs.Beginning.{seen_twice}
 use Rattle.wf_machine.proofs.Drawing.{frame_home}
-use Rattle.wf_machine.proofs.Latches.{KeepsShape, by_number}
+use Rattle.wf_machine.proofs.Latches.{KeepsShape}
+use Rattle.wf_words.specs.Once.{by_number}
 use Rattle.wf_machine.proofs.Mapped.{SeenSame, bytes_mapped, changed_at, changed_keeps, home_among, home_keeps, numbered_mapped, seen_mapped}
 use Rattle.wf_machine.proofs.Shapes.{AreOf, Apart, IsOfShape, all_of, none_there}
 use Rattle.wf_machine.proofs.StillComposed.{still_fits}
@@ -229,12 +230,12 @@ module _ (m : Inside) (job : Job) (is : is_of_running job (option_map running_of
       of_kind (kind.Port port) is fits = due_port port is fits
 
   -- the machine that is left
-  module _ (left : StoreView) (lent : List declared.Port) (done : Reply) where
+  module _ (left : StoreView) (lent : List declared.Port) (reply : Reply) where
     pub record HasEnded : Type 0 where
       pub store : left ≡ record m.store { streams = delivered job.kind job.image home }
       pub modes : map port_of lent ≡ ports
       pub fit : PortsFit None 1 lent
-      pub done_is : done ≡ answer code.Ok 0
+      pub reply_is : reply ≡ bare (done 0)
 
     module _ (now : Inside) (store-is : now.store ≡ left) (ports-are : now.ports.items ≡ lent) (core-is : now.core ≡ m.core) (begun-is : now.begun ≡ m.begun) (free : now.frame ≡ None) (ended : HasEnded) where
       abbrev after : List KeptStream
@@ -291,9 +292,9 @@ module _ (m : Inside) (job : Job) (is : is_of_running job (option_map running_of
           ∙ ap (λ (ps : List Port). state m.begun store m.core ps now.frame) now_ports
           ∙ ap (λ (o : Option Frame). state m.begun store m.core ports o) free
 
-      pub left_ended : (s : State) → state_of m ≡ s → end job s ≡ (state_of now, done)
+      pub left_ended : (s : State) → state_of m ≡ s → end job s ≡ (state_of now, reply)
       left_ended s seen =
           let running : (state_of m).frame ≡ Some (running_of f) = ap (λ (o : Option Frame). option_map running_of o) runs in
-          let ends : end job (state_of m) ≡ (end_frame job (state_of m), answer code.Ok 0) = rw (running, (running_frame m job is).2) refl in
-          subst (λ (t : State). end job t ≡ (state_of now, done)) seen
-          (ends ∙ ap (λ (t : State). (t, answer code.Ok 0)) (sym state_is) ∙ ap (λ (r : Reply). (state_of now, r)) (sym ended.done_is))
+          let ends : end job (state_of m) ≡ (end_frame job (state_of m), bare (done 0)) = rw (running, (running_frame m job is).2) refl in
+          subst (λ (t : State). end job t ≡ (state_of now, reply)) seen
+          (ends ∙ ap (λ (t : State). (t, bare (done 0))) (sym state_is) ∙ ap (λ (r : Reply). (state_of now, r)) (sym ended.reply_is))

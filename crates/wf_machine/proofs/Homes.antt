@@ -11,7 +11,8 @@ use Rattle.wf_stream.specs.Streams.{KeptStream, buffers_at, change_stream, strea
 use Rattle.wf_model.specs.Frames.{brought_home, home_if}
 use Rattle.wf_model.specs.Picture.{Images}
 use Rattle.wf_machine.specs.Latching.{AreAwaited, Awaits}
-use Rattle.wf_machine.proofs.Latches.{both_same, by_number}
+use Rattle.wf_machine.proofs.Latches.{both_same}
+use Rattle.wf_words.specs.Once.{by_number}
 
 pub number_home : (o : Option Bitmap) (s : KeptStream) → (home_if o s).number ≡ s.number
 number_home None s = refl

@@ -19,6 +19,7 @@ use Rattle.std.proofs.lemmas.Grind.{flat_map-append}
 use Rattle.std.proofs.lemmas.List.{take_more}
 use Rattle.wf_machine.specs.Latching.{AreAtHome, AreShapedAs, IsAtHome, IsShapedAs, with_newest, without_newest}
 use Rattle.wf_machine.proofs.Changes.{change_below}
+use Rattle.wf_words.specs.Once.{by_number, is_in-without}
 
 pub shaped_more : (n : ℕ) (image : Bitmap) (streams : List KeptStream) (contents : Images) → AreShapedAs streams contents → IsShapedAs n streams image → AreShapedAs streams (contents ++ (n, image) ∷ [])
 shaped_more n image streams [] shaped one = (one, tt)
@@ -70,18 +71,6 @@ shaped_changed f n streams (pair ∷ contents) keeps shaped = (shaped_one f n pa
 -- a list of numbers with one more, where that is not in it
 abbrev pub named : List ℕ → ℕ → List ℕ
 named ns n = cond (is_in n ns) ns (ns ++ n ∷ [])
-
--- a case on whether two numbers are one
-pub by_number : (P : Type 0) (k n : ℕ) → ((k == n) ≡ true → k ≡ n → P) → ((k == n) ≡ false → P) → P
-by_number P k n one other = elim (k == n) as (λ b. (k == n) ≡ b → P) [ true ↦ λ is. one is (eqb-true k n is) | false ↦ λ is. other is ] refl
-
--- a number is in a list without another exactly where it is in the list
-pub is_in-without : (n x : ℕ) (ns : List ℕ) → (x == n) ≡ false → is_in n (filter (λ y. not (y == x)) ns) ≡ is_in n ns
-is_in-without n x [] apart = refl
-is_in-without n x (y ∷ ns) apart =
-    by_number (is_in n (cond (not (y == x)) (y ∷ filter (λ z. not (z == x)) ns) (filter (λ z. not (z == x)) ns)) ≡ ((y == n) || is_in n ns)) y x
-    (λ here same. rw here (is_in-without n x ns apart ∙ (let no : (y == n) ≡ false = rw same apart in rw no refl)))
-    (λ other. rw other (ap (λ (b : Bool). (y == n) || b) (is_in-without n x ns apart)))
 
 -- one more number in a list of which each stands once
 pub once_more : (ns : List ℕ) (n : ℕ) → once (ns ++ n ∷ []) ≡ named (once ns) n

@@ -18,9 +18,9 @@ pub mod Naming
 pub mod Screening
 pub mod PortFrames
 pub mod ContextFrames
+pub mod Starting
 pub mod Ending
 pub mod Acts
-pub mod Refusing
 pub mod Dropping
 pub mod Markings
 pub mod Stepping

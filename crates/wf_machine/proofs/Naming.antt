@@ -5,7 +5,7 @@ use Rattle.std.specs.List.{list_any}
 use Rattle.wf_words.specs.Keyed.{is_in, once}
 use Rattle.wf_scene.specs.declared.Layer.{Layer}
 use Rattle.wf_model.specs.Names.{layer_names}
-use Rattle.wf_machine.proofs.Latches.{is_in-without}
+use Rattle.wf_words.specs.Once.{is_in-without}
 
 in_once : (n : ℕ) (ns : List ℕ) → is_in n (once ns) ≡ is_in n ns
 in_once n [] = refl

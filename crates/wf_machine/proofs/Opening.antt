@@ -17,7 +17,7 @@ use Rattle.wf_calls.specs.declared.ports.Ports.{Ports}
 use Rattle.wf_stream.specs.Buffers.{buffer_bytes, fresh}
 use Rattle.wf_stream.specs.Streams.{KeptStream, StoreView, IsNumbered, empty, held, with_screen}
 use Rattle.wf_calls.specs.declared.ports.Modes.{Modes}
-use Rattle.wf_model.specs.Composition.{CoreState, no_objects}
+use Rattle.wf_model.specs.Objects.{CoreState, no_objects}
 use Rattle.wf_core.specs.Fits.{Fits}
 use Rattle.wf_model.specs.State.{Port, Running, State, initial_port, mode_size, opening, screen}
 use Rattle.wf_machine.specs.Fitting.{AllFit, contents_of, IsScreen, PortFits, PortsFit, StreamFits}

@@ -11,7 +11,7 @@ use Rattle.wf_model.specs.declared.Content.{Content}
 use Rattle.wf_model.specs.Frames.{has_shape}
 use Rattle.wf_model.specs.Picture.{Images}
 use Rattle.wf_machine.specs.Fitting.{AreOnce, content_at}
-use Rattle.wf_machine.proofs.Latches.{by_number}
+use Rattle.wf_words.specs.Once.{by_number}
 
 -- the first image of a stream is taken out
 abbrev without : ℕ → Images → Images

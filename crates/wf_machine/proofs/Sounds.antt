@@ -15,10 +15,10 @@ use Rattle.wf_stream.specs.Streams.{KeptStream, StoreView, buffers_at, change_st
 use Rattle.wf_calls.specs.declared.code.Code.TheVariants as code
 use Rattle.wf_calls.specs.declared.call.JobKind.{JobKind}
 use Rattle.wf_calls.specs.declared.call.JobKind.TheVariants as kind
-use Rattle.wf_calls.specs.declared.call.Reply.{Reply}
+use Rattle.wf_calls.specs.declared.reply.Reply.{Reply}
 use Rattle.wf_model.specs.State.{Port, Running, State}
-use Rattle.wf_model.specs.Outcome.{answer}
-use Rattle.wf_model.specs.Streams.{is_stream, is_wide_side, new_buffers, size_of, stream_made, stream_new, stream_step}
+use Rattle.wf_calls.specs.Replies.{bare, done, refusal, refused}
+use Rattle.wf_model.specs.Streams.{may_make, is_wide_side, new_buffers, size_from, stream_made, stream_new, stream_step}
 use Rattle.wf_machine.specs.declared.parts.Parts.TheInside.{Inside}
 use Rattle.wf_machine.specs.Fitting.{FrameFits, IsOfTarget, KindFits, contents_of}
 use Rattle.wf_machine.specs.Inside.{IsSound, state_of}
@@ -122,7 +122,7 @@ sound_made m size format buffers sides free sound =
 -- a call that makes a stream
 
 -- the sides of the stream that it makes
-pub made_sides : (w h b : ℤ) → is_stream w h b ≡ true → has_sides (size_of w h) ≡ true
+pub made_sides : (w h b : ℤ) → may_make w h b ≡ true → has_sides (size_from w h) ≡ true
 made_sides w h b is =
     let both = (and_parts (is_wide_side w && is_wide_side h) (is_between (pos 2) (pos 4) b) is).0 in
     let each = and_parts (is_wide_side w) (is_wide_side h) both in
@@ -132,14 +132,14 @@ made_sides w h b is =
     side (pos n) is = is
     side (negsuc n) is = absurd cc
 
-module _ (w h b : ℤ) (format : Format) (s : State) (is : is_stream w h b ≡ true) where
-  pub limited : (has_no_room (new_buffers w h format b) s.streams || is_full s.made) ≡ true → stream_step s (stream_new w h format b false s) ≡ (s, answer code.Limit 0)
+module _ (w h b : ℤ) (format : Format) (s : State) (is : may_make w h b ≡ true) where
+  pub limited : (has_no_room (new_buffers w h format b) s.streams || is_full s.made) ≡ true → stream_step s (stream_new w h format b false s) ≡ (s, bare (refused (refusal code.Limit)))
   limited full = rw (is, full) refl
 
-  pub unmade : (has_no_room (new_buffers w h format b) s.streams || is_full s.made) ≡ false → stream_step s (stream_new w h format b true s) ≡ (s, answer code.OutOfMemory 0)
+  pub unmade : (has_no_room (new_buffers w h format b) s.streams || is_full s.made) ≡ false → stream_step s (stream_new w h format b true s) ≡ (s, bare (refused (refusal code.OutOfMemory)))
   unmade free = rw (is, free) refl
 
-  pub made : has_no_room (new_buffers w h format b) s.streams ≡ false → is_full s.made ≡ false → stream_step s (stream_new w h format b false s) ≡ ((stream_made (new_buffers w h format b) s).0, answer code.Ok (s.made + 1))
+  pub made : has_no_room (new_buffers w h format b) s.streams ≡ false → is_full s.made ≡ false → stream_step s (stream_new w h format b false s) ≡ ((stream_made (new_buffers w h format b) s).0, bare (done (s.made + 1)))
   made free few = rw (is, free, few) refl
 
 -- a call of the machine as it is kept is one of the machine as it is seen

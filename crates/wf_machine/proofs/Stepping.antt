@@ -1,14 +1,32 @@
 -- What is done, and then dropped where it was carried out, is the step.
-use Rattle.std.proofs.Common.{◌≡◌, ℕ, Bool, true, false, sym, ap, subst, ◌∙◌}
+use Rattle.std.proofs.Common.{◌≡◌, ℕ, Bool, true, false, not, refl, sym, ap, subst, ◌∙◌}
 use Rattle.wf_calls.specs.declared.call.Call.{Call}
-use Rattle.wf_calls.specs.declared.call.Reply.{Reply}
+use Rattle.wf_calls.specs.declared.reply.Reply.{Reply}
 use Rattle.wf_calls.specs.declared.code.Code.{Code}
 use Rattle.wf_calls.specs.Codes.{is_ok_code, is_out_of_memory}
+use Rattle.wf_calls.specs.Parts.{Register, no_register, of_device, register_of}
+use Rattle.wf_model.specs.Effects.{refused_leaves}
 use Rattle.wf_model.specs.Names.{settle, settle_if}
+use Rattle.wf_model.specs.Registers.{offered}
 use Rattle.wf_model.specs.State.{State}
 use Rattle.wf_model.specs.Step.{act, step}
-use Rattle.wf_machine.specs.Object.{IsAct, IsRefusal, MayAnswer, after}
-use Rattle.wf_machine.proofs.Refusing.{refuses}
+use Rattle.wf_machine.specs.Object.{IsAct, IsRefusal, IsSettled, IsStep, after}
+use Rattle.wf_machine.proofs.Dropping.{settled}
+
+not_ok : (b : Bool) → not b ≡ true → b ≡ false
+not_ok true is = absurd cc
+not_ok false is = refl
+
+-- a refusal offers its code to the call's register, and does nothing else
+refusal_of : (h : State) (c : Call) (left : State) (r : Reply) → IsAct h c left r → IsRefusal h left c r.code
+refusal_of h c left r acts refused =
+    acts.left_is ∙ refused_leaves h c (is_out_of_memory r.code) (ap is_ok_code (sym acts.answer.code) ∙ not_ok (is_ok_code r.code) refused)
+    ∙ ap (λ (x : Code). offered (register_of c) x h) (sym acts.answer.code)
+
+-- what has a name still has it where a register takes a code
+settled_offered : (register : Register) (refused : Code) (h : State) → IsSettled h → IsSettled (offered register refused h)
+settled_offered (of_device d) refused h settled = settled
+settled_offered no_register refused h settled = settled
 
 module _ (h : State) (client : ℕ) (c : Call) (left : State) (r : Reply) (acts : IsAct h c left r) where
   abbrev done : State × Reply
@@ -17,23 +35,25 @@ module _ (h : State) (client : ℕ) (c : Call) (left : State) (r : Reply) (acts 
   code_is : is_ok_code done.1.code ≡ is_ok_code r.code
   code_is = ap is_ok_code (sym acts.answer.code)
 
-  pub after_ok : is_ok_code r.code ≡ true → settle left ≡ after h client c r
+  -- what is settled where the call was carried out is the step
+  pub stepped : (now : State) → now ≡ settle_if (is_ok_code r.code) left → IsStep h client c now r
   unfolding step
-  after_ok ok = ap settle acts.left_is ∙ sym (ap (λ (b : Bool). settle_if b done.0) (code_is ∙ ok))
+  stepped now is =
+      record {
+        after_is = is ∙ ap (λ (t : State). settle_if (is_ok_code r.code) t) acts.left_is
+            ∙ sym (ap (λ (b : Bool). settle_if b done.0) code_is);
+        answer = acts.answer;
+        settled = λ named. subst IsSettled (sym is) (settled_if named (is_ok_code r.code) refl);
+        refused = λ refused. is ∙ ap (λ (b : Bool). settle_if b left) (not_ok (is_ok_code r.code) refused) ∙ left_so refused;
+      }
+    where
+      left_so : not (is_ok_code r.code) ≡ true → left ≡ offered (register_of c) r.code h
+      left_so refused = refusal_of h c left r acts refused
 
-  pub after_refused : is_ok_code r.code ≡ false → left ≡ after h client c r
-  unfolding step
-  after_refused refused = acts.left_is ∙ sym (ap (λ (b : Bool). settle_if b done.0) (code_is ∙ refused))
+      settled_if : IsSettled h → (b : Bool) → is_ok_code r.code ≡ b → IsSettled (settle_if b left)
+      settled_if named true ok = settled left
+      settled_if named false ok = subst IsSettled (sym (left_so (rw ok refl))) (settled_offered (register_of c) r.code h named)
 
-  pub may_answer : MayAnswer h client c r
-  unfolding step
-  may_answer = acts.answer
-
-  pub refusal_of : IsRefusal h left r.code
-  refusal_of =
-      subst (λ (t : State). IsRefusal h t r.code) (sym acts.left_is)
-      (subst (λ (x : Code). IsRefusal h done.0 x) (sym acts.answer.code) (refuses h c (is_out_of_memory r.code)))
-
--- what was done, of the machine as it was seen
+-- what is done to a state is done to the state that is seen there
 pub acts : (h was : State) → was ≡ h → (c : Call) (left : State) (r : Reply) → IsAct was c left r → IsAct h c left r
 acts h was seen c left r done = subst (λ (t : State). IsAct t c left r) seen done

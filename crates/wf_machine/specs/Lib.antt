@@ -5,3 +5,4 @@ pub mod Latching
 pub mod Ports
 pub mod Fitting
 pub mod Inside
+pub mod Starting

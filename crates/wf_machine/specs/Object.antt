@@ -1,29 +1,23 @@
 -- The machine as an object with a history: what a call may answer, and what it leaves.
-use Rattle.std.specs.Prelude.{◌≡◌, ℕ, ◌≤◌, ◌⊎◌, Bool, true, false, not, ◌&&◌, IsTrue}
+use Rattle.std.specs.Prelude.{◌≡◌, ℕ, ◌≤◌, Bool, true, false, not, ◌&&◌, IsTrue}
 use Rattle.wf_pixel.specs.Choice.{is_a8}
 use Rattle.wf_image.specs.Bitmap.{Bitmap}
 use Rattle.wf_calls.specs.declared.call.Call.{Call}
-use Rattle.wf_calls.specs.declared.call.Call.TheVariants as call
 use Rattle.wf_calls.specs.declared.call.Job.{Job}
 use Rattle.wf_calls.specs.declared.call.JobKind.{JobKind}
 use Rattle.wf_calls.specs.declared.call.JobKind.TheVariants as kind
-use Rattle.wf_calls.specs.declared.call.Payload.{Payload}
-use Rattle.wf_calls.specs.declared.call.Payload.TheVariants as payload
-use Rattle.wf_calls.specs.declared.call.Reply.{Reply}
+use Rattle.wf_calls.specs.declared.reply.Payload.{Payload}
+use Rattle.wf_calls.specs.declared.reply.Payload.TheVariants as payload
+use Rattle.wf_calls.specs.declared.reply.Reply.{Reply}
 use Rattle.wf_calls.specs.declared.code.Code.{Code}
 use Rattle.wf_calls.specs.Codes.{is_out_of_memory, is_ok_code}
+use Rattle.wf_calls.specs.Parts.{is_begin, register_of}
 use Rattle.wf_model.specs.State.{State}
 use Rattle.wf_model.specs.Picture.{Fits}
 use Rattle.wf_model.specs.Frames.{is_running}
-use Rattle.wf_model.specs.Composition.{change_register, recorded}
+use Rattle.wf_model.specs.Registers.{offered}
 use Rattle.wf_model.specs.Names.{kept}
 use Rattle.wf_model.specs.Step.{act, step}
-
--- a call that begins a frame
-abbrev pub is_begin : Call → Bool
-is_begin (call.BeginNext after) = true
-is_begin (call.BeginPort port) = true
-is_begin _ = false
 
 -- a call can be answered now: no call that begins a frame waits for the running one
 abbrev pub is_ready : State → Call → Bool
@@ -91,8 +85,14 @@ pub record IsAct (h : State) (c : Call) (left : State) (reply : Reply) : Type 0 
 abbrev pub IsSettled : State → Type 0
 IsSettled h = h.streams ≡ kept h
 
--- a refusal leaves all as it was, but that the register of a device takes the code where it is empty
-abbrev pub IsRefusal : State → State → Code → Type 0
-IsRefusal h left c =
-    IsTrue (not (is_ok_code c))
-    → (left ≡ h) ⊎ ((d : ℕ) × (left ≡ record h { core = change_register d (recorded c) h.core }))
+-- a refusal leaves all as it was, but that the call's register takes the code where it is empty
+abbrev pub IsRefusal : State → State → Call → Code → Type 0
+IsRefusal h left c refused = IsTrue (not (is_ok_code refused)) → left ≡ offered (register_of c) refused h
+
+-- a step of the machine: the state after it and the answer are the plain machine's; what is kept has a name, where that
+-- was so before; and a refusal changes the call's register alone
+pub record IsStep (h : State) (client : ℕ) (c : Call) (left : State) (reply : Reply) : Type 0 where
+  pub after_is : left ≡ after h client c reply
+  pub answer : MayAnswer h client c reply
+  pub settled : IsSettled h → IsSettled left
+  pub refused : IsRefusal h left c reply.code

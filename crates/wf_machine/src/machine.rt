@@ -1,17 +1,20 @@
 //! The machine.
 
-ghost use Rattle.std.specs.Prelude.{◌≡◌, IfOk, IsTrue};
+ghost use Rattle.std.specs.Prelude.{◌≡◌, IfOk, IfSome, IsTrue};
+ghost use Rattle.std.specs.Option.{IfNone};
 ghost use Rattle.wf_stream.specs.Streams.{held};
-ghost use Rattle.wf_calls.specs.Codes.{is_ok_code};
+ghost use Rattle.wf_calls.specs.Parts.{carries, part_of};
+ghost use Rattle.wf_calls.specs.Replies.{bare};
 ghost use Rattle.wf_calls.specs.PortRules.{may_declare};
 ghost use Rattle.wf_model.specs.Names.{kept};
 ghost use Rattle.wf_model.specs.State.{opening};
-ghost use Rattle.wf_machine.specs.Object.{IsRefusal, MayAnswer, after, is_begin, is_ready};
+ghost use Rattle.wf_machine.specs.Object.{IsRefusal, IsStep, MayAnswer, after, is_ready};
+ghost use Rattle.wf_calls.specs.Parts.{is_begin};
 
 use crate::parts::Parts;
 use std::alloc::Global;
 use std::marker::Model;
-use wf_calls::{Call, Code, Ports, Reply};
+use wf_calls::{Answer, Call, Ports, Reply};
 use wf_stream::Held;
 use wf_words::NoMemory;
 
@@ -32,20 +35,6 @@ impl Model for Machine {
     ghost invariant = { λ m. IsSettled m.parts };
 }
 
-/// Whether a call begins a frame.
-fn is_begin(call: &Call) -> bool
-    ensures { result ≡ is_begin call.now }
-{
-    matches!(call, Call::BeginNext { .. } | Call::BeginPort { .. })
-}
-
-/// Whether a call was carried out.
-fn is_ok(code: Code) -> bool
-    ensures { result ≡ is_ok_code code }
-{
-    matches!(code, Code::Ok)
-}
-
 impl Machine {
     /// The machine before the first call: for each port a screen, and an image for the frames of each of its modes.
     pub fn open(alloc: Global, ports: &Ports) -> Result<Machine, NoMemory>
@@ -57,27 +46,52 @@ impl Machine {
         })
     }
 
+    /// Answers a client's call that brings nothing and takes nothing, as `run` does, or none where it is another call. It
+    /// moves no image and no Job, and is what `run` stands on.
+    pub fn answer(&mut self, client: u8, call: &Call) -> Option<Answer>
+        ensures carries { IfNone result (IsTrue (carries (part_of call.now)) × (self.new ≡ self.old)) }
+        ensures after { IfSome result (λ answer. self.new ≡ after self.old client call.now (bare answer)) }
+        ensures may { IfSome result (λ answer. MayAnswer self.old client call.now (bare answer)) }
+        ensures lifetime { self.new.streams ≡ kept self.new }
+        ensures refused { IfSome result (λ answer. IsRefusal self.old self.new call.now answer.code) }
+    {
+        let answer = self.parts.act_plain(call);
+        if let Some(answer) = answer {
+            self.parts.settle_if(answer.code.is_ok());
+        }
+        answer
+    }
+
+    /// Runs a client's call that may bring a write buffer or a Job, or takes one.
+    fn carry(&mut self, client: u8, call: Call) -> Reply
+        requires { IsTrue (carries (part_of call)) }
+        ensures { IsStep self.old client call self.new result }
+    {
+        let reply = self.parts.act_carrying(call);
+        self.parts.settle_if(reply.code.is_ok());
+        reply
+    }
+
     /// Runs a client's call, as one indivisible step. A stream that the call leaves without a name is dropped in it. A
-    /// creation for which there is no memory answers OutOfMemory. A refused call leaves all as it was, but that an empty
-    /// error register takes the refusal.
+    /// creation for which there is no memory answers OutOfMemory. A refused call leaves all as it was, but that the call's
+    /// error register takes the refusal where it is empty.
     pub fn run(&mut self, client: u8, call: Call) -> Reply
         ensures after { self.new ≡ after self.old client call result }
         ensures may { MayAnswer self.old client call result }
         ensures lifetime { self.new.streams ≡ kept self.new }
-        ensures refused { IsRefusal self.old self.new result.code }
+        ensures refused { IsRefusal self.old self.new call result.code }
     {
-        let reply = self.parts.act(call);
-        if is_ok(reply.code) {
-            self.parts.settle();
+        match self.answer(client, &call) {
+            Some(answer) => Reply::bare(answer),
+            None => self.carry(client, call),
         }
-        reply
     }
 
     /// Whether a call can be answered now: no call that begins a frame waits for the running one.
     pub fn ready(&self, call: &Call) -> bool
         ensures { result ≡ is_ready self.now call.now }
     {
-        !is_begin(call) || self.parts.frame.is_none()
+        !call.is_begin() || self.parts.frame.is_none()
     }
 
     /// How many streams are kept, and the bytes of their buffers.

@@ -1,28 +1,20 @@
-//! Answers without a payload.
+//! Refusals by a code alone.
 
 ghost use Rattle.std.specs.Prelude.{◌≡◌};
-ghost use Rattle.wf_model.specs.Outcome.{answer};
+ghost use Rattle.wf_calls.specs.Replies.{bare, refusal, refused};
 
-use wf_calls::{Code, Payload, Reply};
+use wf_calls::{Answer, Code, Refusal, Reply};
 
-/// The call was carried out; it answers this value.
-pub(crate) fn done(value: u32) -> Reply
-    ensures { result ≡ answer Code.Ok value }
+/// The answer by which a call is refused.
+pub(crate) fn refuse(code: Code) -> Answer
+    ensures { result ≡ refused (refusal code) }
 {
-    Reply {
-        code: Code::Ok,
-        value,
-        payload: Payload::Nothing,
-    }
+    Answer::refused(Refusal::of(code))
 }
 
-/// The call is refused.
+/// The reply by which a call is refused that carried nothing.
 pub(crate) fn refused(code: Code) -> Reply
-    ensures { result ≡ answer code 0 }
+    ensures { result ≡ bare (refused (refusal code)) }
 {
-    Reply {
-        code,
-        value: 0,
-        payload: Payload::Nothing,
-    }
+    Reply::bare(refuse(code))
 }

@@ -9,14 +9,6 @@ use arrayvec::ArrayVec;
 use wf_pixel::{Rect, Rgba, Rotation};
 use wf_scene::{Layer, Scene};
 
-/// What a port shows where nothing else is.
-const BLACK: Rgba = Rgba {
-    r: 0,
-    g: 0,
-    b: 0,
-    a: 255,
-};
-
 /// The scene of a port: its background, and its screen over it.
 pub(crate) fn scene_of_port(number: u32, port: &Port) -> Scene
     requires { 0 < length port.now.modes.items }
@@ -39,7 +31,7 @@ pub(crate) fn scene_of_port(number: u32, port: &Port) -> Scene
     Scene {
         size,
         turn: Rotation::R0,
-        background: BLACK,
+        background: Rgba::BLACK,
         layers,
     }
 }

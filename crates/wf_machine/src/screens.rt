@@ -2,13 +2,26 @@
 
 ghost use Rattle.std.specs.Prelude.{◌≡◌, IsSome, IsTrue, pos};
 ghost use Rattle.wf_pixel.specs.Choice.{is_between};
-ghost use Rattle.wf_model.specs.Composing.{declared_screen};
+ghost use Rattle.wf_model.specs.Composing.{declared_screen, screen_of};
+ghost use Rattle.wf_core.specs.Steps.{IsOfPort};
 
 use crate::parts::Parts;
+use wf_calls::Call;
 
 impl Parts {
+    /// The screen that a call asks for, where it makes the context of one.
+    pub(crate) fn screen_of(&self, call: &Call) -> Option<u32>
+        ensures screen { result ≡ screen_of call.now self.now }
+        ensures within { IsOfPort call.now result }
+    {
+        match call {
+            Call::ScreenContext { port, .. } => self.declared_screen(*port),
+            _ => None,
+        }
+    }
+
     /// The screen of a port, which counts from 1: the stream of its number. None where the port was not declared.
-    pub(crate) fn declared_screen(&self, port: i64) -> Option<u32>
+    fn declared_screen(&self, port: i64) -> Option<u32>
         ensures screen { result ≡ declared_screen port self.now }
         ensures within { IsSome result → IsTrue (is_between (pos 1) (pos 4) port) }
     {

@@ -2,7 +2,7 @@
 
 ghost use Rattle.std.specs.Prelude.{◌≡◌, ◌≤◌, [], ◌∷◌, length, map, option_map};
 ghost use Rattle.std.specs.List.{range_with_len};
-ghost use Rattle.wf_model.specs.Names.{frame_names, settle, target_names};
+ghost use Rattle.wf_model.specs.Names.{frame_names, settle, settle_if, target_names};
 ghost use Rattle.wf_machine.specs.Ports.{running_of};
 ghost use Rattle.wf_machine.specs.Marking.{Marks};
 
@@ -61,8 +61,17 @@ fn mark_frame(store: &mut Store, frame: &Option<Frame>)
 }
 
 impl Parts {
+    /// Drops the streams that nothing names, where a call was carried out.
+    pub(crate) fn settle_if(&mut self, done: bool)
+        ensures { self.new ≡ settle_if done self.old }
+    {
+        if done {
+            self.settle();
+        }
+    }
+
     /// Drops the streams that nothing names.
-    pub(crate) fn settle(&mut self)
+    fn settle(&mut self)
         ensures { self.new ≡ settle self.old }
     {
         self.store.unmark();

@@ -8,14 +8,14 @@ ghost use Rattle.wf_calls.specs.Codes.{is_out_of_memory};
 ghost use Rattle.wf_stream.specs.Buffers.{acquired, discarded, is_blocked, posted};
 ghost use Rattle.wf_image.specs.Bitmap.{blank};
 ghost use Rattle.wf_stream.specs.Streams.{KeptStream, buffers_at, change_stream, has_no_room, held, stream_at, with_live_stream};
-ghost use Rattle.wf_model.specs.Streams.{acquirable, acquire_step, canvas_back, canvas_of, is_out_at_client, is_out_of, is_stream, new_buffers, stat, stream_destroy, stream_new, stream_step};
-ghost use Rattle.wf_model.specs.Outcome.{answer};
+ghost use Rattle.wf_model.specs.Streams.{acquirable, acquire_step, canvas_back, canvas_of, is_out_at_client, is_out_of, may_make, new_buffers, stat, stream_destroy, stream_new, stream_step};
+ghost use Rattle.wf_calls.specs.Replies.{bare, done};
 ghost use Rattle.wf_machine.specs.Latching.{IsOutFrom};
 
 use crate::frame::is_target;
 use crate::parts::Parts;
-use crate::replies::{done, refused};
-use wf_calls::{Code, Payload, Reply, StatWord};
+use crate::replies::{refuse, refused};
+use wf_calls::{Answer, Code, Reply, StatWord};
 use wf_image::{Canvas, Image};
 use wf_life::MakeStop;
 use wf_pixel::{Format, Size};
@@ -29,8 +29,8 @@ fn is_between(low: i64, high: i64, number: i64) -> bool
 }
 
 /// The sides of a stream are from 1 to 1024, and it has 2 to 4 buffers.
-fn is_stream(width: i64, height: i64, buffers: i64) -> bool
-    ensures { result ≡ is_stream width height buffers }
+fn may_make(width: i64, height: i64, buffers: i64) -> bool
+    ensures { result ≡ may_make width height buffers }
 {
     is_between(1, 1024, width) && is_between(1, 1024, height) && is_between(2, 4, buffers)
 }
@@ -51,7 +51,7 @@ fn make(
     format: Format,
     buffers: i64,
 ) -> Result<u32, MakeStop>
-    requires { IsTrue (is_stream width height buffers) }
+    requires { IsTrue (may_make width height buffers) }
     ensures handle { IfOk result (λ handle. handle ≡ store.old.made + 1) }
     ensures made { OnOk result (store.new ≡ with_live_stream (new_buffers width height format buffers) store.old) }
     ensures room { OnOk result (has_no_room (new_buffers width height format buffers) store.old.streams ≡ false) }
@@ -118,17 +118,6 @@ fn discard_to(store: &mut Store, canvas: Canvas)
     }
 }
 
-/// A canvas that comes back to its client.
-fn handed_back(canvas: Canvas) -> Reply
-    ensures { result ≡ record { code = Code.BadHandle; value = 0; payload = Payload.Canvas canvas } }
-{
-    Reply {
-        code: Code::BadHandle,
-        value: 0,
-        payload: Payload::Canvas(canvas),
-    }
-}
-
 /// A canvas has the shape of a kept stream whose write buffer is out.
 fn is_out_of(store: &Store, canvas: &Canvas) -> bool
     ensures { result ≡ is_out_of canvas.now (stream_at canvas.now.stream store.now.streams) }
@@ -151,39 +140,39 @@ impl Parts {
         height: i64,
         format: Format,
         buffers: i64,
-    ) -> Reply
-        ensures { stream_step self.old (stream_new width height format buffers (is_out_of_memory result.code) self.old) ≡ (self.new, result) }
+    ) -> Answer
+        ensures { stream_step self.old (stream_new width height format buffers (is_out_of_memory result.code) self.old) ≡ (self.new, bare result) }
     {
-        if !is_stream(width, height, buffers) {
-            return refused(Code::IllegalArgument);
+        if !may_make(width, height, buffers) {
+            return refuse(Code::IllegalArgument);
         }
         let handle = match make(&mut self.store, width, height, format, buffers) {
             Ok(handle) => handle,
-            Err(MakeStop::Limit) => return refused(Code::Limit),
-            Err(MakeStop::NoMemory) => return refused(Code::OutOfMemory),
+            Err(MakeStop::Limit) => return refuse(Code::Limit),
+            Err(MakeStop::NoMemory) => return refuse(Code::OutOfMemory),
         };
-        done(handle)
+        Answer::done(handle)
     }
 
     /// Ends the life of a stream's handle. The stream is kept while something else names it.
-    pub(crate) fn stream_destroy(&mut self, stream: u32) -> Reply
-        ensures { stream_step self.old (stream_destroy stream self.old) ≡ (self.new, result) }
+    pub(crate) fn stream_destroy(&mut self, stream: u32) -> Answer
+        ensures { stream_step self.old (stream_destroy stream self.old) ≡ (self.new, bare result) }
     {
         let Ok(_) = self.store.number(stream) else {
-            return refused(Code::BadHandle);
+            return refuse(Code::BadHandle);
         };
         self.store.kill(stream);
-        done(0)
+        Answer::done(0)
     }
 
     /// What is kept.
-    pub(crate) fn stat(&self, what: StatWord) -> Reply
-        ensures { result ≡ answer Code.Ok (stat what (held self.now.streams)) }
+    pub(crate) fn stat(&self, what: StatWord) -> Answer
+        ensures { result ≡ done (stat what (held self.now.streams)) }
     {
         let held = self.store.held();
         match what {
-            StatWord::Streams => done(held.streams),
-            StatWord::Bytes => done(held.bytes as u32),
+            StatWord::Streams => Answer::done(held.streams),
+            StatWord::Bytes => Answer::done(held.bytes as u32),
         }
     }
 
@@ -199,11 +188,7 @@ impl Parts {
             Err(Refused::Busy) => return refused(Code::Busy),
             Err(Refused::NoBuffer) => return refused(Code::NoBuffer),
         };
-        Reply {
-            code: Code::Ok,
-            value: 0,
-            payload: Payload::Canvas(canvas),
-        }
+        Reply::giving_canvas(canvas)
     }
 
     /// A canvas is the write buffer of a kept stream, out at a client: not at the running frame.
@@ -218,10 +203,10 @@ impl Parts {
         ensures { canvas_back canvas (posted canvas.image) self.old ≡ (self.new, result) }
     {
         if !self.is_out_at_client(&canvas) {
-            return handed_back(canvas);
+            return Reply::giving_back_canvas(canvas);
         }
         post_to(&mut self.store, canvas);
-        done(0)
+        Reply::bare(Answer::done(0))
     }
 
     /// Gives a write buffer back unseen.
@@ -229,9 +214,9 @@ impl Parts {
         ensures { canvas_back canvas discarded self.old ≡ (self.new, result) }
     {
         if !self.is_out_at_client(&canvas) {
-            return handed_back(canvas);
+            return Reply::giving_back_canvas(canvas);
         }
         discard_to(&mut self.store, canvas);
-        done(0)
+        Reply::bare(Answer::done(0))
     }
 }

@@ -6,9 +6,10 @@ use Rattle.wf_stream.specs.Buffers.{fresh}
 use Rattle.wf_scene.specs.declared.attributes.ElementAttr.TheVariants as element
 use Rattle.wf_scene.specs.declared.attributes.ContextAttr.TheVariants as attr
 use Rattle.wf_calls.specs.Codes.{code_number}
-use Rattle.wf_calls.specs.declared.call.Reply.{Reply}
+use Rattle.wf_calls.specs.declared.reply.Answer.{Answer}
 use Rattle.wf_model.specs.Outcome.{Outcome}
-use Rattle.wf_model.specs.Composition.{CoreState, CoreSide, no_objects, core_answer}
+use Rattle.wf_model.specs.Objects.{CoreState, no_objects}
+use Rattle.wf_model.specs.Composition.{CoreSide, core_answer}
 use Rattle.wf_model.specs.Names.{core_names}
 use Rattle.wf_model.specs.Core as core
 
@@ -43,7 +44,7 @@ after w (a ∷ rest) = after (core_answer a.0 w (a.1 w)).0 rest
 answers : CoreSide → List Asked → List (ℕ × ℕ)
 answers w [] = []
 answers w (a ∷ rest) =
-    let done : CoreSide × Reply = core_answer a.0 w (a.1 w) in
+    let done : CoreSide × Answer = core_answer a.0 w (a.1 w) in
     (code_number done.1.code, done.1.value) ∷ answers done.0 rest
 
 abbrev one : ℤ → List ℤ

@@ -6,7 +6,7 @@ use Rattle.wf_image.specs.declared.canvas.Canvas.{Canvas}
 use Rattle.wf_image.specs.Bitmap.{blank}
 use Rattle.wf_calls.specs.declared.call.Call.{Call}
 use Rattle.wf_calls.specs.declared.call.Call.TheVariants as call
-use Rattle.wf_calls.specs.declared.call.Payload.TheVariants as payload
+use Rattle.wf_calls.specs.declared.reply.Payload.TheVariants as payload
 use Rattle.wf_calls.specs.declared.call.StatWord.TheVariants as stat
 use Rattle.wf_calls.specs.declared.code.Code.TheVariants as code
 use Rattle.wf_model.specs.State.{State, opening}

@@ -1,5 +1,5 @@
--- The objects of composition: devices, contexts, sources and masks, and how they are found and changed.
-use Rattle.std.specs.Prelude.{ℕ, ◌+◌, Bool, ◌&&◌, ◌==◌, List, [], find, Option, Some, None, Result, Ok, Err}
+-- What a call of composition sees, how it finds and changes objects, and what it answers.
+use Rattle.std.specs.Prelude.{ℕ, ◌+◌, Bool, ◌&&◌, ◌==◌, List, find, Option, Some, None, Result, Ok, Err}
 use Rattle.std.specs.List.{list_any}
 use Rattle.wf_words.specs.Keyed.{at_key, change}
 use Rattle.wf_stream.specs.Streams.{KeptStream, stream_at, stream_of}
@@ -8,22 +8,11 @@ use Rattle.wf_scene.specs.Cached.{CachedScene, has_element}
 use Rattle.wf_scene.specs.Sight.{Sight}
 use Rattle.wf_calls.specs.declared.code.Code.{Code}
 use Rattle.wf_calls.specs.declared.code.Code.TheVariants as code
-use Rattle.wf_calls.specs.declared.code.Refusal.{Refusal}
-use Rattle.wf_calls.specs.declared.call.Reply.{Reply}
-use Rattle.wf_model.specs.declared.Device.{Device}
-use Rattle.wf_model.specs.declared.Context.{Context}
-use Rattle.wf_model.specs.declared.Source.{Source}
-use Rattle.wf_model.specs.Outcome.{Outcome, found, answer}
-
--- each list by rising handle
-pub record CoreState : Type 0 where
-  pub devices : List Device
-  pub contexts : List Context
-  pub sources : List Source
-  pub masks : List Source
-
-abbrev pub no_objects : CoreState
-no_objects = record { devices = []; contexts = []; sources = []; masks = [] }
+use Rattle.wf_calls.specs.declared.reply.Refusal.{Refusal}
+use Rattle.wf_calls.specs.declared.reply.Answer.{Answer}
+use Rattle.wf_calls.specs.Replies.{done, refused}
+use Rattle.wf_model.specs.Objects.{Context, CoreState, Device, Source}
+use Rattle.wf_model.specs.Outcome.{Outcome, found}
 
 -- what a call of composition sees: how many objects were made, the streams, the objects of composition, and how many
 -- sources the display has
@@ -52,8 +41,8 @@ abbrev pub is_of_device : ℕ → CoreState → ℕ → Bool
 is_of_device d core handle = list_any (λ c. (c.handle == handle) && (c.device == d)) core.contexts
 
 -- the stream of a live handle
-abbrev pub live_stream : ℕ → CoreSide → Result KeptStream Refusal
-live_stream handle w = found code.BadHandle (stream_of handle w.streams)
+abbrev pub live_stream : ℕ → List KeptStream → Result KeptStream Refusal
+live_stream handle streams = found code.BadHandle (stream_of handle streams)
 
 -- what a source or a mask shows
 
@@ -94,8 +83,12 @@ abbrev pub recorded : Code → Option Code → Option Code
 recorded new None = Some new
 recorded new (Some old) = Some old
 
+-- the objects with a code offered to the register of a device
+abbrev pub offer : ℕ → Code → CoreState → CoreState
+offer d code core = change_register d (recorded code) core
+
 -- what a call of a device leaves and answers: its effect with the value, or the refusal, which the device's register
 -- takes where the device is live and its register is empty
-abbrev pub core_answer : ℕ → CoreSide → Outcome CoreSide → CoreSide × Reply
-core_answer d w (Ok done) = (done.0, answer code.Ok done.1)
-core_answer d w (Err r) = (record w { core = change_register d (recorded r.code) w.core }, answer r.code r.value)
+abbrev pub core_answer : ℕ → CoreSide → Outcome CoreSide → CoreSide × Answer
+core_answer d w (Ok x) = (x.0, done x.1)
+core_answer d w (Err r) = (record w { core = offer d r.code w.core }, refused r)

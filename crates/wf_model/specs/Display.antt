@@ -2,15 +2,12 @@
 use Rattle.std.specs.Prelude.{ℕ, false, pos, [], ◌∷◌, Option, option_map}
 use Rattle.wf_words.specs.Keyed.{nth}
 use Rattle.wf_pixel.specs.declared.Rect.{Rect}
-use Rattle.wf_pixel.specs.declared.Rgba.{Rgba}
+use Rattle.wf_pixel.specs.Choice.{black}
 use Rattle.wf_pixel.specs.declared.Rotation.TheVariants.{R0}
 use Rattle.wf_pixel.specs.declared.Size.{Size}
 use Rattle.wf_scene.specs.declared.Layer.{Layer}
 use Rattle.wf_scene.specs.declared.Scene.{Scene}
 use Rattle.wf_model.specs.State.{DisplayState, Port, mode_size}
-
-abbrev pub black : Rgba
-black = record { r = 0; g = 0; b = 0; a = 255 }
 
 -- all of a size
 abbrev pub whole_of : Size → Rect

@@ -1,7 +1,9 @@
 -- Frames: what a Begin takes from the streams, which Job it gives, and what an End brings back.
-use Rattle.std.specs.Prelude.{ℕ, ◌+◌, ◌-◌, ◌^◌, Bool, false, not, ◌&&◌, ◌==◌, nat_lt, ℤ, List, length, map, find, flat_map, filter_map, Option, Some, None, is_some, option_map, if◌then◌else◌}
+use Rattle.std.specs.Prelude.{ℕ, ◌+◌, ◌-◌, ◌^◌, Bool, false, not, ◌&&◌, ◌==◌, nat_lt, ℤ, List, length, map, find, flat_map, filter_map}
+use Rattle.std.specs.Prelude.{Option, Some, None, is_some, option_map, Result, Ok, Err, if◌then◌else◌}
 use Rattle.std.specs.List.{list_all}
 use Rattle.wf_words.specs.Keyed.{is_in, once}
+use Rattle.wf_words.specs.Refusals.{◌>>=◌}
 use Rattle.wf_words.specs.Whole.{count_of}
 use Rattle.wf_pixel.specs.declared.Format.{Format}
 use Rattle.wf_pixel.specs.declared.Format.TheVariants.{Rgba8Pre}
@@ -11,18 +13,19 @@ use Rattle.wf_image.specs.Contents.{image_of}
 use Rattle.wf_stream.specs.Buffers.{Buffers, acquired, is_blocked, latched, latched_if, newest, posted, returned}
 use Rattle.wf_stream.specs.Streams.{KeptStream, buffers_at, change_stream, stream_at}
 use Rattle.wf_scene.specs.declared.Scene.{Scene}
-use Rattle.wf_calls.specs.declared.code.Code.{Code}
 use Rattle.wf_calls.specs.declared.code.Code.TheVariants as code
+use Rattle.wf_calls.specs.Replies.{bare, done, gives_back_job, gives_job, refused}
+use Rattle.wf_calls.specs.declared.call.Call.{Call}
+use Rattle.wf_calls.specs.declared.call.Call.TheVariants as call
 use Rattle.wf_calls.specs.declared.call.Job.{Job}
 use Rattle.wf_calls.specs.declared.call.JobKind.{JobKind}
 use Rattle.wf_calls.specs.declared.call.JobKind.TheVariants as kind
-use Rattle.wf_calls.specs.declared.call.Payload.TheVariants as payload
-use Rattle.wf_calls.specs.declared.call.Reply.{Reply}
-use Rattle.wf_model.specs.declared.Content.{Content}
-use Rattle.wf_model.specs.declared.Context.{Context}
-use Rattle.wf_model.specs.State.{Running, State}
+use Rattle.wf_calls.specs.declared.reply.Refusal.{Refusal}
+use Rattle.wf_calls.specs.declared.reply.Reply.{Reply}
+use Rattle.wf_model.specs.Objects.{Context}
+use Rattle.wf_model.specs.State.{Content, Running, State}
 use Rattle.wf_model.specs.Names.{layer_names, target_names}
-use Rattle.wf_model.specs.Outcome.{answer}
+use Rattle.wf_model.specs.Outcome.{found, refuse, refuse_with}
 use Rattle.wf_model.specs.Picture.{Images}
 use Rattle.wf_model.specs.Display.{port_scene}
 
@@ -64,17 +67,6 @@ abbrev pub drawing : JobKind → List KeptStream → List KeptStream
 drawing (kind.Context handle target) streams = change_stream target acquired streams
 drawing (kind.Port port) streams = streams
 
--- the Job of the next frame, with nothing painted yet
-abbrev pub job_of : JobKind → Scene → Format → State → Job
-job_of kind scene format h =
-    record {
-      number = h.begun + 1;
-      kind = kind;
-      scene = scene;
-      contents = newest_images (scene_streams scene) h.streams;
-      image = blank scene.size format;
-    }
-
 -- the state in which that Job runs, and its write buffer is out
 abbrev pub with_job : Job → State → State
 with_job job h =
@@ -92,63 +84,94 @@ is_running h = is_some h.frame
 abbrev pub all_begun : State → Bool
 all_begun h = not (nat_lt h.begun (2 ^ 64 - 1))
 
-abbrev pub with_payload : ℕ → Job → Reply
-with_payload value job = record { code = code.Ok; value = value; payload = payload.Job job }
+-- the beginning of a frame
 
--- why no frame can be drawn into a stream: its write buffer is out, or no buffer is free; where the frame shows the
--- stream too, this is judged after its newest image went away
-abbrev pub target_refusal : Bool → Buffers → Option Code
-target_refusal shows b =
-    if b.out then Some code.Busy
-    else (if is_blocked (latched_if shows b) then Some code.NoBuffer
-    else None)
+-- a frame that may begin: what it is of, its scene, the format of its image, and the value that is answered with its Job
+pub record Beginning : Type 0 where
+  pub kind : JobKind
+  pub scene : Scene
+  pub format : Format
+  pub value : ℕ
 
--- a frame of a context, which composes a scene into a stream that is kept
-abbrev pub begun_context : ℕ → ℕ → Scene → Buffers → State → State × Reply
-begun_context handle target scene b h = of_refusal (target_refusal (is_in target (scene_streams scene)) b)
-  where
-    of_refusal : Option Code → State × Reply
-    of_refusal (Some refused) = (h, answer refused handle)
-    of_refusal None =
-        if all_begun h then (h, answer code.Limit handle)
-        else (let job : Job = job_of (kind.Context handle target) scene b.format h in
-        (with_job job h, with_payload handle job))
+-- the Job of the next frame, with nothing painted yet
+abbrev pub job_of : Beginning → State → Job
+job_of b h =
+    record {
+      number = h.begun + 1;
+      kind = b.kind;
+      scene = b.scene;
+      contents = newest_images (scene_streams b.scene) h.streams;
+      image = blank b.scene.size b.format;
+    }
 
--- a frame of a context; the target of a live one is always kept
-abbrev pub begin_context : ℕ → ℕ → Scene → State → State × Reply
+-- no buffer of a target is free for a frame that shows a scene; where the scene shows the target too, this is judged
+-- after its newest image went away
+abbrev pub is_short : ℕ → Scene → Buffers → Bool
+is_short target scene b = is_blocked (latched_if (is_in target (scene_streams scene)) b)
+
+-- a frame of a context may be drawn into its target, which is kept; the refusal has the context's handle as value
+abbrev pub target_ready : ℕ → ℕ → Scene → Buffers → State → Result (Unit {0}) Refusal
+target_ready handle target scene b h = do
+  _ ← refuse_with code.Busy handle b.out
+  _ ← refuse_with code.NoBuffer handle (is_short target scene b)
+  refuse_with code.Limit handle (all_begun h)
+
+-- a frame of a context, which composes a scene into a target
+abbrev pub context_beginning : ℕ → ℕ → Scene → Buffers → Beginning
+context_beginning handle target scene b =
+    record { kind = kind.Context handle target; scene = scene; format = b.format; value = handle }
+
+abbrev pub begin_context : ℕ → ℕ → Scene → State → Result (Option Beginning) Refusal
 begin_context handle target scene h = of_target (buffers_at target h.streams)
   where
-    of_target : Option Buffers → State × Reply
-    of_target None = (h, answer code.Ok 0)
-    of_target (Some b) = begun_context handle target scene b h
+    -- the target of a live context is always kept
+    of_target : Option Buffers → Result (Option Beginning) Refusal
+    of_target None = Ok None
+    of_target (Some b) = do
+      _ ← target_ready handle target scene b h
+      Ok (Some (context_beginning handle target scene b))
 
 -- the active context above a handle: contexts stand by rising handle, so the first one has the least
 abbrev pub next_context : ℕ → List Context → Option Context
 next_context after contexts = find (λ c. c.active && nat_lt after c.handle) contexts
 
--- a frame of the next active context, where there is one
-abbrev pub begin_next : ℕ → State → State × Reply
-begin_next after h = if is_running h then (h, answer code.Busy 0) else of_context (next_context after h.core.contexts)
-  where
-    of_context : Option Context → State × Reply
-    of_context None = (h, answer code.Ok 0)
-    of_context (Some c) = begin_context c.handle c.target c.committed h
+-- a frame of a context's committed scene, where there is a context
+abbrev pub begin_shown : Option Context → State → Result (Option Beginning) Refusal
+begin_shown None h = Ok None
+begin_shown (Some c) h = begin_context c.handle c.target c.committed h
 
--- a frame of a port that shows a scene
-abbrev pub begun_port : ℕ → Scene → State → State × Reply
-begun_port p scene h =
-    if is_running h then (h, answer code.Busy 0)
-    else (if all_begun h then (h, answer code.Limit 0)
-    else (let job : Job = job_of (kind.Port p) scene Rgba8Pre h in
-    (with_job job h, with_payload p job)))
+-- a frame of the next active context, where there is one
+abbrev pub begin_next : ℕ → State → Result (Option Beginning) Refusal
+begin_next after h = do
+  _ ← refuse code.Busy (is_running h)
+  begin_shown (next_context after h.core.contexts) h
 
 -- a frame of a port, which is counted from 1
-abbrev pub begin_port : ℤ → State → State × Reply
-begin_port p h = of_scene (port_scene (count_of p) h.display)
-  where
-    of_scene : Option Scene → State × Reply
-    of_scene None = (h, answer code.BadHandle 0)
-    of_scene (Some scene) = begun_port (count_of p) scene h
+abbrev pub port_beginning : ℤ → Scene → Beginning
+port_beginning p scene = record { kind = kind.Port (count_of p); scene = scene; format = Rgba8Pre; value = count_of p }
+
+abbrev pub begin_port : ℤ → State → Result (Option Beginning) Refusal
+begin_port p h = do
+  scene ← found code.BadHandle (port_scene (count_of p) h.display)
+  _ ← refuse code.Busy (is_running h)
+  _ ← refuse code.Limit (all_begun h)
+  Ok (Some (port_beginning p scene))
+
+-- the frame that a call begins, where it begins one, or its refusal; a call of another part begins none
+abbrev pub begin_call : Call → State → Result (Option Beginning) Refusal
+begin_call (call.BeginNext after) h = begin_next after h
+begin_call (call.BeginPort port) h = begin_port port h
+begin_call _ h = Ok None
+
+-- a frame begins, and its Job is answered
+abbrev pub start : Beginning → State → State × Reply
+start b h = (with_job (job_of b h) h, gives_job b.value (job_of b h))
+
+-- what a call that begins a frame leaves and answers
+abbrev pub started : State → Result (Option Beginning) Refusal → State × Reply
+started h (Ok None) = (h, bare (done 0))
+started h (Ok (Some b)) = start b h
+started h (Err r) = (h, bare (refused r))
 
 -- the end of a frame
 
@@ -189,8 +212,13 @@ abbrev pub end : Job → State → State × Reply
 end job h = of_frame h.frame
   where
     back : State × Reply
-    back = (h, record { code = code.BadHandle; value = 0; payload = payload.Job job })
+    back = (h, gives_back_job job)
 
     of_frame : Option Running → State × Reply
     of_frame None = back
-    of_frame (Some f) = if is_of_frame job f then (end_frame job h, answer code.Ok 0) else back
+    of_frame (Some f) = if is_of_frame job f then (end_frame job h, bare (done 0)) else back
+
+-- what the call that ends a frame leaves and answers; any other does nothing here
+abbrev pub end_call : Call → State → State × Reply
+end_call (call.End job) h = end job h
+end_call _ h = (h, bare (done 0))

@@ -1,13 +1,16 @@
--- The machine in plain lists and numbers: its state, what names a stream, the picture of a scene, frames, and the step of
--- each call.
+-- The plain machine: its state, what a call does and answers, and the picture of a scene.
+pub mod Outcome
+pub mod Objects
+pub mod Composition
+pub mod Core
 pub mod State
 pub mod Names
-pub mod Outcome
 pub mod Picture
 pub mod Display
 pub mod Frames
 pub mod Streams
-pub mod Step
-pub mod Composition
-pub mod Core
 pub mod Composing
+pub mod Registers
+pub mod Step
+pub mod Beginnings
+pub mod Effects

@@ -6,8 +6,7 @@ use Rattle.wf_stream.specs.Streams.{KeptStream}
 use Rattle.wf_scene.specs.declared.Layer.{Layer}
 use Rattle.wf_calls.specs.declared.call.JobKind.{JobKind}
 use Rattle.wf_calls.specs.declared.call.JobKind.TheVariants as kind
-use Rattle.wf_model.specs.declared.Context.{Context}
-use Rattle.wf_model.specs.Composition.{CoreState}
+use Rattle.wf_model.specs.Objects.{Context, CoreState}
 use Rattle.wf_model.specs.State.{DisplayState, Running, State}
 
 -- a stream's live handle, and its write buffer that is out

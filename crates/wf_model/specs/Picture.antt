@@ -1,5 +1,6 @@
 -- The picture of a scene: each pixel is asked from the topmost layer down.
 use Rattle.std.specs.Prelude.{◌≡◌, ◌≢◌, ℕ, ◌≤ℤ◌, ℤ, pos, List, [], ◌∷◌, map, reverse, All, Option, Some, None, IfSome, IsTrue, if◌then◌else◌}
+use Rattle.wf_words.specs.Options.{◌>>=◌}
 use Rattle.wf_pixel.specs.declared.Rgba.{Rgba}
 use Rattle.wf_pixel.specs.declared.Rect.{Rect}
 use Rattle.wf_pixel.specs.declared.Format.{Format}
@@ -13,12 +14,6 @@ use Rattle.wf_image.specs.Contents.{image_of}
 use Rattle.wf_scene.specs.declared.Layer.{Layer}
 use Rattle.wf_scene.specs.declared.Scene.{Scene}
 use Rattle.wf_scene.specs.Layers.{holds_rect}
-
-infixl 10 ◌>>=◌
--- go on with the value, or with none
-abbrev pub ◌>>=◌ : {A B : Type 0} → Option A → (A → Option B) → Option B
-None >>= f = None
-(Some x) >>= f = f x
 
 -- the images of a frame by stream
 abbrev pub Images : Type 0

@@ -10,8 +10,8 @@ use Rattle.wf_stream.specs.Streams.{KeptStream}
 use Rattle.wf_calls.specs.declared.call.JobKind.{JobKind}
 use Rattle.wf_calls.specs.declared.ports.Modes.{Modes}
 use Rattle.wf_calls.specs.declared.ports.Ports.{Ports}
-use Rattle.wf_model.specs.declared.Content.{Content}
-use Rattle.wf_model.specs.Composition.{CoreState, no_objects}
+pub use Rattle.wf_model.specs.declared.Content.{Content}
+use Rattle.wf_model.specs.Objects.{CoreState, no_objects}
 
 -- a port, which shows the screen that is the stream of its own number: the sizes of its modes, of which it shows
 -- the first

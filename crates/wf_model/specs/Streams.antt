@@ -1,5 +1,6 @@
 -- The calls on streams.
-use Rattle.std.specs.Prelude.{ℕ, ◌+◌, Bool, false, not, ◌&&◌, ◌||◌, ℤ, pos, [], ◌∷◌, ◌++◌, map, Option, Some, None, Result, Ok, Err, if◌then◌else◌}
+use Rattle.std.specs.Prelude.{ℕ, ◌+◌, Bool, false, not, ◌&&◌, ◌||◌, ℤ, pos, [], ◌∷◌, ◌++◌, map, Option, Some, None, Result, Ok, Err}
+use Rattle.std.specs.Prelude.{if◌then◌else◌}
 use Rattle.wf_words.specs.Refusals.{◌>>=◌}
 use Rattle.wf_words.specs.Whole.{count_of}
 use Rattle.wf_pixel.specs.declared.Size.{Size}
@@ -9,31 +10,32 @@ use Rattle.wf_image.specs.declared.canvas.Canvas.{Canvas}
 use Rattle.wf_image.specs.Bitmap.{blank}
 use Rattle.wf_life.specs.Handles.{is_full}
 use Rattle.wf_stream.specs.declared.Held.{Held}
-use Rattle.wf_stream.specs.Buffers.{Buffers, fresh, acquired, is_blocked}
-use Rattle.wf_stream.specs.Streams.{KeptStream, stream_at, stream_of, change_stream, held, has_no_room, unnamed}
+use Rattle.wf_stream.specs.Buffers.{Buffers, acquired, discarded, fresh, is_blocked, posted}
+use Rattle.wf_stream.specs.Streams.{KeptStream, stream_at, change_stream, held, has_no_room, unnamed}
+use Rattle.wf_calls.specs.Replies.{bare, done, gives_back_canvas, gives_canvas, refused}
+use Rattle.wf_calls.specs.declared.call.Call.{Call}
+use Rattle.wf_calls.specs.declared.call.Call.TheVariants as call
 use Rattle.wf_calls.specs.declared.code.Code.TheVariants as code
-use Rattle.wf_calls.specs.declared.code.Refusal.{Refusal}
-use Rattle.wf_calls.specs.declared.call.Payload.TheVariants as payload
-use Rattle.wf_calls.specs.declared.call.Reply.{Reply}
+use Rattle.wf_calls.specs.declared.reply.Refusal.{Refusal}
+use Rattle.wf_calls.specs.declared.reply.Reply.{Reply}
 use Rattle.wf_calls.specs.declared.call.StatWord.{StatWord}
 use Rattle.wf_calls.specs.declared.call.StatWord.TheVariants as stat_word
 use Rattle.wf_model.specs.State.{State}
 use Rattle.wf_model.specs.Frames.{is_target}
-use Rattle.wf_model.specs.Outcome.{Outcome, refuse, found, answer}
+use Rattle.wf_model.specs.Composition.{live_stream}
+use Rattle.wf_model.specs.Outcome.{Outcome, refuse}
 
-abbrev pub size_of : ℤ → ℤ → Size
-size_of width height = record { w = count_of width; h = count_of height }
+-- the size of two numbers of a call
+abbrev pub size_from : ℤ → ℤ → Size
+size_from width height = record { w = count_of width; h = count_of height }
 
 -- a number of a call is a side
 abbrev pub is_wide_side : ℤ → Bool
 is_wide_side z = is_between (pos 1) (pos 1024) z
 
 -- the sides and the buffers of a stream are in their ranges
-abbrev pub is_stream : ℤ → ℤ → ℤ → Bool
-is_stream width height buffers = is_wide_side width && is_wide_side height && is_between (pos 2) (pos 4) buffers
-
-abbrev pub live_stream : ℕ → State → Result KeptStream Refusal
-live_stream handle h = found code.BadHandle (stream_of handle h.streams)
+abbrev pub may_make : ℤ → ℤ → ℤ → Bool
+may_make width height buffers = is_wide_side width && is_wide_side height && is_between (pos 2) (pos 4) buffers
 
 -- one more stream, whose handle is answered
 abbrev pub stream_made : Buffers → State → State × ℕ
@@ -43,13 +45,13 @@ stream_made new h =
 
 -- the buffers of a new stream
 abbrev pub new_buffers : ℤ → ℤ → Format → ℤ → Buffers
-new_buffers width height format buffers = fresh (size_of width height) format (count_of buffers)
+new_buffers width height format buffers = fresh (size_from width height) format (count_of buffers)
 
 abbrev pub stream_new : ℤ → ℤ → Format → ℤ → Bool → State → Outcome State
 stream_new width height format buffers memory_refused h =
     let new : Buffers = new_buffers width height format buffers in
     do
-      _ ← refuse code.IllegalArgument (not (is_stream width height buffers))
+      _ ← refuse code.IllegalArgument (not (may_make width height buffers))
       _ ← refuse code.Limit (has_no_room new h.streams || is_full h.made)
       _ ← refuse code.OutOfMemory memory_refused
       Ok (stream_made new h)
@@ -63,7 +65,7 @@ canvas_of s = record { stream = s.number; image = blank s.buffers.size s.buffers
 -- the stream whose write buffer a client gets
 abbrev pub acquirable : ℕ → State → Result KeptStream Refusal
 acquirable handle h = do
-  s ← live_stream handle h
+  s ← live_stream handle h.streams
   _ ← refuse code.Busy s.buffers.out
   _ ← refuse code.NoBuffer (is_blocked s.buffers)
   Ok s
@@ -81,8 +83,7 @@ is_out_at_client canvas h = not (is_target canvas.stream h.frame) && is_out_of c
 -- a canvas comes back to its stream, or to its client
 abbrev pub canvas_back : Canvas → (Buffers → Buffers) → State → State × Reply
 canvas_back canvas f h =
-    if is_out_at_client canvas h then (with_stream canvas.stream f h, answer code.Ok 0)
-    else (h, record { code = code.BadHandle; value = 0; payload = payload.Canvas canvas })
+    if is_out_at_client canvas h then (with_stream canvas.stream f h, bare (done 0)) else (h, gives_back_canvas canvas)
 
 abbrev pub stat : StatWord → Held → ℕ
 stat stat_word.Streams held = held.streams
@@ -91,15 +92,30 @@ stat stat_word.Bytes held = held.bytes
 -- the handle of a stream is dead; the stream is kept while something else names it
 abbrev pub stream_destroy : ℕ → State → Outcome State
 stream_destroy handle h = do
-  _ ← live_stream handle h
+  _ ← live_stream handle h.streams
   Ok (record h { streams = map (unnamed handle) h.streams }, 0)
 
 -- a call that makes or destroys a stream
 abbrev pub stream_step : State → Outcome State → State × Reply
-stream_step h (Ok done) = (done.0, answer code.Ok done.1)
-stream_step h (Err r) = (h, answer r.code r.value)
+stream_step h (Ok x) = (x.0, bare (done x.1))
+stream_step h (Err r) = (h, bare (refused r))
 
 abbrev pub acquire_step : State → Result KeptStream Refusal → State × Reply
-acquire_step h (Ok s) =
-    (with_stream s.number acquired h, record { code = code.Ok; value = 0; payload = payload.Canvas (canvas_of s) })
-acquire_step h (Err r) = (h, answer r.code r.value)
+acquire_step h (Ok s) = (with_stream s.number acquired h, gives_canvas (canvas_of s))
+acquire_step h (Err r) = (h, bare (refused r))
+
+-- what a call on streams leaves and answers; memory_refused marks the creation for which there is no memory. A call of
+-- another part does nothing here.
+abbrev pub stream_call : Bool → Call → State → State × Reply
+stream_call memory_refused (call.StreamNew width height format buffers) h =
+    stream_step h (stream_new width height format buffers memory_refused h)
+stream_call memory_refused (call.StreamDestroy stream) h = stream_step h (stream_destroy stream h)
+stream_call memory_refused (call.Stat what) h = (h, bare (done (stat what (held h.streams))))
+stream_call memory_refused _ h = (h, bare (done 0))
+
+-- what a call on a write buffer leaves and answers. A call of another part does nothing here.
+abbrev pub buffer_call : Call → State → State × Reply
+buffer_call (call.Acquire stream) h = acquire_step h (acquirable stream h)
+buffer_call (call.Post canvas) h = canvas_back canvas (posted canvas.image) h
+buffer_call (call.Discard canvas) h = canvas_back canvas discarded h
+buffer_call _ h = (h, bare (done 0))

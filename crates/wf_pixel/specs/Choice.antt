@@ -1,7 +1,8 @@
 -- Small tests that the other definitions share.
-use Rattle.std.specs.Prelude.{ℕ, Bool, true, false, ◌&&◌, ◌==◌, nat_le, ℤ, int_le}
+use Rattle.std.specs.Prelude.{ℕ, Bool, true, false, ◌&&◌, ◌==◌, nat_le, ℤ, pos, negsuc, int_le}
 use Rattle.wf_pixel.specs.declared.Format.{Format}
 use Rattle.wf_pixel.specs.declared.Format.TheVariants.{Rgba8, Rgba8Pre, Rgbx8, A8}
+use Rattle.wf_pixel.specs.declared.Rgba.{Rgba}
 use Rattle.wf_pixel.specs.declared.Size.{Size}
 
 -- a side of an image, of a mode or of a stream
@@ -26,6 +27,24 @@ same_format _ _ = false
 -- a whole number between two bounds, both included
 abbrev pub is_between : ℤ → ℤ → ℤ → Bool
 is_between low high z = int_le low z && int_le z high
+
+-- the coordinates of a rectangle are between these, both included
+abbrev pub least_coordinate : ℤ
+least_coordinate = negsuc 16383
+
+abbrev pub most_coordinate : ℤ
+most_coordinate = pos 16384
+
+abbrev pub is_coordinate : ℤ → Bool
+is_coordinate z = is_between least_coordinate most_coordinate z
+
+-- and its sides are at most so long, before a side is asked for
+abbrev pub most_extent : ℕ
+most_extent = 16384
+
+-- opaque black
+abbrev pub black : Rgba
+black = record { r = 0; g = 0; b = 0; a = 255 }
 
 -- a mask's format, which has one byte for each pixel
 abbrev pub is_a8 : Format → Bool

@@ -1,11 +1,12 @@
 -- Which pixel of a source shows at a point: the point is sampled, turned back, flipped back.
-use Rattle.std.specs.Prelude.{ℕ, ◌+◌, ◌-◌, Bool, ℤ, pos, negsuc, ◌≤ℤ◌, ◌≤◌, nat_abs, option_and_then, option_map, Option, if◌then◌else◌}
+use Rattle.std.specs.Prelude.{ℕ, ◌+◌, ◌-◌, Bool, ℤ, ◌≤ℤ◌, ◌≤◌, nat_abs, option_and_then, option_map, Option, if◌then◌else◌}
 use Rattle.wf_pixel.specs.declared.Rect.{Rect}
 use Rattle.wf_pixel.specs.declared.Rotation.{Rotation}
 use Rattle.wf_pixel.specs.declared.Rotation.TheVariants.{R0, R90, R180, R270}
 use Rattle.wf_pixel.specs.declared.Size.{Size}
 use Rattle.wf_pixel.specs.Along.{along}
 use Rattle.wf_pixel.specs.Arithmetic.{samp}
+use Rattle.wf_pixel.specs.Choice.{least_coordinate, most_coordinate}
 
 -- a size after a turn
 abbrev pub turned : Rotation → Size → Size
@@ -50,7 +51,7 @@ pub record IsDrawn (r : Rect) : Type 0 where
   pub w_high : r.w ≤ 1024
   pub h_low : 1 ≤ r.h
   pub h_high : r.h ≤ 1024
-  pub x_low : negsuc 16383 ≤ℤ r.x
-  pub x_high : r.x ≤ℤ pos 16384
-  pub y_low : negsuc 16383 ≤ℤ r.y
-  pub y_high : r.y ≤ℤ pos 16384
+  pub x_low : least_coordinate ≤ℤ r.x
+  pub x_high : r.x ≤ℤ most_coordinate
+  pub y_low : least_coordinate ≤ℤ r.y
+  pub y_high : r.y ≤ℤ most_coordinate

@@ -2,6 +2,9 @@
 //! source shows at a point.
 #![tactic(auto)]
 
+ghost use Rattle.std.specs.Prelude.{◌≡◌};
+ghost use Rattle.wf_pixel.specs.Choice.{is_a8};
+
 mod arithmetic;
 mod place;
 #[cfg(test)]
@@ -19,6 +22,16 @@ pub struct Rgba {
     pub a: u8,
 }
 
+impl Rgba {
+    /// Opaque black.
+    pub const BLACK: Rgba = Rgba {
+        r: 0,
+        g: 0,
+        b: 0,
+        a: 255,
+    };
+}
+
 /// How the bytes of a pixel are read.
 #[derive(Clone, Copy, Debug, PartialEq, Eq)]
 pub enum Format {
@@ -30,6 +43,15 @@ pub enum Format {
     Rgbx8,
     /// One byte of alpha, for masks.
     A8,
+}
+
+impl Format {
+    /// Whether this is the format of masks.
+    pub fn is_a8(self) -> bool
+        ensures { result ≡ is_a8 self }
+    {
+        matches!(self, Format::A8)
+    }
 }
 
 /// Width and height in pixels.

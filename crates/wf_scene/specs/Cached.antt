@@ -13,7 +13,8 @@ use Rattle.wf_scene.specs.declared.attributes.ContextAttr.TheVariants as context
 use Rattle.wf_scene.specs.declared.attributes.Refused.{Refused}
 use Rattle.wf_scene.specs.declared.attributes.Refused.TheVariants as refused
 use Rattle.wf_scene.specs.declared.element.Element.{Element}
-use Rattle.wf_scene.specs.Values.{component, is_coordinate, turn_of, colour_of, degrees, colour_numbers, at_index}
+use Rattle.wf_scene.specs.Values.{component, turn_of, colour_of, degrees, colour_numbers, at_index}
+use Rattle.wf_pixel.specs.Choice.{black, is_coordinate}
 use Rattle.wf_scene.specs.Elements.{new_element, change_of, numbers}
 use Rattle.wf_scene.specs.Order as order
 use Rattle.wf_scene.specs.Order.{AreApart}
@@ -27,9 +28,6 @@ pub record CachedScene : Type 0 where
   pub background : Rgba
   pub elements : List Element
   pub order : List ℕ
-
-abbrev pub black : Rgba
-black = record { r = 0; g = 0; b = 0; a = 255 }
 
 -- without elements
 abbrev pub empty : Size → Bool → CachedScene

@@ -7,7 +7,9 @@ use Rattle.wf_pixel.specs.declared.Rect.{Rect}
 use Rattle.wf_scene.specs.declared.attributes.ElementAttr.{ElementAttr}
 use Rattle.wf_scene.specs.declared.attributes.ElementAttr.TheVariants as attr
 use Rattle.wf_scene.specs.declared.element.Element.{Element}
-use Rattle.wf_scene.specs.Values.{◌>>=◌, component, is_coordinate, coordinate_of, extent_of, rect_of, flag_of, turn_of, filter_of, transparency_of, channel_of}
+use Rattle.wf_words.specs.Options.{◌>>=◌}
+use Rattle.wf_scene.specs.Values.{component, coordinate_of, extent_of, rect_of, flag_of, turn_of, filter_of, transparency_of, channel_of}
+use Rattle.wf_pixel.specs.Choice.{is_coordinate}
 use Rattle.wf_scene.specs.Elements.{change_of, with_dest, with_src, with_flip, with_turn, with_filter, with_transparency, with_alpha, with_source, with_mask}
 use Rattle.wf_scene.specs.Cached.{is_placed}
 

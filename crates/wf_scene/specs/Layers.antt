@@ -4,7 +4,7 @@ use Rattle.wf_pixel.specs.declared.Rect.{Rect}
 use Rattle.wf_pixel.specs.declared.Size.{Size}
 use Rattle.wf_pixel.specs.declared.Rotation.TheVariants.{R0}
 use Rattle.wf_scene.specs.declared.Layer.{Layer}
-use Rattle.wf_scene.specs.Values.{is_coordinate}
+use Rattle.wf_pixel.specs.Choice.{is_coordinate}
 
 abbrev pub nowhere : Rect
 nowhere = record { x = pos 0; y = pos 0; w = 0; h = 0 }

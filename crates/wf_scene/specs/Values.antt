@@ -1,7 +1,8 @@
 -- What the numbers of a call stand for, and the numbers in which an attribute is answered.
 use Rattle.std.specs.Prelude.{ℕ, ◌+◌, ◌-◌, ◌*◌, ◌^◌, Bool, true, false, ◌==◌, ℤ, pos, negsuc, List, [], ◌∷◌, find, slice_get, slice_index_or, Option, Some, None, if◌then◌else◌}
+use Rattle.wf_words.specs.Options.{◌>>=◌}
 use Rattle.wf_words.specs.Whole.{count_of}
-use Rattle.wf_pixel.specs.Choice.{is_between}
+use Rattle.wf_pixel.specs.Choice.{is_between, is_coordinate, most_extent}
 use Rattle.wf_pixel.specs.declared.Rect.{Rect}
 use Rattle.wf_pixel.specs.declared.Rgba.{Rgba}
 use Rattle.wf_pixel.specs.declared.Rotation.{Rotation}
@@ -16,12 +17,9 @@ component value i = slice_index_or value i (pos 0)
 
 -- ranges
 
-abbrev pub is_coordinate : ℤ → Bool
-is_coordinate z = is_between (negsuc 16383) (pos 16384) z
-
 -- a side of a rectangle, which may be 0
 abbrev pub is_extent : ℤ → Bool
-is_extent z = is_between (pos 0) (pos 16384) z
+is_extent z = is_between (pos 0) (pos most_extent) z
 
 abbrev pub is_channel : ℤ → Bool
 is_channel z = is_between (pos 0) (pos 255) z
@@ -31,12 +29,6 @@ abbrev pub is_handle : ℤ → Bool
 is_handle z = is_between (pos 0) (pos (2 ^ 32 - 1)) z
 
 -- from numbers to values, none outside the range
-
-infixl 10 ◌>>=◌
--- go on with the value, or with none
-abbrev pub ◌>>=◌ : {A B : Type 0} → Option A → (A → Option B) → Option B
-None >>= f = None
-(Some x) >>= f = f x
 
 abbrev pub coordinate_of : ℤ → Option ℤ
 coordinate_of z = if is_coordinate z then Some z else None

@@ -10,7 +10,8 @@ use Rattle.wf_words.specs.Whole.{count_of}
 use Rattle.wf_pixel.specs.declared.Rgba.{Rgba}
 use Rattle.wf_image.specs.declared.paint.Paint.{Paint}
 use Rattle.wf_image.specs.declared.paint.Paint.TheVariants as paint
-use Rattle.wf_image.specs.Paints.{is_paint, is_coordinate}
+use Rattle.wf_image.specs.Paints.{is_paint}
+use Rattle.wf_pixel.specs.Choice.{is_coordinate}
 use Rattle.wf_script.specs.declared.paint_form.PaintForm.{PaintForm}
 use Rattle.wf_script.specs.declared.paint_form.PaintForm.TheVariants as paint_form
 use Rattle.wf_script.specs.declared.rule.Rule.{Rule}

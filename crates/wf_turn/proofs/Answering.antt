@@ -7,9 +7,9 @@ use Rattle.wf_scene.specs.declared.Scene.{Scene}
 use Rattle.wf_calls.specs.declared.call.Job.{Job}
 use Rattle.wf_calls.specs.declared.call.JobKind.{JobKind}
 use Rattle.wf_calls.specs.declared.call.JobKind.TheVariants as kind
-use Rattle.wf_calls.specs.declared.call.Payload.{Payload}
-use Rattle.wf_calls.specs.declared.call.Payload.TheVariants as payload
-use Rattle.wf_calls.specs.declared.call.Reply.{Reply}
+use Rattle.wf_calls.specs.declared.reply.Payload.{Payload}
+use Rattle.wf_calls.specs.declared.reply.Payload.TheVariants as payload
+use Rattle.wf_calls.specs.declared.reply.Reply.{Reply}
 use Rattle.wf_calls.specs.Codes.{is_ok_code}
 use Rattle.wf_film.specs.Film.{Frame}
 use Rattle.wf_machine.specs.Object.{SameImage, SameJob, SamePayload}

@@ -1,5 +1,5 @@
 -- The eight programs of a show: one of them changed, and names handed on.
-use Rattle.std.proofs.Common.{◌≡◌, ◌∙◌, ℕ, zero, suc, ◌+◌, ◌-◌, ◌<◌, Bool, true, false, not, cond, ◌&&◌, List, [], ◌∷◌, map, length, Option, Some, None, refl, sym, ap, subst, arith, set, get_or}
+use Rattle.std.proofs.Common.{◌≡◌, ◌∙◌, ℕ, zero, suc, ◌+◌, ◌-◌, Bool, true, false, not, cond, ◌&&◌, List, [], ◌∷◌, map, Option, Some, None, refl, sym, ap, subst, arith, set, get_or}
 use Rattle.std.specs.Prelude.{slice_get, sum_by}
 use Rattle.std.specs.Option.{IfSome}
 use Rattle.std.proofs.lemmas.List.Sums.{sum_by-cons}
@@ -10,6 +10,7 @@ use Rattle.wf_turn.specs.Quota.{all_left, left}
 use Rattle.wf_turn.specs.Ready.{AreOf, IsFit}
 use Rattle.wf_turn.specs.Turns.{all_taught, handed_on, is_setting_up}
 use Rattle.wf_turn.proofs.Fitting.{fit_taught}
+use Rattle.wf_words.specs.Places.{get_map}
 
 -- what is known of the program of a client
 pub record IsOf (script : PlainScript) (client : ℕ) (p : Program) : Type 0 where
@@ -58,27 +59,6 @@ module _ {A : Type 0} (f : Program → A) (same : (clock p : Program) → f (tau
   pub handed_same : (before now : List Program) → map f (handed_on before now) ≡ map f now
   handed_same before now =
       elim (is_setting_up before && not (is_setting_up now)) as (λ b. map f (cond b (all_taught now) now) ≡ map f now) [ true ↦ taught_same now | false ↦ refl ]
-
-pub get_map : {A B : Type 0} (f : A → B) (xs : List A) (i : ℕ) (x : A) → slice_get xs i ≡ Some x → slice_get (map f xs) i ≡ Some (f x)
-get_map f [] i x found = absurd cc
-get_map f (y ∷ ys) zero x found = (let same : y ≡ x = cc in ap (λ (z : _). Some (f z)) same)
-get_map f (y ∷ ys) (suc i) x found = get_map f ys i x found
-
-pub map_set : {A B : Type 0} (f : A → B) (xs : List A) (i : ℕ) (x y : A) → slice_get xs i ≡ Some x → f y ≡ f x → map f (set xs i y) ≡ map f xs
-map_set f [] i x y found same = refl
-map_set f (z ∷ xs) zero x y found same = (let is : x ≡ z = cc in ap (λ (w : _). w ∷ map f xs) (same ∙ ap f is))
-map_set f (z ∷ xs) (suc i) x y found same = ap (λ (ws : List _). f z ∷ ws) (map_set f xs i x y found same)
-
-pub get_set : {A : Type 0} (xs : List A) (i : ℕ) (x y : A) → slice_get xs i ≡ Some x → slice_get (set xs i y) i ≡ Some y
-get_set [] i x y found = absurd cc
-get_set (z ∷ xs) zero x y found = refl
-get_set (z ∷ xs) (suc i) x y found = get_set xs i x y found
-
-pub length_map : {A B : Type 0} (f : A → B) (xs ys : List A) → map f xs ≡ map f ys → length xs ≡ length ys
-length_map f [] [] same = refl
-length_map f [] (y ∷ ys) same = absurd cc
-length_map f (x ∷ xs) [] same = absurd cc
-length_map f (x ∷ xs) (y ∷ ys) same = ap suc (length_map f xs ys cc)
 
 sum_map : (ps : List Program) → all_left ps ≡ sum_by (λ (n : ℕ). n) (map left ps)
 sum_map [] = refl
@@ -131,14 +111,6 @@ shown_handed painted before now i q found =
     taught_shown [] j r found = absurd cc
     taught_shown (clock ∷ others) zero r found = (let same : clock ≡ r = cc in ap (frames_if painted) same)
     taught_shown (clock ∷ others) (suc j) r found = rw (get_map (taught clock) others j r found) refl
-
-pub get_within : {A : Type 0} (xs : List A) (i : ℕ) (x : A) → i < length xs → x ≡ get_or xs i x → slice_get xs i ≡ Some x
-get_within xs i x within is = at xs i within ∙ ap (λ (y : _). Some y) (sym is)
-  where
-    at : (ys : List _) (j : ℕ) → j < length ys → slice_get ys j ≡ Some (get_or ys j x)
-    at [] j within = absurd (omega (arith, within))
-    at (y ∷ ys) zero within = refl
-    at (y ∷ ys) (suc j) within = at ys j (omega (arith, within))
 
 -- the program of another client than the clock's
 pub other_is : (clock : Program) (others : List Program) (client : ℕ) (d : Program) → (client ≡ 0 → ⊥) → d ≡ get_or others (client - 1) d → (o : Option Program) → slice_get (clock ∷ others) client ≡ o → IfSome o (λ p. p ≡ d)

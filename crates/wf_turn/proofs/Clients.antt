@@ -13,7 +13,8 @@ use Rattle.wf_script.specs.Script.{PlainScript}
 use Rattle.wf_turn.specs.Playing.{IsCast, StandsOwn, may_turn}
 use Rattle.wf_turn.specs.Program.{Program, place_of, setup_lines}
 use Rattle.wf_turn.specs.Turns.{Show}
-use Rattle.wf_turn.proofs.Casts.{at_client, get_within}
+use Rattle.wf_turn.proofs.Casts.{at_client}
+use Rattle.wf_words.specs.Places.{get_within}
 
 abbrev Best : Type 0
 Best = Option (ℕ × ℕ)

@@ -1,25 +1,24 @@
 -- The Job that a program holds, and whether that is not painted yet: what is true of both stays true through an answer.
-use Rattle.std.proofs.Common.{◌≡◌, ℕ, zero, suc, ◌+◌, Bool, true, false, not, cond, ◌==◌, ◌&&◌, ◌||◌, List, [], ◌∷◌, map, Option, Some, None, refl, subst, set}
-use Rattle.std.specs.Prelude.{nat_lt, slice_get}
-use Rattle.std.specs.List.{range_with_len}
+use Rattle.std.proofs.Common.{◌≡◌, ℕ, zero, suc, ◌+◌, Bool, true, false, not, cond, ◌==◌, ◌&&◌, ◌||◌, List, [], ◌∷◌, map, Option, Some, None, refl, set}
+use Rattle.std.specs.Prelude.{nat_lt}
 use Rattle.wf_image.specs.declared.canvas.Canvas.{Canvas}
 use Rattle.wf_image.specs.declared.paint.Paint.{Paint}
-use Rattle.wf_calls.specs.declared.call.Call.{Call}
 use Rattle.wf_calls.specs.declared.call.Job.{Job}
-use Rattle.wf_calls.specs.declared.call.Payload.{Payload}
-use Rattle.wf_calls.specs.declared.call.Payload.TheVariants as payload
-use Rattle.wf_calls.specs.declared.call.Reply.{Reply}
-use Rattle.wf_machine.specs.Object.{is_begin}
+use Rattle.wf_calls.specs.declared.reply.Payload.{Payload}
+use Rattle.wf_calls.specs.declared.reply.Payload.TheVariants as payload
+use Rattle.wf_calls.specs.declared.reply.Reply.{Reply}
+use Rattle.wf_calls.specs.Parts.{is_begin}
 use Rattle.wf_script.specs.declared.line.Line.{Line}
 use Rattle.wf_script.specs.Script.{PlainScript}
 use Rattle.wf_turn.specs.declared.stage.Leg.{Leg}
 use Rattle.wf_turn.specs.declared.stage.Leg.TheVariants as leg
 use Rattle.wf_turn.specs.declared.stage.Stage.TheVariants as stage
 use Rattle.wf_turn.specs.declared.stage.Wanted.{Wanted}
-use Rattle.wf_turn.specs.Calls.{plain_call}
-use Rattle.wf_turn.specs.Program.{Program, handle, at_port, given_canvas, go_on, line_done, next, port_count, program, taught, took, took_frame, took_job}
+use Rattle.wf_turn.specs.Program.{Program, at_port, given_canvas, go_on, line_done, next, port_count, program, taught, took, took_frame, took_job}
 use Rattle.wf_turn.specs.Turns.{all_taught, handed_on, is_setting_up}
-use Rattle.wf_turn.proofs.Cases.{all_some, turn_case}
+use Rattle.wf_words.specs.Each.{each_mapped, each_set}
+use Rattle.std.specs.List.{AllByRecursion, range_with_len}
+use Rattle.wf_turn.proofs.Cases.{asks_begin, turn_case}
 
 module _ (Q : Option Job → Bool → Type 0) where
   abbrev pub Holds : Program → Type 0
@@ -52,53 +51,40 @@ module _ (Q : Option Job → Bool → Type 0) where
   job_holds p (payload.Canvas canvas) l holds comes = on_holds p l holds
 
   -- the answer to its next call
-  module _ (none : Q None false) (p : Program) (w : Wanted) (reply : Reply) (holds : Q p.job p.unpainted) (comes : is_begin w.call ≡ true → (job : Job) → reply.payload ≡ payload.Job job → Q (Some job) true) where
-    abbrev Kept : Call → (Reply → Program) → Type 0
-    Kept c now = (is_begin c ≡ true → (job : Job) → reply.payload ≡ payload.Job job → Q (Some job) true) → Holds (now reply)
+  module _ (none : Q None false) (p : Program) (w : Wanted) (reply : Reply) (holds : Q p.job p.unpainted)
+      (comes : is_begin w.call ≡ true → (job : Job) → reply.payload ≡ payload.Job job → Q (Some job) true) where
+    abbrev Kept : Wanted → (Reply → Program) → Type 0
+    Kept x now = (is_begin x.call ≡ true → (job : Job) → reply.payload ≡ payload.Job job → Q (Some job) true) → Holds (now reply)
 
     pub took_holds : next p ≡ Some w → Holds (took p reply)
     took_holds asks =
         turn_case p Kept w
         (record {
-          acquire = λ s comes. done_holds (record p { canvas = given_canvas reply.payload }) 0 holds;
+          canvas = λ c still comes. done_holds (record p { canvas = given_canvas reply.payload }) 0 holds;
+          value = λ c still comes. done_holds p reply.value holds;
           frame = λ s paint comes. frame_holds p paint (given_canvas reply.payload) holds;
-          post = λ canvas comes. done_holds (record p { canvas = given_canvas reply.payload }) 0 holds;
-          discard = λ canvas comes. done_holds (record p { canvas = given_canvas reply.payload }) 0 holds;
-          plain = λ v. all_some (λ c. Kept c (λ r. line_done p r.value)) (λ c comes. done_holds p reply.value holds) (plain_call (handle p) v);
-          contexts = λ tick s after leg_of comes. job_holds (record p { tick = tick; stage = s }) reply.payload (leg_of reply.value) holds (comes refl);
-          port = λ port l comes. job_holds p reply.payload l holds (comes refl);
+          asks = λ l tick s leg_of at comes.
+              job_holds (record p { tick = tick; stage = s }) reply.payload (leg_of reply.value) holds (comes (asks_begin l));
           ended = λ job held l comes. on_holds (record p { job = None; unpainted = false }) l none;
         }) asks comes
 
   -- programs
 
   abbrev pub AllHold : List Program → Type 0
-  AllHold [] = Unit {0}
-  AllHold (p ∷ ps) = Holds p × AllHold ps
-
-  pub one_holds : (ps : List Program) (i : ℕ) (p : Program) → AllHold ps → slice_get ps i ≡ Some p → Holds p
-  one_holds [] i p all found = absurd cc
-  one_holds (q ∷ ps) zero p all found = (let same : q ≡ p = cc in subst Holds same all.0)
-  one_holds (q ∷ ps) (suc i) p all found = one_holds ps i p all.1 found
-
-  set_hold : (ps : List Program) (i : ℕ) (q : Program) → Holds q → AllHold ps → AllHold (set ps i q)
-  set_hold [] i q holds all = tt
-  set_hold (p ∷ ps) zero q holds all = (holds, all.1)
-  set_hold (p ∷ ps) (suc i) q holds all = (all.0, set_hold ps i q holds all.1)
-
-  mapped_hold : (clock : Program) (ps : List Program) → AllHold ps → AllHold (map (taught clock) ps)
-  mapped_hold clock [] all = tt
-  mapped_hold clock (p ∷ ps) all = (all.0, mapped_hold clock ps all.1)
+  AllHold ps = AllByRecursion Holds ps
 
   taught_hold : (ps : List Program) → AllHold ps → AllHold (all_taught ps)
   taught_hold [] all = tt
-  taught_hold (clock ∷ others) all = (all.0, mapped_hold clock others all.1)
+  taught_hold (clock ∷ others) all = (all.0, each_mapped Holds Holds (taught clock) (λ p holds. holds) others all.1)
 
   -- with one program changed, and the setup's names handed on
   pub handed_hold : (ps : List Program) (i : ℕ) (q : Program) → Holds q → AllHold ps → AllHold (handed_on ps (set ps i q))
   handed_hold ps i q holds all =
-      let now = set_hold ps i q holds all in
-      elim (is_setting_up ps && not (is_setting_up (set ps i q))) as (λ b. AllHold (cond b (all_taught (set ps i q)) (set ps i q))) [ true ↦ taught_hold (set ps i q) now | false ↦ now ]
+      let now = each_set Holds ps i q all holds in
+      elim (is_setting_up ps && not (is_setting_up (set ps i q))) as (λ b. AllHold (cond b (all_taught (set ps i q)) (set ps i q))) [
+        | true ↦ taught_hold (set ps i q) now
+        | false ↦ now
+      ]
 
   pub opening_hold : (none : Q None false) (script : PlainScript) (k n : ℕ) → AllHold (map (program script) (range_with_len k n))
   opening_hold none script k zero = tt

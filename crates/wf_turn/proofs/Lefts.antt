@@ -5,9 +5,9 @@ use Rattle.std.specs.Option.{is_some, option_map, IfSome}
 use Rattle.std.proofs.lemmas.List.Sums.{sum_by-cons}
 use Rattle.wf_image.specs.declared.canvas.Canvas.{Canvas}
 use Rattle.wf_image.specs.declared.paint.Paint.{Paint}
-use Rattle.wf_calls.specs.declared.call.Payload.{Payload}
-use Rattle.wf_calls.specs.declared.call.Payload.TheVariants as payload
-use Rattle.wf_calls.specs.declared.call.Reply.{Reply}
+use Rattle.wf_calls.specs.declared.reply.Payload.{Payload}
+use Rattle.wf_calls.specs.declared.reply.Payload.TheVariants as payload
+use Rattle.wf_calls.specs.declared.reply.Reply.{Reply}
 use Rattle.wf_script.specs.declared.line.Line.{Line}
 use Rattle.wf_script.specs.declared.line.Verb.{Verb}
 use Rattle.wf_script.specs.declared.line.Verb.TheVariants as verb

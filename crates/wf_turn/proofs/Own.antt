@@ -1,60 +1,24 @@
 -- The Job of a frame that begins is that frame's, painted or not.
-use Rattle.std.proofs.Common.{◌≡◌, ℕ, ◌+◌, true, false, not, cond, ◌==◌, List, [], ◌∷◌, map, length, Option, Some, None, refl, subst, arith}
-use Rattle.std.specs.Prelude.{filter}
+use Rattle.std.proofs.Common.{◌≡◌, ℕ, ◌+◌, true, false, ◌==◌, List, [], ◌∷◌, map, length, Option, Some, None, refl, subst, arith}
 use Rattle.std.specs.List.{list_all}
 use Rattle.std.proofs.lemmas.Bool.{eq-eqb}
 use Rattle.std.proofs.lemmas.Bool.Decides.{nat_tests}
 use Rattle.std.proofs.lemmas.List.{length-map}
-use Rattle.wf_words.specs.Keyed.{is_in, once}
+use Rattle.wf_words.specs.Keyed.{is_in}
 use Rattle.wf_pixel.specs.declared.Format.{Format}
 use Rattle.wf_pixel.specs.declared.Format.TheVariants as format
 use Rattle.wf_pixel.specs.declared.Size.{Size}
 use Rattle.wf_pixel.specs.Choice.{same_format, same_size}
 use Rattle.wf_image.specs.Bitmap.{Bitmap, drawn}
 use Rattle.wf_image.specs.Contents.{image_of}
-use Rattle.wf_scene.specs.declared.Scene.{Scene}
 use Rattle.wf_stream.specs.Streams.{KeptStream, stream_at}
 use Rattle.wf_calls.specs.declared.call.JobKind.{JobKind}
 use Rattle.wf_calls.specs.declared.call.JobKind.TheVariants as kind
-use Rattle.wf_model.specs.Frames.{content_shape, has_shape, is_of_frame, job_of, newest_images, newest_of, running_of, same_kind, scene_streams}
+use Rattle.wf_model.specs.Frames.{Beginning, content_shape, has_shape, is_of_frame, job_of, newest_images, newest_of, running_of, same_kind, scene_streams}
 use Rattle.wf_model.specs.Picture.{Images}
 use Rattle.wf_model.specs.State.{State}
 use Rattle.wf_turn.specs.Program.{painted_job}
-
--- each number stands once
-abbrev NoneTwice : List ℕ → Type 0
-NoneTwice [] = Unit {0}
-NoneTwice (n ∷ ns) = (is_in n ns ≡ false) × NoneTwice ns
-
-is_in-filter : (x n : ℕ) (ns : List ℕ) → is_in n ns ≡ false → is_in n (filter (λ y. not (y == x)) ns) ≡ false
-is_in-filter x n [] absent = refl
-is_in-filter x n (y ∷ ns) absent =
-    elim (y == n) as (λ b. (y == n) ≡ b → is_in n (cond (not (y == x)) (y ∷ filter (λ z. not (z == x)) ns) (filter (λ z. not (z == x)) ns)) ≡ false) [
-      | true ↦ λ here. absurd (let no : true ≡ false = rw here at absent in cc)
-      | false ↦ λ apart. (
-          let rest = is_in-filter x n ns (rw apart at absent) in
-          elim (y == x) as (λ b. is_in n (cond (not b) (y ∷ filter (λ z. not (z == x)) ns) (filter (λ z. not (z == x)) ns)) ≡ false) [ true ↦ rest | false ↦ rw apart rest ])
-    ] refl
-
-without_itself : (x : ℕ) (ns : List ℕ) → is_in x (filter (λ y. not (y == x)) ns) ≡ false
-without_itself x [] = refl
-without_itself x (y ∷ ns) =
-    elim (y == x) as (λ b. (y == x) ≡ b → is_in x (cond (not b) (y ∷ filter (λ z. not (z == x)) ns) (filter (λ z. not (z == x)) ns)) ≡ false) [
-      | true ↦ λ here. without_itself x ns
-      | false ↦ λ apart. rw apart (without_itself x ns)
-    ] refl
-
-none_filter : (x : ℕ) (ns : List ℕ) → NoneTwice ns → NoneTwice (filter (λ y. not (y == x)) ns)
-none_filter x [] none = tt
-none_filter x (y ∷ ns) none =
-    elim (y == x) as (λ b. NoneTwice (cond (not b) (y ∷ filter (λ z. not (z == x)) ns) (filter (λ z. not (z == x)) ns))) [
-      | true ↦ none_filter x ns none.1
-      | false ↦ (is_in-filter x y ns none.0, none_filter x ns none.1)
-    ]
-
-once_none : (ns : List ℕ) → NoneTwice (once ns)
-once_none [] = tt
-once_none (x ∷ ns) = (without_itself x (once ns), none_filter x (once ns) (once_none ns))
+use Rattle.wf_words.specs.Once.{NoneTwice, once_none_twice}
 
 -- no stream has two images
 abbrev Apart : Images → Type 0
@@ -111,9 +75,11 @@ all_shaped (p ∷ xs) apart whole within =
         ] refl
 
 -- the Job of a frame that begins, painted
-pub own_job : (k : JobKind) (scene : Scene) (f : Format) (h : State) → is_of_frame (painted_job (job_of k scene f h)) (running_of (job_of k scene f h)) ≡ true
+pub own_job : (b : Beginning) (h : State) → is_of_frame (painted_job (job_of b h)) (running_of (job_of b h)) ≡ true
 unfolding drawn
-own_job k scene f h =
-    let images = newest_images (scene_streams scene) h.streams in
-    let shaped = all_shaped images (newest_apart (scene_streams scene) h.streams (once_none _)) images (λ n i found. found) in
-    rw (eq-eqb (h.begun + 1) (h.begun + 1) refl, same_kinds k, same_sizes scene.size, same_formats f, length-map images content_shape, eq-eqb (length images) (length images) refl) shaped
+own_job b h =
+    let streams = scene_streams b.scene in
+    let images = newest_images streams h.streams in
+    let shaped = all_shaped images (newest_apart streams h.streams (once_none_twice _)) images (λ n i found. found) in
+    rw (eq-eqb (h.begun + 1) (h.begun + 1) refl, same_kinds b.kind, same_sizes b.scene.size, same_formats b.format,
+        length-map images content_shape, eq-eqb (length images) (length images) refl) shaped

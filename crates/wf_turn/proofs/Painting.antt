@@ -1,36 +1,29 @@
 -- The Job that a program takes can be painted.
-use Rattle.std.proofs.Common.{◌≡◌, ◌∙◌, ℕ, Bool, true, false, inl, inr, Option, Some, refl, sym, ap, subst, IsTrue}
+use Rattle.std.proofs.Common.{◌≡◌, ◌∙◌, ℕ, Bool, true, false, Option, None, Some, refl, ap, subst, IsTrue}
 use Rattle.std.specs.Option.{IfSome}
-use Rattle.wf_pixel.specs.declared.Format.{Format}
-use Rattle.wf_scene.specs.declared.Scene.{Scene}
 use Rattle.wf_calls.specs.declared.call.Call.{Call}
-use Rattle.wf_calls.specs.declared.call.Call.TheVariants as call
 use Rattle.wf_calls.specs.declared.call.Job.{Job}
-use Rattle.wf_calls.specs.declared.call.JobKind.{JobKind}
-use Rattle.wf_calls.specs.declared.call.Payload.{Payload}
-use Rattle.wf_calls.specs.declared.call.Payload.TheVariants as payload
-use Rattle.wf_calls.specs.declared.call.Reply.{Reply}
+use Rattle.wf_calls.specs.declared.reply.Payload.{Payload}
+use Rattle.wf_calls.specs.declared.reply.Payload.TheVariants as payload
+use Rattle.wf_calls.specs.declared.reply.Reply.{Reply}
 use Rattle.wf_calls.specs.declared.code.Code.TheVariants as code
-use Rattle.wf_calls.specs.Codes.{is_ok_code}
-use Rattle.wf_machine.specs.Object.{CarriesPaintable, IsAnswer, IsPaintable, MayAnswer, SamePayload, is_begin}
-use Rattle.wf_model.specs.Frames.{begin_next, begin_port}
+use Rattle.wf_calls.specs.Codes.{is_ok_code, is_out_of_memory}
+use Rattle.wf_model.specs.Beginnings.{by_begin}
+use Rattle.wf_machine.specs.Object.{CarriesPaintable, IsAnswer, IsPaintable, MayAnswer, SamePayload}
+use Rattle.wf_calls.specs.Parts.{is_begin}
 use Rattle.wf_model.specs.State.{State}
 use Rattle.wf_model.specs.Step.{act, step}
 use Rattle.wf_turn.specs.declared.stage.Leg.{Leg}
 use Rattle.wf_turn.specs.declared.stage.Wanted.{Wanted}
-use Rattle.wf_turn.specs.Program.{Program, go_on, line_done, next, took}
+use Rattle.wf_turn.specs.Program.{Program, go_on, line_done, next, took, took_canvas, given_canvas, took_frame}
 use Rattle.wf_turn.specs.Ready.{IsWork}
 use Rattle.wf_turn.proofs.Holding.{done_holds, on_holds, took_holds}
-use Rattle.wf_turn.proofs.Starts.{OfContext, OfPort, Starts, next_starts, port_starts}
+use Rattle.wf_image.specs.declared.paint.Paint.{Paint}
+use Rattle.wf_image.specs.declared.canvas.Canvas.{Canvas}
 
 -- an answer that may carry a Job carries one only with Ok
 abbrev JobIsOk : Reply → Type 0
 JobIsOk wanted = (job : Job) → wanted.payload ≡ payload.Job job → wanted.code ≡ code.Ok
-
--- so it is with a call that begins a frame
-begun_ok : (Of : JobKind → Scene → Format → ℕ → Type 0) (h : State) (x : State × Reply) → Starts Of h x → JobIsOk x.1
-begun_ok Of h x (inl none) job has = absurd (let no : payload.Nothing ≡ payload.Job job = sym none.payload ∙ has in cc)
-begun_ok Of h x (inr begun) job has = ap (λ (y : State × Reply). y.1.code) begun.is
 
 -- a Job that comes with an answer as wanted comes with one that is wanted
 wanted_job : (is_new : Bool) (wanted : Payload) (job : Job) → SamePayload is_new wanted (payload.Job job) → (j : Job) × (wanted ≡ payload.Job j)
@@ -47,11 +40,12 @@ carried wanted given job ok answer has =
     rw is at carries
 
 -- a Job that comes with the answer to a call that begins a frame can be painted
-begun_paintable : (h : State) (client : ℕ) (c : Call) (reply : Reply) (job : Job) → is_begin c ≡ true → MayAnswer h client c reply → reply.payload ≡ payload.Job job → IsPaintable job
-unfolding step act
-begun_paintable h client (call.BeginNext after) reply job begins may has = carried (begin_next after h).1 reply job (begun_ok (OfContext after h) h (begin_next after h) (next_starts after h)) may has
-begun_paintable h client (call.BeginPort port) reply job begins may has = carried (begin_port port h).1 reply job (begun_ok (OfPort h) h (begin_port port h) (port_starts port h)) may has
-begun_paintable h client _ reply job begins may has = absurd cc
+begun_paintable : (h : State) (client : ℕ) (c : Call) (reply : Reply) (job : Job) → is_begin c ≡ true → MayAnswer h client c reply
+    → reply.payload ≡ payload.Job job → IsPaintable job
+unfolding step
+begun_paintable h client c reply job begins may has =
+    let m = is_out_of_memory reply.code in
+    carried (act h c m).1 reply job (by_begin (λ x. JobIsOk x.1) h c m begins (λ a j has. absurd cc) (λ b is j has. refl)) may has
 
 -- no Job is left to paint by what goes on without one
 abbrev pub IsPainted : Option Job → Bool → Type 0
@@ -71,3 +65,10 @@ pub took_work : (p : Program) (h : State) (client : ℕ) (w : Wanted) (reply : R
 took_work p h client w reply painted may asks =
     took_holds CanBePainted (λ unpainted. tt) p w reply (λ unpainted. absurd (cc (painted, unpainted)))
     (λ begins job has unpainted. begun_paintable h client w.call reply job begins may has) asks
+
+pub canvas_painted : (p : Program) → p.unpainted ≡ false → (reply : Reply) → (took_canvas p reply.payload).unpainted ≡ false
+canvas_painted p painted reply = done_painted (record p { canvas = given_canvas reply.payload }) painted 0
+
+pub frame_painted : (p : Program) → p.unpainted ≡ false → (paint : Paint) (o : Option Canvas) → (took_frame p paint o).unpainted ≡ false
+frame_painted p painted paint None = done_painted p painted 0
+frame_painted p painted paint (Some canvas) = painted

@@ -5,7 +5,6 @@ use Rattle.std.specs.Option.{unwrap_or}
 use Rattle.std.proofs.lemmas.Bool.{and_parts, eqb-true}
 use Rattle.wf_calls.specs.declared.order.Turn.{Turn}
 use Rattle.wf_model.specs.Frames.{is_running}
-use Rattle.wf_model.specs.State.{State}
 use Rattle.wf_model.specs.Step.{step}
 use Rattle.wf_script.specs.Script.{PlainScript}
 use Rattle.wf_turn.specs.declared.stage.Wanted.{Wanted}
@@ -63,7 +62,8 @@ pub record Step (script : PlainScript) (order : List Turn) (show after : Show) :
   pub takes : next_show show entry ≡ Some after
 
 -- what holds at its moment holds at one entry of the order
-pub at_step : {script : PlainScript} {order : List Turn} {show after : Show} (Holds : State → Turn → Type 0) (s : Step script order show after) → Holds show.state s.entry → At script order Holds
+pub at_step : {script : PlainScript} {order : List Turn} {show after : Show} (Holds : Show → Turn → Type 0) (s : Step script order show after) → Holds show s.entry
+    → At script order Holds
 at_step {show = show} Holds s holds = record { earlier = s.earlier; entry = s.entry; later = s.later; cut = s.cut; moment = show; reached = s.reached; holds = holds }
 
 module _ (script : PlainScript) (order : List Turn) (Holds : Show → Type 0) (keeps : (show after : Show) → Step script order show after → Holds show → Holds after) where
@@ -85,6 +85,7 @@ module _ (script : PlainScript) (order : List Turn) (Holds : Show → Type 0) (k
 pub record TurnOf (show : Show) (client : ℕ) (m : Bool) (done : Show × Turn) : Type 0 where
   pub program : Program
   pub wanted : Wanted
+  pub stands : program_at show client ≡ Some program
   pub own : slice_get show.programs client ≡ Some program
   pub asks : next program ≡ Some wanted
   pub is : answered show client program (step show.state client wanted.call m) ≡ done
@@ -101,7 +102,7 @@ turn_of show client m done taken = of_program (program_at show client) refl
     of_wait p w at asks true waits = absurd (let no : None ≡ Some done = rw (at, asks, waits) at taken in cc)
     of_wait p w at asks false waits =
         let same : Some (answered show client p (step show.state client w.call m)) ≡ Some done = rw (at, asks, waits) at taken in
-        record { program = p; wanted = w; own = own_program show client p at; asks = asks; is = ap (λ (o : Option (Show × Turn)). unwrap_or o done) same }
+        record { program = p; wanted = w; stands = at; own = own_program show client p at; asks = asks; is = ap (λ (o : Option (Show × Turn)). unwrap_or o done) same }
 
     of_wanted : (p : Program) → program_at show client ≡ Some p → (o : Option Wanted) → next p ≡ o → TurnOf show client m done
     of_wanted p at None asks = absurd (let no : None ≡ Some done = rw (at, asks) at taken in cc)

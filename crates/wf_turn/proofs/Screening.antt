@@ -1,7 +1,7 @@
 -- What each call keeps of the streams of the ports' screens: they have no handle, their write buffers are out only while
 -- a frame draws into them, and each of their images was composed.
-use Rattle.std.proofs.Common.{◌≡◌, ◌∙◌, ℕ, Bool, true, false, not, cond, ◌&&◌, ◌||◌, ◌==◌, List, [], ◌∷◌, ◌++◌, map, Option, Some, None, refl, sym, subst, arith}
-use Rattle.std.specs.Prelude.{filter, nat_le}
+use Rattle.std.proofs.Common.{◌≡◌, ℕ, Bool, true, false, not, cond, ◌&&◌, ◌||◌, ◌==◌, List, [], ◌∷◌, map, Option, Some, None, refl, sym, subst, arith}
+use Rattle.std.specs.Prelude.{nat_le}
 use Rattle.std.specs.Option.{IfSome}
 use Rattle.std.proofs.lemmas.Bool.{and_parts, eq-eqb, eqb-true}
 use Rattle.std.proofs.lemmas.Bool.Decides.{nat_tests}
@@ -10,7 +10,7 @@ use Rattle.wf_image.specs.Bitmap.{Bitmap}
 use Rattle.wf_image.specs.Contents.{image_of}
 use Rattle.wf_stream.specs.Buffers.{Buffers, ReadBuffer, acquired, home_image, latched, newest, posted}
 use Rattle.wf_stream.specs.Buffers.ReadBuffer.{away, home, never}
-use Rattle.wf_stream.specs.Streams.{KeptStream, change_stream, stream_at, stream_of, unnamed}
+use Rattle.wf_stream.specs.Streams.{KeptStream, change_stream, stream_at, stream_of, unnamed, has_number}
 use Rattle.wf_calls.specs.declared.call.Job.{Job}
 use Rattle.wf_calls.specs.declared.call.JobKind.{JobKind}
 use Rattle.wf_calls.specs.declared.call.JobKind.TheVariants as kind
@@ -18,6 +18,9 @@ use Rattle.wf_model.specs.Frames.{delivered, drawing, home_if, is_target, latche
 use Rattle.wf_model.specs.Composing.{composed}
 use Rattle.wf_model.specs.Picture.{Images}
 use Rattle.wf_model.specs.State.{Running, State}
+use Rattle.std.specs.List.{AllByRecursion}
+use Rattle.wf_words.specs.Each.{each_found, each_mapped, each_other}
+use Rattle.wf_words.specs.Found.{passes}
 
 -- the streams up to a number are screens; of images, which were composed for which stream
 module _ (n : ℕ) (Composed : ℕ → Bitmap → Type 0) where
@@ -32,55 +35,28 @@ module _ (n : ℕ) (Composed : ℕ → Bitmap → Type 0) where
   Fine frame s = nat_le s.number n ≡ true → IsScreen frame s
 
   abbrev pub AreFine : Option Running → List KeptStream → Type 0
-  AreFine frame [] = Unit {0}
-  AreFine frame (s ∷ ss) = Fine frame s × AreFine frame ss
-
-  -- lists
-
-  recast : (f g : Option Running) → ((s : KeptStream) → Fine f s → Fine g s) → (ss : List KeptStream) → AreFine f ss → AreFine g ss
-  recast f g one [] are = tt
-  recast f g one (s ∷ ss) are = (one s are.0, recast f g one ss are.1)
-
-  pub mapped : (f g : Option Running) (change : KeptStream → KeptStream) → ((s : KeptStream) → Fine f s → Fine g (change s)) → (ss : List KeptStream) → AreFine f ss → AreFine g (map change ss)
-  mapped f g change one [] are = tt
-  mapped f g change one (s ∷ ss) are = (one s are.0, mapped f g change one ss are.1)
-
-  pub filtered : (f : Option Running) (test : KeptStream → Bool) (ss : List KeptStream) → AreFine f ss → AreFine f (filter test ss)
-  filtered f test [] are = tt
-  filtered f test (s ∷ ss) are = elim (test s) as (λ b. AreFine f (cond b (s ∷ filter test ss) (filter test ss))) [ true ↦ (are.0, filtered f test ss are.1) | false ↦ filtered f test ss are.1 ]
-
-  pub appended : (f : Option Running) (ss : List KeptStream) (s : KeptStream) → AreFine f ss → Fine f s → AreFine f (ss ++ s ∷ [])
-  appended f [] s are fine = (fine, tt)
-  appended f (t ∷ ts) s are fine = (are.0, appended f ts s are.1 fine)
+  AreFine frame ss = AllByRecursion (Fine frame) ss
 
   -- the stream of a number
-  pub at_number : (f : Option Running) (k : ℕ) (ss : List KeptStream) (s : KeptStream) → AreFine f ss → stream_at k ss ≡ Some s → Fine f s × (s.number ≡ k)
-  at_number f k [] s are at = absurd cc
-  at_number f k (t ∷ ts) s are at =
-      elim (t.number == k) as (λ b. (t.number == k) ≡ b → Fine f s × (s.number ≡ k)) [
-        | true ↦ λ here. (let same : t ≡ s = (let is : Some t ≡ Some s = rw here at at in cc) in subst (λ (x : KeptStream). Fine f x × (x.number ≡ k)) same (are.0, eqb-true t.number k here))
-        | false ↦ λ apart. at_number f k ts s are.1 (rw apart at at)
-      ] refl
+  pub at_number : (f : Option Running) (k : ℕ) (ss : List KeptStream) (s : KeptStream) → AreFine f ss → stream_at k ss ≡ Some s
+      → Fine f s × (s.number ≡ k)
+  at_number f k ss s are at = (each_found (Fine f) (λ t. t.number == k) ss s are at, has_number k ss s at)
 
   -- the stream of a handle is no screen
-  pub of_handle : (f : Option Running) (handle : ℕ) (ss : List KeptStream) (s : KeptStream) → AreFine f ss → stream_of handle ss ≡ Some s → nat_le s.number n ≡ false
-  of_handle f handle [] s are at = absurd cc
-  of_handle f handle (t ∷ ts) s are at =
-      elim ((t.handle == handle) && not (handle == 0)) as (λ b. ((t.handle == handle) && not (handle == 0)) ≡ b → nat_le s.number n ≡ false) [
-        | true ↦ λ here. (let same : t ≡ s = (let is : Some t ≡ Some s = rw here at at in cc) in subst (λ (x : KeptStream). nat_le x.number n ≡ false) same (of_range here (nat_le t.number n) refl))
-        | false ↦ λ apart. of_handle f handle ts s are.1 (rw apart at at)
-      ] refl
+  pub of_handle : (f : Option Running) (handle : ℕ) (ss : List KeptStream) (s : KeptStream) → AreFine f ss
+      → stream_of handle ss ≡ Some s → nat_le s.number n ≡ false
+  of_handle f handle ss s are at = of_range (nat_le s.number n) refl
     where
-      of_range : ((t.handle == handle) && not (handle == 0)) ≡ true → (b : Bool) → nat_le t.number n ≡ b → nat_le t.number n ≡ false
-      of_range here false is = is
-      of_range here true is =
-          let parts = and_parts (t.handle == handle) (not (handle == 0)) here in
-          let none : handle ≡ 0 = sym (eqb-true t.handle handle parts.0) ∙ (are.0 is).bare in
-          absurd (let no : not (0 == 0) ≡ true = subst (λ (x : ℕ). not (x == 0) ≡ true) none parts.1 in cc)
+      fine : Fine f s
+      fine = each_found (Fine f) (λ t. (t.handle == handle) && not (handle == 0)) ss s are at
 
-  -- changes of one stream
+      own : ((s.handle == handle) && not (handle == 0)) ≡ true
+      own = passes (λ t. (t.handle == handle) && not (handle == 0)) ss s at
 
-  -- another stream than a screen
+      of_range : (b : Bool) → nat_le s.number n ≡ b → nat_le s.number n ≡ false
+      of_range false is = is
+      of_range true is = absurd (grind (arith, nat_tests, own, (fine is).bare))
+
   other : (k : ℕ) (g : Buffers → Buffers) → nat_le k n ≡ false → (f : Option Running) (s : KeptStream) → Fine f s → Fine f (cond (s.number == k) (record s { buffers = g s.buffers }) s)
   other k g out f s fine =
       elim (s.number == k) as (λ b. (s.number == k) ≡ b → Fine f (cond b (record s { buffers = g s.buffers }) s)) [
@@ -89,10 +65,10 @@ module _ (n : ℕ) (Composed : ℕ → Bitmap → Type 0) where
       ] refl
 
   pub others_change : (k : ℕ) (g : Buffers → Buffers) → nat_le k n ≡ false → (f : Option Running) (ss : List KeptStream) → AreFine f ss → AreFine f (change_stream k g ss)
-  others_change k g out f ss are = mapped f f (λ s. cond (s.number == k) (record s { buffers = g s.buffers }) s) (other k g out f) ss are
+  others_change k g out f ss are = each_mapped (Fine f) (Fine f) (λ s. cond (s.number == k) (record s { buffers = g s.buffers }) s) (other k g out f) ss are
 
   pub unnamed_fine : (handle : ℕ) (f : Option Running) (ss : List KeptStream) → AreFine f ss → AreFine f (map (unnamed handle) ss)
-  unnamed_fine handle f ss are = mapped f f (unnamed handle) one ss are
+  unnamed_fine handle f ss are = each_mapped (Fine f) (Fine f) (unnamed handle) one ss are
     where
       one : (s : KeptStream) → Fine f s → Fine f (unnamed handle s)
       one s fine = elim (s.handle == handle) as (λ b. Fine f (cond b (record s { handle = 0 }) s)) [ true ↦ λ screen. (let is = fine screen in record { bare = refl; drawn = is.drawn; ready = is.ready; read = is.read }) | false ↦ fine ]
@@ -133,20 +109,19 @@ module _ (n : ℕ) (Composed : ℕ → Bitmap → Type 0) where
 
   drawing_fine : (k : JobKind) (r : Running) → r.kind ≡ k → (ss : List KeptStream) → AreFine None ss → AreFine (Some r) (drawing k ss)
   drawing_fine (kind.Context handle target) r runs ss are =
-      mapped None (Some r) (λ s. cond (s.number == target) (record s { buffers = acquired s.buffers }) s) (drawn_fine handle target r runs) ss are
-  drawing_fine (kind.Port p) r runs ss are = recast None (Some r) (switched (Some r)) ss are
+      each_mapped (Fine None) (Fine (Some r)) (λ s. cond (s.number == target) (record s { buffers = acquired s.buffers }) s) (drawn_fine handle target r runs) ss are
+  drawing_fine (kind.Port p) r runs ss are = each_other (Fine None) (Fine (Some r)) (switched (Some r)) ss are
 
   pub begun_fine : (job : Job) (h : State) → h.frame ≡ None → AreFine h.frame h.streams → AreFine (with_job job h).frame (with_job job h).streams
   begun_fine job h free are =
       let now : AreFine None h.streams = rw free at are in
-      drawing_fine job.kind (running_of job) refl (map (latched_among (scene_streams job.scene)) h.streams) (mapped None None (latched_among (scene_streams job.scene)) (latched_fine None (scene_streams job.scene)) h.streams now)
+      drawing_fine job.kind (running_of job) refl (map (latched_among (scene_streams job.scene)) h.streams) (each_mapped (Fine None) (Fine None) (latched_among (scene_streams job.scene)) (latched_fine None (scene_streams job.scene)) h.streams now)
 
   -- images that are away
 
   -- each image of a screen was composed
   abbrev pub AreHome : Images → Type 0
-  AreHome [] = Unit {0}
-  AreHome (x ∷ xs) = (nat_le x.0 n ≡ true → Composed x.0 x.1) × AreHome xs
+  AreHome xs = AllByRecursion (λ x. nat_le x.0 n ≡ true → Composed x.0 x.1) xs
 
   newest_composed : (f : Option Running) (s : KeptStream) (image : Bitmap) → IsScreen f s → newest s.buffers ≡ Some image → Composed s.number image
   newest_composed f s image is has = of_ready s.buffers.ready refl
@@ -228,8 +203,8 @@ module _ (n : ℕ) (Composed : ℕ → Bitmap → Type 0) where
 
   pub ended_fine : (k : JobKind) (image : Bitmap) (r : Running) → same_kind k r.kind ≡ true → IsHome k image → (ss : List KeptStream) → AreFine (Some r) ss → AreFine None (delivered k image ss)
   ended_fine (kind.Context handle target) image r same composed ss are =
-      mapped (Some r) None (λ s. cond (s.number == target) (record s { buffers = posted image s.buffers }) s) (target_fine handle target image r same composed) ss are
-  ended_fine (kind.Port p) image r same composed ss are = recast (Some r) None (λ s fine screen. (let is = fine screen in record { bare = is.bare; drawn = λ out. absurd (of_kind s r.kind refl (is.drawn out)); ready = is.ready; read = is.read })) ss are
+      each_mapped (Fine (Some r)) (Fine None) (λ s. cond (s.number == target) (record s { buffers = posted image s.buffers }) s) (target_fine handle target image r same composed) ss are
+  ended_fine (kind.Port p) image r same composed ss are = each_other (Fine (Some r)) (Fine None) (λ s fine screen. (let is = fine screen in record { bare = is.bare; drawn = λ out. absurd (of_kind s r.kind refl (is.drawn out)); ready = is.ready; read = is.read })) ss are
     where
       of_kind : (s : KeptStream) (k : JobKind) → r.kind ≡ k → is_target s.number (Some r) ≡ true → ⊥
       of_kind s (kind.Port q) runs draws = (let no : false ≡ true = rw runs at draws in cc)

@@ -1,42 +1,40 @@
 -- Each image of a screen, after any order, was composed of a context's committed scene.
-use Rattle.std.proofs.Common.{◌≡◌, ◌∙◌, ℕ, ◌+◌, Bool, true, false, cond, inl, inr, List, [], ◌∷◌, map, length, Option, Some, None, refl, sym, ap, subst, arith}
+use Rattle.std.proofs.Common.{◌≡◌, ◌∙◌, ℕ, ◌+◌, Bool, true, false, cond, List, [], ◌∷◌, map, length, Option, Some, None, refl, sym, subst, arith, Ok, pos}
 use Rattle.std.specs.Prelude.{nat_le, zip}
 use Rattle.std.specs.List.{range_with_len}
 use Rattle.std.specs.Option.{IfSome}
 use Rattle.std.proofs.lemmas.Bool.Decides.{nat_tests}
-use Rattle.wf_pixel.specs.declared.Format.{Format}
 use Rattle.wf_image.specs.Bitmap.{Bitmap}
 use Rattle.wf_scene.specs.declared.Scene.{Scene}
 use Rattle.wf_calls.specs.declared.call.Call.{Call}
 use Rattle.wf_calls.specs.declared.call.Call.TheVariants as call
 use Rattle.wf_calls.specs.declared.call.Job.{Job}
-use Rattle.wf_calls.specs.declared.call.JobKind.{JobKind}
-use Rattle.wf_calls.specs.declared.call.JobKind.TheVariants as kind
-use Rattle.wf_calls.specs.declared.call.Payload.TheVariants as payload
-use Rattle.wf_calls.specs.declared.call.Reply.{Reply}
+use Rattle.wf_calls.specs.declared.reply.Payload.TheVariants as payload
+use Rattle.wf_calls.specs.declared.reply.Reply.{Reply}
 use Rattle.wf_calls.specs.declared.order.Turn.{Turn}
 use Rattle.wf_calls.specs.declared.ports.Modes.{Modes}
 use Rattle.wf_calls.specs.Codes.{entry}
-use Rattle.wf_machine.specs.Object.{is_begin}
-use Rattle.wf_model.specs.Frames.{begin_next, begin_port, job_of, newest_images, scene_streams, with_payload}
+use Rattle.wf_calls.specs.Parts.{is_begin}
+use Rattle.wf_model.specs.Frames.{job_of, newest_images, scene_streams, Beginning, begin_call, start, context_beginning}
 use Rattle.wf_model.specs.State.{State, screen}
-use Rattle.wf_model.specs.Step.{act, step}
-use Rattle.wf_script.specs.declared.line.Verb.{Verb}
-use Rattle.wf_script.specs.declared.line.Verb.TheVariants as verb
-use Rattle.wf_script.specs.declared.name.Name.{Name}
+use Rattle.wf_model.specs.Step.{step}
 use Rattle.wf_script.specs.Script.{PlainScript}
 use Rattle.wf_turn.specs.declared.stage.Wanted.{Wanted}
-use Rattle.wf_turn.specs.Calls.{plain_call}
+use Rattle.wf_turn.specs.declared.stage.Leg.{Leg}
+use Rattle.wf_turn.specs.declared.stage.Leg.TheVariants as leg
 use Rattle.wf_turn.specs.Moments.{Composes, IsComposed, image_after}
 use Rattle.wf_turn.specs.Play.{is_marked, replay}
-use Rattle.wf_turn.specs.Program.{Program, handle, next, painted_job, took, worked}
-use Rattle.wf_turn.specs.Turns.{Show, opening_show, turn}
-use Rattle.wf_turn.proofs.Cases.{turn_case}
-use Rattle.wf_turn.proofs.Holding.{AllHold, handed_hold, one_holds, opening_hold, took_holds}
+use Rattle.wf_turn.specs.Program.{Program, next, painted_job, took, worked, took_canvas, asked_for, plain, line_done, took_frame, given_canvas, took_job}
+use Rattle.wf_turn.specs.Turns.{Show, opening_show, turn, program_at}
+use Rattle.wf_turn.proofs.Cases.{turn_case, asks_begin}
+use Rattle.wf_turn.proofs.Holding.{AllHold, handed_hold, opening_hold, took_holds, Holds}
 use Rattle.wf_turn.proofs.Replays.{Step, at_step, order_keeps, taken_turn, turn_of}
 use Rattle.wf_turn.proofs.Screening.{AreFine, AreHome, BringsHome, newest_home, screen_composed}
-use Rattle.wf_turn.proofs.ScreenCalls.{AreScreens, Carries, step_keeps}
-use Rattle.wf_turn.proofs.Starts.{OfContext, OfPort, Starts, next_starts, port_starts}
+use Rattle.wf_turn.proofs.ScreenCalls.{AreScreens, Carries, step_keeps, carries_none, asks_carry}
+use Rattle.wf_words.specs.Each.{each_at}
+use Rattle.wf_turn.specs.declared.stage.Leg.{Leg}
+use Rattle.wf_model.specs.Effects.{moves_frame}
+use Rattle.wf_model.specs.Beginnings.{by_begin, next_is, port_is}
 
 module _ (n : ℕ) (Composed : ℕ → Bitmap → Type 0) where
   -- a Job that a program holds brings home what was composed, once it is painted
@@ -56,93 +54,110 @@ module _ (n : ℕ) (Composed : ℕ → Bitmap → Type 0) where
       by_parts false o will = (refl, will)
 
   -- the calls of programs carry such Jobs alone
-
-  plain_carries : (handle : Option Name → ℕ) (v : Verb) → IfSome (plain_call handle v) (Carries n Composed)
-  plain_carries handle (verb.StreamNew width height f b) = tt
-  plain_carries handle (verb.Acquire s) = tt
-  plain_carries handle verb.Post = tt
-  plain_carries handle verb.Discard = tt
-  plain_carries handle (verb.Paint paint) = tt
-  plain_carries handle (verb.Frame s paint) = tt
-  plain_carries handle verb.Tick = tt
-  plain_carries handle _ = tt
-
   next_carries : (p : Program) (w : Wanted) → Brings p.job p.unpainted → next p ≡ Some w → Carries n Composed w.call
   next_carries p w brings asks =
-      turn_case p (λ c now. Carries n Composed c) w
+      turn_case p (λ x now. Carries n Composed x.call) w
       (record {
-        acquire = λ s. tt;
-        frame = λ s paint. tt;
-        post = λ canvas. tt;
-        discard = λ canvas. tt;
-        plain = plain_carries (handle p);
-        contexts = λ tick s after leg_of. tt;
-        port = λ port l. tt;
-        ended = λ job held l. rw held at brings.1;
+        canvas = carries_none n Composed;
+        value = carries_none n Composed;
+        frame = λ s paint. carries_none n Composed (call.Acquire s) refl;
+        asks = λ l tick s leg_of at. asks_carry n Composed (asked_for l).call (asks_begin l);
+        ended = λ job held l j is.
+            (let same : job ≡ j = cc in subst (BringsHome n Composed) same (rw held at brings.1));
       }) asks
 
-  -- what a Job that comes brings home, where the entry that tells of it is taken for one that composes
-  module _ (h : State) (client : ℕ) (m : Bool) (are : AreScreens n Composed h) where
-    abbrev Tells : Reply → Type 0
-    Tells reply = (stream : ℕ) (image : Bitmap) → Composes stream image h (entry client reply) → Composed stream image
+  -- what a Job that comes brings home, where its entry tells of what was composed
+  module _ (show : Show) (client : ℕ) (m : Bool) (p : Program) (stands : program_at show client ≡ Some p)
+      (are : AreScreens n Composed show.state) where
+    abbrev h : State
+    h = show.state
 
-    abbrev Brought : (JobKind → Scene → Format → ℕ → Type 0) → Type 0
-    Brought Of =
-        (k : JobKind) (scene : Scene) (f : Format) (value : ℕ) → Of k scene f value → Tells (with_payload value (job_of k scene f h))
-        → BringsHome n Composed (painted_job (job_of k scene f h))
+    abbrev Tells : Reply → Type 0
+    Tells reply = (stream : ℕ) (image : Bitmap) → Composes stream image show (entry client reply) → Composed stream image
 
     contents_home : (scene : Scene) → AreHome n Composed (newest_images (scene_streams scene) h.streams)
     contents_home scene = newest_home n Composed h.frame (scene_streams scene) h.streams are.streams
 
-    context_brings : (after : ℕ) → Brought (OfContext after h)
-    context_brings after (kind.Context handle target) scene f value of tells =
-        let next = of.1 in
-        record {
-          contents = contents_home scene;
-          image = λ screen. tells target (painted_job (job_of (kind.Context handle target) scene f h)).image (record {
-            above = after;
-            context = next.context;
-            next = next.next;
-            target = next.target_is;
+    -- the Job of a frame that a question begins
+    begun_brings : (l : Leg) → next p ≡ Some (asked_for l) → (b : Beginning) → begin_call (asked_for l).call h ≡ Ok (Some b)
+        → Tells (start b h).1 → BringsHome n Composed (painted_job (job_of b h))
+    begun_brings (leg.Contexts asked last) asks b is tells =
+        let own = next_is last h b is in
+        let c = own.context in
+        let its = context_beginning c.handle c.target c.committed own.buffers in
+        let told : Tells (start its h).1 = subst (λ (x : Beginning). Tells (start x h).1) own.is tells in
+        subst (λ (x : Beginning). BringsHome n Composed (painted_job (job_of x h))) (sym own.is)
+        (record {
+          contents = contents_home c.committed;
+          image = λ screen. told c.target (painted_job (job_of its h)).image (record {
+            above = last;
+            asks = record { program = p; own = stands; next_is = asks };
+            context = c;
+            next = own.next;
+            target = refl;
             code = refl;
-            value = of.0 ∙ sym next.handle_is;
-            shows = rw (next.at, next.scene_is, next.format_is) refl;
+            value = refl;
+            shows = rw own.at refl;
           });
-        }
-    context_brings after (kind.Port port) scene f value of tells = absurd of
+        })
+    begun_brings (leg.Ports port) asks b is tells =
+        let own = port_is (pos port) h b is in
+        subst (λ (x : Beginning). BringsHome n Composed (painted_job (job_of x h))) (sym own.is)
+        (record { contents = contents_home own.scene; image = tt })
 
-    port_brings : Brought (OfPort h)
-    port_brings (kind.Context handle target) scene f value of tells = absurd of
-    port_brings (kind.Port port) scene f value of tells = record { contents = contents_home scene; image = tt }
+    abbrev Comes : Wanted → (Reply → Program) → Type 0
+    Comes w now =
+        next p ≡ Some w → is_begin w.call ≡ true → Tells (step h client w.call m).1 → (job : Job)
+        → (step h client w.call m).1.payload ≡ payload.Job job → BringsHome n Composed (painted_job job)
 
-    start_brings : (Of : JobKind → Scene → Format → ℕ → Type 0) (x : State × Reply) → Brought Of → Starts Of h x → Tells x.1 → (job : Job) → x.1.payload ≡ payload.Job job → BringsHome n Composed (painted_job job)
-    start_brings Of x brought (inl none) tells job has = absurd (let no : payload.Nothing ≡ payload.Job job = sym none.payload ∙ has in cc)
-    start_brings Of x brought (inr begun) tells job has =
-        let own : Job = job_of begun.kind begun.scene begun.format h in
-        let reply : x.1 ≡ with_payload begun.value own = ap (λ (y : State × Reply). y.1) begun.is in
-        let same : own ≡ job = (let both : payload.Job own ≡ payload.Job job = sym (ap (λ (r : Reply). r.payload) reply) ∙ has in cc) in
-        subst (λ (j : Job). BringsHome n Composed (painted_job j)) same (brought begun.kind begun.scene begun.format begun.value begun.of (subst Tells reply tells))
+    no_begin : (c : Call) (now : Reply → Program) → moves_frame c ≡ false → Comes (plain c) now
+    no_begin c now still asks begins = absurd (let no : true ≡ false = sym begins ∙ no_begin_moves c still in cc)
+      where
+        no_begin_moves : (c : Call) → moves_frame c ≡ false → is_begin c ≡ false
+        no_begin_moves (call.BeginNext after) still = absurd cc
+        no_begin_moves (call.BeginPort port) still = absurd cc
+        no_begin_moves _ still = refl
 
-    begin_brings : (c : Call) → is_begin c ≡ true → Tells (step h client c m).1 → (job : Job) → (step h client c m).1.payload ≡ payload.Job job → BringsHome n Composed (painted_job job)
-    unfolding step act
-    begin_brings (call.BeginNext after) begins tells job has = start_brings (OfContext after h) (begin_next after h) (context_brings after) (next_starts after h) tells job has
-    begin_brings (call.BeginPort port) begins tells job has = start_brings (OfPort h) (begin_port port h) port_brings (port_starts port h) tells job has
-    begin_brings _ begins tells job has = absurd cc
+    at_question : (l : Leg) (now : Reply → Program) → Comes (asked_for l) now
+    unfolding step
+    at_question l now asks begins =
+        by_begin (λ x. Tells x.1 → (job : Job) → x.1.payload ≡ payload.Job job → BringsHome n Composed (painted_job job)) h
+        (asked_for l).call m begins (λ a tells job has. absurd cc)
+        (λ b is tells job has. (
+          let same : job_of b h ≡ job = cc in
+          subst (λ (j : Job). BringsHome n Composed (painted_job j)) same (begun_brings l asks b is tells)))
+
+    begin_brings : (w : Wanted) → next p ≡ Some w → Comes w (took p)
+    begin_brings w asks =
+        turn_case p Comes w
+        (record {
+          canvas = λ c still. no_begin c (λ reply. took_canvas p reply.payload) still;
+          value = λ c still. no_begin c (λ reply. line_done p reply.value) still;
+          frame = λ s paint. no_begin (call.Acquire s) (λ reply. took_frame p paint (given_canvas reply.payload)) refl;
+          asks = λ l tick s leg_of at.
+              at_question l (λ reply. took_job (record p { tick = tick; stage = s }) reply.payload (leg_of reply.value));
+          ended = λ job held l asks begins. absurd cc;
+        }) asks
 
   -- a show whose screens have what was composed
   record AreComposed (show : Show) : Type 0 where
     state : AreScreens n Composed show.state
     programs : AllHold Brings show.programs
 
-  turn_composed : (show : Show) (client : ℕ) (m : Bool) (done : Show × Turn) → turn show client m ≡ Some done → ((stream : ℕ) (image : Bitmap) → Composes stream image show.state done.1 → Composed stream image) → AreComposed show → AreComposed done.0
+  turn_composed : (show : Show) (client : ℕ) (m : Bool) (done : Show × Turn) → turn show client m ≡ Some done
+      → ((stream : ℕ) (image : Bitmap) → Composes stream image show done.1 → Composed stream image) → AreComposed show
+      → AreComposed done.0
   turn_composed show client m done taken tells are =
       let t = turn_of show client m done taken in
       let p : Program = t.program in
       let reply : Reply = (step show.state client t.wanted.call m).1 in
-      let brings : Brings p.job p.unpainted = one_holds Brings show.programs client p are.programs t.own in
-      let own_tells : (stream : ℕ) (image : Bitmap) → Composes stream image show.state (entry client reply) → Composed stream image = subst (λ (x : Show × Turn). (stream : ℕ) (image : Bitmap) → Composes stream image show.state x.1 → Composed stream image) (sym t.is) tells in
-      let comes = λ (begins : is_begin t.wanted.call ≡ true) (job : Job) (has : reply.payload ≡ payload.Job job). begin_brings show.state client m are.state t.wanted.call begins own_tells job has in
-      let will : WillBring (took p reply).job (took p reply).unpainted = took_holds WillBring tt p t.wanted reply (rw brings.0 brings.1) comes t.asks in
+      let brings : Brings p.job p.unpainted = each_at (Holds Brings) show.programs client p are.programs t.own in
+      let own_tells : Tells show client m p t.stands are.state reply =
+          subst (λ (x : Show × Turn). (stream : ℕ) (image : Bitmap) → Composes stream image show x.1 → Composed stream image)
+          (sym t.is) tells in
+      let will : WillBring (took p reply).job (took p reply).unpainted =
+          took_holds WillBring tt p t.wanted reply (rw brings.0 brings.1)
+          (λ begins job has. begin_brings show client m p t.stands are.state t.wanted t.asks t.asks begins own_tells job has) t.asks in
       subst (λ (x : Show × Turn). AreComposed x.0) t.is
       (record {
         state = step_keeps n Composed show.state client t.wanted.call m (next_carries p t.wanted brings t.asks) are.state;

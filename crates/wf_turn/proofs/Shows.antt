@@ -3,7 +3,7 @@ use Rattle.std.proofs.Common.{◌≡◌, ◌∙◌, ℕ, zero, suc, ◌+◌, ◌
 use Rattle.std.specs.Prelude.{slice_get}
 use Rattle.std.specs.Option.{IfSome, IsSome, IsSomeAnd}
 use Rattle.wf_calls.specs.declared.order.Turn.{Turn}
-use Rattle.wf_calls.specs.declared.call.Reply.{Reply}
+use Rattle.wf_calls.specs.declared.reply.Reply.{Reply}
 use Rattle.wf_calls.specs.Codes.{entry}
 use Rattle.wf_film.specs.Film.{Frame}
 use Rattle.wf_machine.specs.Object.{IsPaintable}
@@ -19,7 +19,8 @@ use Rattle.wf_turn.specs.Ready.{AreOf, IsFit}
 use Rattle.wf_turn.specs.Serial.{IsFirst}
 use Rattle.wf_turn.specs.Turns.{Show, answered, frames_of, handed_on, is_setting_up, turn}
 use Rattle.wf_turn.proofs.Begins.{Leaves, ended, turn_leaves}
-use Rattle.wf_turn.proofs.Casts.{IsOf, are_handed, are_set, at_client, get_map, get_set, handed_get, handed_same, left_handed, left_set, length_map, map_set, not_handed, other_is, other_set, setup_set, shown_handed}
+use Rattle.wf_turn.proofs.Casts.{IsOf, are_handed, are_set, at_client, handed_get, handed_same, left_handed, left_set, not_handed, other_is, other_set, setup_set, shown_handed}
+use Rattle.wf_words.specs.Places.{get_map, get_set, length_map, map_set}
 use Rattle.wf_turn.proofs.Clients.{first_place}
 use Rattle.wf_turn.proofs.Fitting.{fit_took}
 use Rattle.wf_turn.proofs.Keeping.{same_client, same_script}
@@ -119,7 +120,7 @@ module _ (s : Show) (client : ℕ) (p q : Program) (left_state : State) (t : Tur
   ends_now f runs = rw runs at (ends_running s client p cast first found)
 
   leaves : s.state.frame ≡ None → Leaves p (took p W.1) W.0.frame
-  leaves free = turn_leaves p s.state client (is_marked t) takes.wanted free of_p.fit.painted takes.asks
+  leaves free = turn_leaves p s.state client (is_marked t) free of_p.fit.painted takes.wanted takes.asks
 
   -- a program whose lines are the same stands where it stood
   module _ (lines : (took p W.1).lines ≡ p.lines) where

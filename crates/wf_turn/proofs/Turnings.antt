@@ -3,7 +3,7 @@ use Rattle.std.proofs.Common.{◌≡◌, ◌∙◌, ℕ, Bool, true, false, ◌=
 use Rattle.std.specs.Option.{is_some, IfSome, IsSome, IsSomeAnd}
 use Rattle.wf_image.specs.Bitmap.{drawn}
 use Rattle.wf_calls.specs.declared.call.Job.{Job}
-use Rattle.wf_calls.specs.declared.call.Reply.{Reply}
+use Rattle.wf_calls.specs.declared.reply.Reply.{Reply}
 use Rattle.wf_calls.specs.declared.code.Code.{Code}
 use Rattle.wf_calls.specs.declared.code.Code.TheVariants as code
 use Rattle.wf_calls.specs.declared.order.Turn.{Turn}

@@ -1,9 +1,11 @@
 -- What each frame of a film shows, and what each screen has: the picture of one scene, and of the newest images, at one
 -- moment of the order.
-use Rattle.std.specs.Prelude.{◌≡◌, ℕ, List, ◌∷◌, ◌++◌, Option, Some, None, option_map}
+use Rattle.std.specs.Prelude.{◌≡◌, ℕ, pos, List, ◌∷◌, ◌++◌, Option, Some, None, option_map}
 use Rattle.wf_pixel.specs.declared.Format.TheVariants.{Rgba8Pre}
 use Rattle.wf_image.specs.Bitmap.{Bitmap}
 use Rattle.wf_stream.specs.Streams.{buffers_at, stream_at}
+use Rattle.wf_calls.specs.declared.call.Call.TheVariants as call
+use Rattle.wf_calls.specs.declared.call.Call.{Call}
 use Rattle.wf_calls.specs.declared.order.Turn.{Turn}
 use Rattle.wf_film.specs.Film.{Frame, frame_of}
 use Rattle.wf_model.specs.declared.Context.{Context}
@@ -13,17 +15,24 @@ use Rattle.wf_model.specs.Picture.{picture}
 use Rattle.wf_model.specs.State.{State}
 use Rattle.wf_script.specs.Script.{PlainScript}
 use Rattle.wf_turn.specs.Play.{replay}
-use Rattle.wf_turn.specs.Turns.{Show}
+use Rattle.wf_turn.specs.Program.{Program, next, waiting}
+use Rattle.wf_turn.specs.Turns.{Show, program_at}
 
--- one entry of the order, and the state that the entries before it leave, of which this holds
-pub record At (script : PlainScript) (order : List Turn) (Holds : State → Turn → Type 0) : Type 0 where
+-- one entry of the order, and the show that the entries before it leave, of which this holds
+pub record At (script : PlainScript) (order : List Turn) (Holds : Show → Turn → Type 0) : Type 0 where
   pub earlier : List Turn
   pub entry : Turn
   pub later : List Turn
   pub cut : order ≡ earlier ++ entry ∷ later
   pub moment : Show
   pub reached : replay script earlier ≡ Some moment
-  pub holds : Holds moment.state entry
+  pub holds : Holds moment entry
+
+-- the next call of the client of an entry is this one, which begins a frame
+pub record Asks (show : Show) (t : Turn) (c : Call) : Type 0 where
+  pub program : Program
+  pub own : program_at show t.client ≡ Some program
+  pub next_is : next program ≡ Some (waiting c)
 
 -- the frame that a port shows in a state: the picture of its scene, with the newest images of the streams that it names
 abbrev pub port_frame : State → ℕ → ℕ → Option Frame
@@ -32,13 +41,16 @@ port_frame h port tick =
     (λ scene. frame_of port tick (picture scene (newest_images (scene_streams scene) h.streams) Rgba8Pre))
     (port_scene port h.display)
 
--- an entry tells that the frame begins, which its port shows in that state
-pub record Begins (f : Frame) (h : State) (t : Turn) : Type 0 where
+-- an entry answers the Begin of the frame's port, in the frame's tick, with Ok and the port: the frame is what the port
+-- shows at that moment
+pub record Begins (f : Frame) (show : Show) (t : Turn) : Type 0 where
+  pub asks : Asks show t (call.BeginPort (pos f.port))
+  pub tick : asks.program.tick ≡ f.tick
   pub code : t.code ≡ 0
   pub value : t.value ≡ f.port
-  pub shows : port_frame h f.port f.tick ≡ Some f
+  pub shows : port_frame show.state f.port f.tick ≡ Some f
 
--- one entry of the order tells that the frame begins
+-- one entry of the order answers the Begin of the frame
 abbrev pub IsOfMoment : PlainScript → List Turn → Frame → Type 0
 IsOfMoment script order f = At script order (Begins f)
 
@@ -50,17 +62,19 @@ context_image h c =
     (λ b. picture c.committed (newest_images (scene_streams c.committed) h.streams) b.format)
     (buffers_at c.target h.streams)
 
--- an entry tells that a frame of an active context begins, which draws this image into a stream
-pub record Composes (stream : ℕ) (image : Bitmap) (h : State) (t : Turn) : Type 0 where
+-- an entry answers the Begin of the active context that comes next, with Ok and the context's handle: the image is what
+-- the context composes at that moment, into this stream
+pub record Composes (stream : ℕ) (image : Bitmap) (show : Show) (t : Turn) : Type 0 where
   pub above : ℕ
+  pub asks : Asks show t (call.BeginNext above)
   pub context : Context
-  pub next : next_context above h.core.contexts ≡ Some context
+  pub next : next_context above show.state.core.contexts ≡ Some context
   pub target : context.target ≡ stream
   pub code : t.code ≡ 0
   pub value : t.value ≡ context.handle
-  pub shows : context_image h context ≡ Some image
+  pub shows : context_image show.state context ≡ Some image
 
--- one entry of the order tells that a context's frame begins, which draws this image into a stream
+-- one entry of the order answers the Begin of a context that composes this image into a stream
 abbrev pub IsComposed : PlainScript → List Turn → ℕ → Bitmap → Type 0
 IsComposed script order stream image = At script order (Composes stream image)
 

@@ -7,9 +7,9 @@ use Rattle.wf_image.specs.Paints.{painted}
 use Rattle.wf_calls.specs.declared.call.Call.{Call}
 use Rattle.wf_calls.specs.declared.call.Call.TheVariants as call
 use Rattle.wf_calls.specs.declared.call.Job.{Job}
-use Rattle.wf_calls.specs.declared.call.Payload.{Payload}
-use Rattle.wf_calls.specs.declared.call.Payload.TheVariants as payload
-use Rattle.wf_calls.specs.declared.call.Reply.{Reply}
+use Rattle.wf_calls.specs.declared.reply.Payload.{Payload}
+use Rattle.wf_calls.specs.declared.reply.Payload.TheVariants as payload
+use Rattle.wf_calls.specs.declared.reply.Reply.{Reply}
 use Rattle.wf_model.specs.Picture.{picture}
 use Rattle.wf_script.specs.declared.line.Line.{Line}
 use Rattle.wf_script.specs.declared.line.Verb.{Verb}

@@ -1,6 +1,6 @@
 use Rattle.std.proofs.Common.{arith, if◌then◌else◌, ◌==◌, None}
 use Rattle.wf_model.specs.Composition.{recorded}
-use Rattle.wf_core.proofs.Steps.{map_step}
+use Rattle.wf_words.specs.Places.{map_step}
 use Rattle.wf_core.proofs.registers.record_in.Goals as goal
 
 pub loop-place-preserved : goal.loop-place-preserved

@@ -1,6 +1,7 @@
 use Rattle.std.proofs.Common.{◌∙◌, ap, sym, get_or, List}
 use Rattle.wf_turn.specs.Program.{Program, taught}
-use Rattle.wf_turn.proofs.Teaching.{map_all, map_step, next_is, script_at}
+use Rattle.wf_words.specs.Places.{map_all, map_step, next_is}
+use Rattle.wf_turn.proofs.Teaching.{script_at}
 use Rattle.wf_turn.proofs.show.teach.Goals as goal
 
 pub learn-requires-clause-script : goal.learn-requires-clause-script

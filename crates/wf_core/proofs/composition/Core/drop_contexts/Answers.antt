@@ -4,7 +4,7 @@ use Rattle.wf_core.specs.Losses.{but_contexts_of}
 use Rattle.wf_core.proofs.Dropping.{then_lost}
 use Rattle.wf_core.proofs.Owners.{standing}
 use Rattle.wf_core.proofs.Remainders.{contexts_fewer, no_contexts, one_context_fewer}
-use Rattle.wf_core.proofs.Rises.{get_position}
+use Rattle.wf_words.specs.Found.{get_position}
 use Rattle.wf_core.proofs.composition.Core.drop_contexts.Goals as goal
 use Rattle.wf_core.proofs.composition.Core.drop_contexts.Goals.{After-drop_context, After-first_context}
 

@@ -3,7 +3,8 @@ use Rattle.wf_life.specs.declared.Kind.TheVariants as kind
 use Rattle.wf_scene.specs.Cached.{forget, has_element}
 use Rattle.wf_model.specs.Composition.{with_cached}
 use Rattle.wf_core.proofs.Dropping.{InContext, element_dropped, element_under, lives, loses}
-use Rattle.wf_core.proofs.Owners.{standing, within}
+use Rattle.wf_core.proofs.Owners.{standing}
+use Rattle.wf_words.specs.Places.{within}
 use Rattle.wf_core.proofs.Scenes.{placed_is}
 use Rattle.wf_core.proofs.composition.Core.drop_element.Goals as goal
 use Rattle.wf_core.proofs.composition.Core.drop_element.Goals.{After-index_mut}

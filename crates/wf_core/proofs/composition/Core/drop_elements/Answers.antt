@@ -4,8 +4,7 @@ use Rattle.wf_scene.specs.Cached.{forget}
 use Rattle.wf_model.specs.declared.Context.{Context}
 use Rattle.wf_model.specs.Composition.{change_context, with_cached}
 use Rattle.wf_core.proofs.Dropping.{then_lost}
-use Rattle.wf_core.proofs.Leaving.{any_at}
-use Rattle.wf_core.proofs.Lists.{any_found}
+use Rattle.wf_words.specs.Found.{any_at, any_found}
 use Rattle.wf_core.proofs.Owners.{standing}
 use Rattle.wf_core.proofs.Remainders.{element_first, element_none, emptied, fewer_elements, others_stay, still_stands}
 use Rattle.wf_core.proofs.composition.Core.drop_elements.Goals as goal

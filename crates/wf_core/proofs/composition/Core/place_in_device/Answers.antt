@@ -1,6 +1,6 @@
 use Rattle.std.proofs.Common.{◌==◌, ◌∙◌, sym, ap, position}
 use Rattle.wf_model.specs.declared.Context.{Context}
-use Rattle.wf_model.specs.Composition.{CoreState}
+use Rattle.wf_model.specs.Objects.{CoreState}
 use Rattle.wf_core.proofs.Lookups.{placed, not_placed, none_placed}
 use Rattle.wf_core.proofs.composition.Core.place_in_device.Goals as goal
 

@@ -1,6 +1,6 @@
 use Rattle.std.proofs.Common.{◌≡◌, ◌∙◌, sym, ap, subst, set, Ok, refl}
 use Rattle.wf_scene.specs.Consistent.{consistent}
-use Rattle.wf_model.specs.Composition.{CoreState}
+use Rattle.wf_model.specs.Objects.{CoreState}
 use Rattle.wf_model.specs.declared.Context.{Context}
 use Rattle.wf_model.specs.Core.{fault_as_refusal}
 use Rattle.wf_core.specs.Fits.{Fits}

@@ -1,6 +1,6 @@
 use Rattle.std.proofs.Common.{◌≡◌, ◌∙◌, sym, subst, set, slice_get, Some, refl}
 use Rattle.wf_scene.specs.Cached as cached
-use Rattle.wf_model.specs.Composition.{CoreState}
+use Rattle.wf_model.specs.Objects.{CoreState}
 use Rattle.wf_core.specs.Fits.{Fits}
 use Rattle.wf_core.proofs.Owners.{owned, standing}
 use Rattle.wf_core.proofs.Keeping.{context_keeps}

@@ -1,6 +1,6 @@
 use Rattle.std.proofs.Common.{◌∙◌, ◌==◌, not, filter, sym, ap, Err}
 use Rattle.wf_model.specs.declared.Device.{Device}
-use Rattle.wf_model.specs.Composition.{CoreState}
+use Rattle.wf_model.specs.Objects.{CoreState}
 use Rattle.wf_core.proofs.Destroying.{bad_device, device_destroyed, device_lives}
 use Rattle.wf_core.proofs.Dropping.{then_lost}
 use Rattle.wf_core.proofs.composition.Core.try_device_destroy.Goals as goal
@@ -8,7 +8,7 @@ use Rattle.wf_core.proofs.composition.Core.try_device_destroy.Goals as goal
 pub returns-in_default-clause-case : goal.returns-in_default-clause-case
 returns-in_default-clause-case c =
     let a = c.args in
-    bad_device a.self.now a.store.now c.requires.handles a.device _ (sym c.key_of.ensures ∙ c.in_default.is) ∙ ap Err (sym c.refusal.ensures)
+    bad_device a.self.now a.store.now c.requires.handles a.device _ (sym c.key_of.ensures ∙ c.in_default.is) ∙ ap Err (sym c.of.ensures)
 
 pub drop_device-requires-clause-live : goal.drop_device-requires-clause-live
 drop_device-requires-clause-live c =

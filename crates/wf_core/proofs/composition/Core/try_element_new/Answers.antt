@@ -6,7 +6,7 @@ use Rattle.wf_model.specs.declared.Context.{Context}
 use Rattle.wf_core.specs.Fits.{HasElements}
 use Rattle.wf_core.specs.Sides.{side_of}
 use Rattle.wf_core.proofs.ElementCalls.{element_made}
-use Rattle.wf_core.proofs.Lists.{each_at}
+use Rattle.wf_words.specs.Each.{each_at}
 use Rattle.wf_core.proofs.Makings.{element_fits, fresh}
 use Rattle.wf_core.proofs.Owners.{owned, owned_parts, standing}
 use Rattle.wf_core.proofs.Seeing.{not_full}

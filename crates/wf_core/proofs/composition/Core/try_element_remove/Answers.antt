@@ -2,11 +2,12 @@ use Rattle.std.proofs.Common.{◌≡◌, ◌∙◌, sym, ap, subst, set, slice_g
 use Rattle.wf_scene.specs.declared.attributes.Refused.{Refused}
 use Rattle.wf_scene.specs.Cached as cached
 use Rattle.wf_model.specs.declared.Context.{Context}
+use Rattle.wf_model.specs.Objects.{CoreState}
 use Rattle.wf_words.specs.Refusals.{◌>>=◌}
 use Rattle.wf_scene.specs.Cached.{CachedScene}
 use Rattle.wf_model.specs.Outcome.{Outcome}
 use Rattle.wf_model.specs.Core.{by_scene}
-use Rattle.wf_model.specs.Composition.{CoreSide, CoreState, change_context, with_cached}
+use Rattle.wf_model.specs.Composition.{CoreSide, change_context, with_cached}
 use Rattle.wf_core.specs.Fits.{Fits}
 use Rattle.wf_core.specs.Owners.{owning_context}
 use Rattle.wf_core.specs.Sides.{side_of}

@@ -3,11 +3,12 @@ use Rattle.wf_words.specs.Refusals.{◌>>=◌}
 use Rattle.wf_scene.specs.Cached as cached
 use Rattle.wf_scene.specs.Cached.{CachedScene}
 use Rattle.wf_scene.specs.Values.{component}
-use Rattle.wf_calls.specs.declared.code.Refusal.{Refusal}
+use Rattle.wf_calls.specs.declared.reply.Refusal.{Refusal}
 use Rattle.wf_model.specs.declared.Context.{Context}
+use Rattle.wf_model.specs.Objects.{CoreState}
 use Rattle.wf_model.specs.Outcome.{Outcome}
 use Rattle.wf_model.specs.Core.{by_scene, linked}
-use Rattle.wf_model.specs.Composition.{CoreSide, CoreState, change_context, with_cached}
+use Rattle.wf_model.specs.Composition.{CoreSide, change_context, with_cached}
 use Rattle.wf_core.specs.Fits.{Fits}
 use Rattle.wf_core.specs.Sides.{side_of}
 use Rattle.wf_core.proofs.ElementCalls.{in_owner}

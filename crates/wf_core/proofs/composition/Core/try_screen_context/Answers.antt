@@ -1,7 +1,7 @@
 use Rattle.std.proofs.Common.{◌≡◌, ◌==◌, ◌∙◌, sym, ap, Err, ℕ, true, false, refl}
 use Rattle.std.proofs.Math.Facts.{to_z-of_z}
 use Rattle.wf_words.specs.Whole.{count_of}
-use Rattle.wf_calls.specs.declared.code.Refusal.{Refusal}
+use Rattle.wf_calls.specs.declared.reply.Refusal.{Refusal}
 use Rattle.wf_calls.specs.Codes.{is_out_of_memory}
 use Rattle.wf_model.specs.Core.{has_port, screen_context}
 use Rattle.wf_core.specs.Sides.{side_of}
@@ -12,7 +12,7 @@ use Rattle.wf_core.proofs.composition.Core.try_screen_context.Goals as goal
 pub returns-in_default-clause-case : goal.returns-in_default-clause-case
 returns-in_default-clause-case c =
     let a = c.args in
-    bad_device a.self.now a.store.now c.requires.fits a.device a.port a.screen _ (sym c.key_of.ensures ∙ c.in_default.is) ∙ ap Err (sym c.refusal.ensures)
+    bad_device a.self.now a.store.now c.requires.fits a.device a.port a.screen _ (sym c.key_of.ensures ∙ c.in_default.is) ∙ ap Err (sym c.of.ensures)
 
 pub returns-in-Err-clause-case : goal.returns-in-Err-clause-case
 returns-in-Err-clause-case c =
@@ -25,7 +25,7 @@ returns-then-has_port-clause-case c =
     let w = side_of a.self.now a.store.now in
     let count : c.port_number-port.result ≡ count_of a.port = rw (to_z-of_z c.ranges.port) at c.port_number-port.ensures.number in
     let used : has_port (count_of a.port) w ≡ true = sym (c.has_port.ensures ∙ ap (λ (n : ℕ). has_port n w) count) ∙ c.if-has_port.true in
-    in_use a.self.now a.store.now c.requires.fits a.device a.port a.screen c.in-Some.field-0 (sym c.key_of.ensures ∙ c.in-Some.is) c.in-Ok.target c.in-Ok.ensures _ used ∙ ap Err (sym c.refusal-then-has_port.ensures)
+    in_use a.self.now a.store.now c.requires.fits a.device a.port a.screen c.in-Some.field-0 (sym c.key_of.ensures ∙ c.in-Some.is) c.in-Ok.target c.in-Ok.ensures _ used ∙ ap Err (sym c.of-then-has_port.ensures)
 
 pub returns-then-has_no_room-clause-case : goal.returns-then-has_no_room-clause-case
 returns-then-has_no_room-clause-case c =
@@ -34,7 +34,7 @@ returns-then-has_no_room-clause-case c =
     let count : c.port_number-port.result ≡ count_of a.port = rw (to_z-of_z c.ranges.port) at c.port_number-port.ensures.number in
     let free : has_port (count_of a.port) w ≡ false = sym (c.has_port.ensures ∙ ap (λ (n : ℕ). has_port n w) count) ∙ c.if-has_port.false in
     limited a.self.now a.store.now c.requires.fits a.device a.port a.screen c.in-Some.field-0 (sym c.key_of.ensures ∙ c.in-Some.is) c.in-Ok.target c.in-Ok.ensures free _
-    (sym c.has_no_room.ensures ∙ c.if-has_no_room.true) ∙ ap Err (sym c.refusal-then-has_no_room.ensures)
+    (sym c.has_no_room.ensures ∙ c.if-has_no_room.true) ∙ ap Err (sym c.of-then-has_no_room.ensures)
 
 pub returns-in_default-new-clause-case : goal.returns-in_default-new-clause-case
 returns-in_default-new-clause-case c =
@@ -42,9 +42,9 @@ returns-in_default-new-clause-case c =
     let w = side_of a.self.now a.store.now in
     let count : c.port_number-port.result ≡ count_of a.port = rw (to_z-of_z c.ranges.port) at c.port_number-port.ensures.number in
     let free : has_port (count_of a.port) w ≡ false = sym (c.has_port.ensures ∙ ap (λ (n : ℕ). has_port n w) count) ∙ c.if-has_port.false in
-    ap (λ (r : Refusal). screen_context a.device a.port a.screen (is_out_of_memory r.code) w) c.refusal-in_default-new.ensures
+    ap (λ (r : Refusal). screen_context a.device a.port a.screen (is_out_of_memory r.code) w) c.of-in_default-new.ensures
     ∙ without_memory a.self.now a.store.now c.requires.fits a.device a.port a.screen c.in-Some.field-0 (sym c.key_of.ensures ∙ c.in-Some.is) c.in-Ok.target c.in-Ok.ensures free (sym c.has_no_room.ensures ∙ c.if-has_no_room.false)
-    ∙ ap Err (sym c.refusal-in_default-new.ensures)
+    ∙ ap Err (sym c.of-in_default-new.ensures)
 
 pub returns-in-Err-mint-clause-case : goal.returns-in-Err-mint-clause-case
 returns-in-Err-mint-clause-case c =

@@ -1,5 +1,5 @@
 use Rattle.std.proofs.Common.{◌∙◌, sym, subst, set, refl}
-use Rattle.wf_model.specs.Composition.{CoreState}
+use Rattle.wf_model.specs.Objects.{CoreState}
 use Rattle.wf_core.specs.Fits.{Fits}
 use Rattle.wf_core.proofs.Activating.{active_case, active_fits}
 use Rattle.wf_core.proofs.Owners.{owned, standing}

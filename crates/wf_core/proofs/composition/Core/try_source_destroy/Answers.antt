@@ -3,14 +3,15 @@ use Rattle.std.specs.List.{list_any}
 use Rattle.wf_model.specs.Composition.{is_of_device}
 use Rattle.wf_model.specs.Core.{without_source}
 use Rattle.wf_model.specs.declared.Source.{Source}
-use Rattle.wf_core.proofs.Destroying.{any_first, bad_device, bad_source, left_so, source_destroyed}
+use Rattle.wf_words.specs.Found.{any_first}
+use Rattle.wf_core.proofs.Destroying.{bad_device, bad_source, left_so, source_destroyed}
 use Rattle.wf_core.proofs.composition.Core.try_source_destroy.Goals as goal
 use Rattle.wf_core.proofs.composition.Core.try_source_destroy.Goals.{After-is_owned}
 
 pub returns-in_default-clause-case : goal.returns-in_default-clause-case
 returns-in_default-clause-case c =
     let a = c.args in
-    bad_device a.self.now a.store.now c.requires.handles a.device _ (sym c.key_of.ensures ∙ c.in_default.is) ∙ ap Err (sym c.refusal.ensures)
+    bad_device a.self.now a.store.now c.requires.handles a.device _ (sym c.key_of.ensures ∙ c.in_default.is) ∙ ap Err (sym c.of.ensures)
 
 -- what was asked of the sources
 asked : (c : After-is_owned) → c.is_owned.result ≡ list_any (λ (s : Source). (s.handle == c.args.source) && is_of_device c.args.device c.args.self.now s.context) c.args.self.now.sources
@@ -20,7 +21,7 @@ pub returns-then-not-is_owned-clause-case : goal.returns-then-not-is_owned-claus
 returns-then-not-is_owned-clause-case c =
     let a = c.args in
     let none = sym (asked (goal.at.returns-then-not-is_owned-clause-case c).After-is_owned) ∙ c.if-not-is_owned.true in
-    bad_source a.self.now a.store.now c.requires.handles a.device a.source c.in-Some.field-0 (sym c.key_of.ensures ∙ c.in-Some.is) none ∙ ap Err (sym c.refusal-then-not-is_owned.ensures)
+    bad_source a.self.now a.store.now c.requires.handles a.device a.source c.in-Some.field-0 (sym c.key_of.ensures ∙ c.in-Some.is) none ∙ ap Err (sym c.of-then-not-is_owned.ensures)
 
 pub drop_source-requires-clause-live : goal.drop_source-requires-clause-live
 drop_source-requires-clause-live c =

@@ -1,19 +1,15 @@
 use Rattle.std.proofs.Common.{ℕ, Err, map, refl, sym, ap, subst, ◌∙◌}
 use Rattle.wf_stream.specs.declared.stream.Refused.{Refused}
 use Rattle.wf_stream.specs.Buffers.{acquired}
-use Rattle.wf_stream.specs.Streams.{StoreView, change_stream}
-use Rattle.wf_image.specs.declared.canvas.Canvas.{Canvas}
-use Rattle.wf_calls.specs.declared.call.Reply.{Reply}
-use Rattle.wf_calls.specs.declared.call.Payload.TheVariants as payload
+use Rattle.wf_stream.specs.Streams.{StoreView, change_stream, has_number}
 use Rattle.wf_calls.specs.declared.code.Code.TheVariants as code
-use Rattle.wf_model.specs.Outcome.{answer}
+use Rattle.wf_calls.specs.Replies.{bare, gives_canvas, refusal, refused}
 use Rattle.wf_model.specs.Streams.{acquirable, acquire_step, canvas_of, with_stream}
 use Rattle.std.specs.Option.{option_map}
 use Rattle.wf_machine.specs.Inside.{IsSound, state_of}
 use Rattle.wf_machine.specs.Ports.{port_of, running_of}
 use Rattle.wf_machine.proofs.Drawing.{frame_acquired}
 use Rattle.wf_machine.proofs.Buffering.{busy, found, given, no_buffer}
-use Rattle.wf_machine.proofs.Changes.{has_number}
 use Rattle.wf_machine.proofs.StillFitting.{acquired_keeps, shape_kept}
 use Rattle.wf_machine.proofs.Sounds.{leaves, sound_kept, stays}
 use Rattle.wf_machine.proofs.parts.Parts.acquire.Goals as goal
@@ -30,7 +26,7 @@ returns-in-Err-Busy c =
     let s = found c.args.stream c.in-Ok.number inside.store.numbered inside.store.streams c.self.invariant.numbered c.in-Ok.ensures.number in
     let out = c.in-Err-Busy.ensures.busy (ap (λ (e : Refused). Err e) c.in-Err-Busy.field-0-is) s.0 s.2 in
     stays inside c.args.self.now c.self.view_is (λ t r. acquire_step t (acquirable c.args.stream t))
-    c.acquire_from.new.store c.refused-in-Err-Busy.result (answer code.Busy 0) c.in-Err-Busy.ensures.refused c.refused-in-Err-Busy.ensures (busy c.args.stream _ s.0 s.1 out)
+    c.acquire_from.new.store c.refused-in-Err-Busy.result (bare (refused (refusal code.Busy))) c.in-Err-Busy.ensures.refused c.refused-in-Err-Busy.ensures (busy c.args.stream _ s.0 s.1 out)
 
 pub returns-in-Err-NoBuffer : goal.returns-in-Err-NoBuffer
 returns-in-Err-NoBuffer c =
@@ -38,7 +34,7 @@ returns-in-Err-NoBuffer c =
     let s = found c.args.stream c.in-Ok.number inside.store.numbered inside.store.streams c.self.invariant.numbered c.in-Ok.ensures.number in
     let full = c.in-Err-NoBuffer.ensures.no_buffer (ap (λ (e : Refused). Err e) c.in-Err-NoBuffer.field-0-is) s.0 s.2 in
     stays inside c.args.self.now c.self.view_is (λ t r. acquire_step t (acquirable c.args.stream t))
-    c.acquire_from.new.store c.refused-in-Err-NoBuffer.result (answer code.NoBuffer 0) c.in-Err-NoBuffer.ensures.refused c.refused-in-Err-NoBuffer.ensures (no_buffer c.args.stream _ s.0 s.1 full.0 full.1)
+    c.acquire_from.new.store c.refused-in-Err-NoBuffer.result (bare (refused (refusal code.NoBuffer))) c.in-Err-NoBuffer.ensures.refused c.refused-in-Err-NoBuffer.ensures (no_buffer c.args.stream _ s.0 s.1 full.0 full.1)
 
 pub invariant_of-self-2 : goal.invariant_of-self-2
 invariant_of-self-2 c =
@@ -52,8 +48,7 @@ returns c =
     let s = found c.args.stream number inside.store.numbered inside.store.streams c.self.invariant.numbered c.in-Ok.ensures.number in
     let free = c.in-Ok-acquire_from.ensures.free s.0 s.2 in
     let canvas = c.in-Ok-acquire_from.ensures.canvas s.0 s.2 in
-    let answered : Canvas → Reply = λ x. record { code = code.Ok; value = 0; payload = payload.Canvas x } in
     leaves inside c.args.self.now c.self.view_is (λ t r. acquire_step t (acquirable c.args.stream t))
-    c.acquire_from.new.store (record inside.store { streams = change_stream number acquired inside.store.streams }) (answered c.in-Ok-acquire_from.canvas) (answered (canvas_of s.0))
-    c.in-Ok-acquire_from.ensures.acquired (ap answered canvas)
-    (given c.args.stream (state_of inside) s.0 s.1 free.0 free.1 ∙ ap (λ (n : ℕ). (with_stream n acquired (state_of inside), answered (canvas_of s.0))) (has_number number inside.store.streams s.0 s.2))
+    c.acquire_from.new.store (record inside.store { streams = change_stream number acquired inside.store.streams }) c.giving_canvas.result (gives_canvas (canvas_of s.0))
+    c.in-Ok-acquire_from.ensures.acquired (c.giving_canvas.ensures ∙ ap gives_canvas canvas)
+    (given c.args.stream (state_of inside) s.0 s.1 free.0 free.1 ∙ ap (λ (n : ℕ). (with_stream n acquired (state_of inside), gives_canvas (canvas_of s.0))) (has_number number inside.store.streams s.0 s.2))

@@ -1,15 +1,49 @@
-use Rattle.std.proofs.Common.{◌≡◌}
+use Rattle.std.proofs.Common.{◌≡◌, Option, ap, sym, subst, Result, Ok, Some, ◌∙◌, option_map, ◌<◌, ◌-◌, ◌^◌, ◌<◌, arith}
+use Rattle.wf_calls.specs.declared.reply.Reply.{Reply}
 use Rattle.std.proofs.Math.Facts.{to_z-of_z}
-use Rattle.wf_calls.specs.declared.call.Reply.{Reply}
-use Rattle.wf_model.specs.State.{State}
-use Rattle.wf_machine.specs.Object.{IsAnswer}
-use Rattle.wf_machine.proofs.PortFrames.{begun_at}
+use mir.Syntax.{w64}
+use mir.Val.{SFits}
+use Rattle.std.proofs.Common.{rules}
+use Rattle.wf_words.specs.Whole.{count_of}
 use Rattle.wf_machine.proofs.parts.Parts.begin_port.Goals as goal
+use Rattle.wf_machine.proofs.PortFrames.{has_mode, may_start, port_begins}
+use Rattle.wf_model.specs.Frames.{begin_port, Beginning, started}
+use Rattle.wf_calls.specs.declared.reply.Refusal.{Refusal}
+use Rattle.wf_machine.specs.Ports.{running_of}
+use Rattle.wf_machine.specs.Starting.{beginning_of}
+use Rattle.wf_machine.specs.Object.{IsAnswer}
+use Rattle.wf_calls.specs.declared.call.JobKind.TheVariants as kind
+use Rattle.std.proofs.Common.{◌+◌, ◌-◌, ◌^◌, ◌<◌, arith}
+use Rattle.wf_model.specs.State.{State}
+use Rattle.wf_machine.specs.declared.frame.Frame.{Frame}
+use Rattle.wf_words.specs.Options.{not_some}
+
+pub scene_of_port-scene-requires : goal.scene_of_port-scene-requires
+scene_of_port-scene-requires c =
+    has_mode c.self.inside c.args.self.now c.self.view_is c.in-Some.place c.index.result.now c.index.ensures (c.in-Some.ensures.1) c.self.invariant
+
+pub start_frame-requires-clause-may : goal.start_frame-requires-clause-may
+start_frame-requires-clause-may c = 
+    may_start c.self.inside c.args.self.now c.self.view_is c.in-Some.place c.index.result.now c.index.ensures (c.in-Some.ensures.1)
+    c.scene_of_port-scene.result c.scene_of_port-scene.ensures
+
+begun : (c : goal.After-start_frame)
+    → begin_port c.args.port c.args.self.now
+    ≡ Ok (Some (beginning_of (kind.Port (c.in-Some.place + 1)) c.scene_of_port-scene.result (c.in-Some.place + 1) c.args.self.now))
+begun c =
+    let seen = c.self.view_is in
+    let p : SFits w64 c.args.port = search rules in
+    let counted : count_of c.args.port ≡ c.in-Some.place + 1 = rw (to_z-of_z p) at c.in-Some.ensures.0 in
+    port_begins c.self.inside c.args.self.now seen c.in-Some.place c.index.result.now c.index.ensures c.in-Some.ensures.1
+    c.scene_of_port-scene.result c.scene_of_port-scene.ensures c.args.port counted
+    (sym (ap (λ (s : State). s.frame) seen) ∙ ap (λ (f : Option Frame). option_map running_of f) (not_some c.self.inside.frame c.if-not-is_none.ensures))
+    (subst (λ (s : State). s.begun < 2 ^ 64 - 1) seen (omega (arith, c.if-self.false, c.self.ranges)))
 
 pub returns-clause-left : goal.returns-clause-left
 returns-clause-left c =
-    begun_at c.args.self.now c.args.port c.in-Some.place (rw (to_z-of_z c.ranges.port) at c.in-Some.ensures.0) (λ (x : State × Reply). c.begin_at.new.self ≡ x.0) c.in-Some.ensures.1 c.begin_at.ensures.left
+    c.start_frame.ensures.left ∙ sym (ap (λ (b : Result (Option Beginning) Refusal). (started c.args.self.now b).0) (begun c))
 
 pub returns-clause-answer : goal.returns-clause-answer
 returns-clause-answer c =
-    begun_at c.args.self.now c.args.port c.in-Some.place (rw (to_z-of_z c.ranges.port) at c.in-Some.ensures.0) (λ (x : State × Reply). IsAnswer x.1 c.begin_at.result) c.in-Some.ensures.1 c.begin_at.ensures.answer
+    subst (λ (b : Result (Option Beginning) Refusal). IsAnswer (started c.args.self.now b).1 c.start_frame.result) (sym (begun c))
+    c.start_frame.ensures.answer

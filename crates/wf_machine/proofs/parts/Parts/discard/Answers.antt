@@ -1,8 +1,7 @@
 use Rattle.std.proofs.Common.{map, sym, ap, subst, ◌∙◌}
 use Rattle.wf_stream.specs.Buffers.{discarded}
 use Rattle.wf_stream.specs.Streams.{StoreView, change_stream}
-use Rattle.wf_calls.specs.declared.code.Code.TheVariants as code
-use Rattle.wf_model.specs.Outcome.{answer}
+use Rattle.wf_calls.specs.Replies.{bare, done}
 use Rattle.wf_model.specs.Streams.{canvas_back, is_out_at_client}
 use Rattle.std.specs.Option.{option_map}
 use Rattle.wf_machine.specs.Inside.{IsSound, state_of}
@@ -29,5 +28,5 @@ returns c =
     let inside = c.self.inside in
     let out = ap (is_out_at_client c.args.canvas) c.self.view_is ∙ sym c.is_out_at_client.ensures ∙ c.if-not-is_out_at_client.false in
     leaves inside c.args.self.now c.self.view_is (λ t r. canvas_back c.args.canvas discarded t)
-    c.discard_to.new.store (record inside.store { streams = change_stream c.args.canvas.stream discarded inside.store.streams }) c.done.result (answer code.Ok 0)
-    c.discard_to.ensures c.done.ensures (comes_back c.args.canvas discarded (state_of inside) out)
+    c.discard_to.new.store (record inside.store { streams = change_stream c.args.canvas.stream discarded inside.store.streams }) c.bare.result (bare (done 0))
+    c.discard_to.ensures (c.bare.ensures ∙ ap bare c.done.ensures) (comes_back c.args.canvas discarded (state_of inside) out)

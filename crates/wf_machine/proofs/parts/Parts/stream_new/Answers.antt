@@ -1,10 +1,10 @@
-use Rattle.std.proofs.Common.{◌+◌, Err, sym, ap, subst, ◌∙◌}
+use Rattle.std.proofs.Common.{◌+◌, Err, sym, ap, subst, ◌∙◌, ℕ}
 use Rattle.wf_stream.specs.Streams.{StoreView, with_live_stream}
 use Rattle.wf_calls.specs.declared.code.Code.TheVariants as code
 use Rattle.wf_calls.specs.Codes.{is_out_of_memory}
 use Rattle.wf_words.specs.Whole.{count_of}
-use Rattle.wf_model.specs.Outcome.{answer}
-use Rattle.wf_model.specs.Streams.{new_buffers, size_of, stream_new, stream_step}
+use Rattle.wf_calls.specs.Replies.{bare, done, refusal, refused}
+use Rattle.wf_model.specs.Streams.{new_buffers, size_from, stream_new, stream_step}
 use Rattle.wf_machine.specs.Inside.{IsSound}
 use Rattle.wf_machine.proofs.Sounds.{leaves, limited, made, made_sides, sound_made, stays, unmade}
 use Rattle.wf_life.specs.declared.handles.MakeStop.{MakeStop}
@@ -16,22 +16,22 @@ returns-in-Err-Limit c =
     let a = c.args in
     let inside = c.self.inside in
     stays inside a.self.now c.self.view_is (λ t r. stream_step t (stream_new a.width a.height a.format a.buffers (is_out_of_memory r.code) t))
-    c.make.new.store c.refused-in-Err-Limit.result (answer code.Limit 0) c.in-Err-Limit.ensures.refused c.refused-in-Err-Limit.ensures
-    (limited a.width a.height a.buffers a.format _ (rw (to_z-of_z c.ranges.width, to_z-of_z c.ranges.height, to_z-of_z c.ranges.buffers) at (sym c.is_stream.ensures ∙ c.if-not-is_stream.false)) (rw (to_z-of_z c.ranges.width, to_z-of_z c.ranges.height, to_z-of_z c.ranges.buffers) at (c.in-Err-Limit.ensures.limit (ap (λ (e : MakeStop). Err e) c.in-Err-Limit.field-0-is))))
+    c.make.new.store (bare c.refuse-in-Err-Limit.result) (bare (refused (refusal code.Limit))) c.in-Err-Limit.ensures.refused (ap bare c.refuse-in-Err-Limit.ensures)
+    (limited a.width a.height a.buffers a.format _ (rw (to_z-of_z c.ranges.width, to_z-of_z c.ranges.height, to_z-of_z c.ranges.buffers) at (sym c.may_make.ensures ∙ c.if-not-may_make.false)) (rw (to_z-of_z c.ranges.width, to_z-of_z c.ranges.height, to_z-of_z c.ranges.buffers) at (c.in-Err-Limit.ensures.limit (ap (λ (e : MakeStop). Err e) c.in-Err-Limit.field-0-is))))
 
 pub returns-in-Err-NoMemory : goal.returns-in-Err-NoMemory
 returns-in-Err-NoMemory c =
     let a = c.args in
     let inside = c.self.inside in
     stays inside a.self.now c.self.view_is (λ t r. stream_step t (stream_new a.width a.height a.format a.buffers (is_out_of_memory r.code) t))
-    c.make.new.store c.refused-in-Err-NoMemory.result (answer code.OutOfMemory 0) c.in-Err-NoMemory.ensures.refused c.refused-in-Err-NoMemory.ensures
-    (unmade a.width a.height a.buffers a.format _ (rw (to_z-of_z c.ranges.width, to_z-of_z c.ranges.height, to_z-of_z c.ranges.buffers) at (sym c.is_stream.ensures ∙ c.if-not-is_stream.false)) (rw (to_z-of_z c.ranges.width, to_z-of_z c.ranges.height, to_z-of_z c.ranges.buffers) at (c.in-Err-NoMemory.ensures.memory (ap (λ (e : MakeStop). Err e) c.in-Err-NoMemory.field-0-is))))
+    c.make.new.store (bare c.refuse-in-Err-NoMemory.result) (bare (refused (refusal code.OutOfMemory))) c.in-Err-NoMemory.ensures.refused (ap bare c.refuse-in-Err-NoMemory.ensures)
+    (unmade a.width a.height a.buffers a.format _ (rw (to_z-of_z c.ranges.width, to_z-of_z c.ranges.height, to_z-of_z c.ranges.buffers) at (sym c.may_make.ensures ∙ c.if-not-may_make.false)) (rw (to_z-of_z c.ranges.width, to_z-of_z c.ranges.height, to_z-of_z c.ranges.buffers) at (c.in-Err-NoMemory.ensures.memory (ap (λ (e : MakeStop). Err e) c.in-Err-NoMemory.field-0-is))))
 
 pub invariant_of-self-2 : goal.invariant_of-self-2
 invariant_of-self-2 c =
     let a = c.args in
     subst (λ (store : StoreView). IsSound (record c.self.inside { store = store })) (sym (rw (to_z-of_z c.ranges.width, to_z-of_z c.ranges.height, to_z-of_z c.ranges.buffers) at c.in-Ok.ensures.made))
-    (sound_made c.self.inside (size_of a.width a.height) a.format (count_of a.buffers) (made_sides a.width a.height a.buffers (rw (to_z-of_z c.ranges.width, to_z-of_z c.ranges.height, to_z-of_z c.ranges.buffers) at (sym c.is_stream.ensures ∙ c.if-not-is_stream.false))) (rw (to_z-of_z c.ranges.width, to_z-of_z c.ranges.height, to_z-of_z c.ranges.buffers) at c.in-Ok.ensures.room) c.self.invariant)
+    (sound_made c.self.inside (size_from a.width a.height) a.format (count_of a.buffers) (made_sides a.width a.height a.buffers (rw (to_z-of_z c.ranges.width, to_z-of_z c.ranges.height, to_z-of_z c.ranges.buffers) at (sym c.may_make.ensures ∙ c.if-not-may_make.false))) (rw (to_z-of_z c.ranges.width, to_z-of_z c.ranges.height, to_z-of_z c.ranges.buffers) at c.in-Ok.ensures.room) c.self.invariant)
 
 pub returns : goal.returns
 returns c =
@@ -39,5 +39,5 @@ returns c =
     let inside = c.self.inside in
     let new = new_buffers a.width a.height a.format a.buffers in
     leaves inside a.self.now c.self.view_is (λ t r. stream_step t (stream_new a.width a.height a.format a.buffers (is_out_of_memory r.code) t))
-    c.make.new.store (with_live_stream new inside.store) c.done.result (answer code.Ok (inside.store.made + 1)) (rw (to_z-of_z c.ranges.width, to_z-of_z c.ranges.height, to_z-of_z c.ranges.buffers) at c.in-Ok.ensures.made) (c.done.ensures ∙ ap (answer code.Ok) c.in-Ok.ensures.handle)
-    (made a.width a.height a.buffers a.format _ (rw (to_z-of_z c.ranges.width, to_z-of_z c.ranges.height, to_z-of_z c.ranges.buffers) at (sym c.is_stream.ensures ∙ c.if-not-is_stream.false)) (rw (to_z-of_z c.ranges.width, to_z-of_z c.ranges.height, to_z-of_z c.ranges.buffers) at c.in-Ok.ensures.room) c.in-Ok.ensures.free)
+    c.make.new.store (with_live_stream new inside.store) (bare c.done.result) (bare (done (inside.store.made + 1))) (rw (to_z-of_z c.ranges.width, to_z-of_z c.ranges.height, to_z-of_z c.ranges.buffers) at c.in-Ok.ensures.made) (ap bare c.done.ensures ∙ ap (λ (n : ℕ). bare (done n)) c.in-Ok.ensures.handle)
+    (made a.width a.height a.buffers a.format _ (rw (to_z-of_z c.ranges.width, to_z-of_z c.ranges.height, to_z-of_z c.ranges.buffers) at (sym c.may_make.ensures ∙ c.if-not-may_make.false)) (rw (to_z-of_z c.ranges.width, to_z-of_z c.ranges.height, to_z-of_z c.ranges.buffers) at c.in-Ok.ensures.room) c.in-Ok.ensures.free)

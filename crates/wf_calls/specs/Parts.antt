@@ -1,0 +1,100 @@
+-- The one table of calls by who answers them. What else sets one call apart from others follows from it.
+use Rattle.std.specs.Prelude.{◌≡◌, ℕ, Bool, true, false, refl}
+use Rattle.wf_calls.specs.declared.call.Call.{Call}
+use Rattle.wf_calls.specs.declared.call.Call.TheVariants as call
+use Rattle.wf_calls.specs.declared.part.Part.{Part}
+use Rattle.wf_calls.specs.declared.part.Part.TheVariants as part
+
+abbrev pub part_of : Call → Part
+part_of (call.StreamNew width height format buffers) = part.Streams
+part_of (call.StreamDestroy stream) = part.Streams
+part_of (call.Acquire stream) = part.Buffers
+part_of (call.Post canvas) = part.Buffers
+part_of (call.Discard canvas) = part.Buffers
+part_of (call.Stat what) = part.Streams
+part_of call.DeviceNew = part.Composition 0
+part_of (call.DeviceDestroy d) = part.Composition d
+part_of (call.GetError d) = part.Composition d
+part_of (call.ScreenContext d port) = part.Composition d
+part_of (call.ContextDestroy d c) = part.Composition d
+part_of (call.ElementNew d c) = part.Composition d
+part_of (call.ElementDestroy d e) = part.Composition d
+part_of (call.SourceNew d c stream) = part.Composition d
+part_of (call.SourceDestroy d x) = part.Composition d
+part_of (call.MaskNew d c stream) = part.Composition d
+part_of (call.MaskDestroy d m) = part.Composition d
+part_of (call.ElementSet d e attr value) = part.Composition d
+part_of (call.ElementGet d e attr index) = part.Composition d
+part_of (call.ElementInsert d e below) = part.Composition d
+part_of (call.ElementRemove d e) = part.Composition d
+part_of (call.ElementAbove d e) = part.Composition d
+part_of (call.ElementBelow d e) = part.Composition d
+part_of (call.ContextSet d c attr value) = part.Composition d
+part_of (call.ContextGet d c attr index) = part.Composition d
+part_of (call.Commit d c) = part.Composition d
+part_of (call.Activate d c) = part.Composition d
+part_of (call.Deactivate d c) = part.Composition d
+part_of (call.BeginNext after) = part.Begin
+part_of (call.BeginPort port) = part.Begin
+part_of (call.End job) = part.End
+
+-- a call of composition
+abbrev pub is_of_core : Part → Bool
+is_of_core part.Streams = false
+is_of_core part.Buffers = false
+is_of_core (part.Composition d) = true
+is_of_core part.Begin = false
+is_of_core part.End = false
+
+-- the device that a call names, or 0, which no device has
+abbrev pub device_in : Part → ℕ
+device_in part.Streams = 0
+device_in part.Buffers = 0
+device_in (part.Composition d) = d
+device_in part.Begin = 0
+device_in part.End = 0
+
+abbrev pub device_of : Call → ℕ
+device_of call = device_in (part_of call)
+
+-- a call that begins a frame
+abbrev pub begins : Part → Bool
+begins part.Streams = false
+begins part.Buffers = false
+begins (part.Composition d) = false
+begins part.Begin = true
+begins part.End = false
+
+abbrev pub is_begin : Call → Bool
+is_begin call = begins (part_of call)
+
+-- a call that may bring a write buffer or a Job, or take one
+abbrev pub carries : Part → Bool
+carries part.Streams = false
+carries part.Buffers = true
+carries (part.Composition d) = false
+carries part.Begin = true
+carries part.End = true
+
+-- which error register takes the refusal of a call: that of a device, or none
+pub data Register : Type 0 where
+  of_device : ℕ → Register
+  no_register : Register
+
+abbrev pub recorded_by : Part → Register
+recorded_by part.Streams = no_register
+recorded_by part.Buffers = no_register
+recorded_by (part.Composition d) = of_device d
+recorded_by part.Begin = no_register
+recorded_by part.End = no_register
+
+abbrev pub register_of : Call → Register
+register_of call = recorded_by (part_of call)
+
+-- a call of composition is one of the device that it names
+pub of_core : (p : Part) → is_of_core p ≡ true → p ≡ part.Composition (device_in p)
+of_core part.Streams is = absurd cc
+of_core part.Buffers is = absurd cc
+of_core (part.Composition d) is = refl
+of_core part.Begin is = absurd cc
+of_core part.End is = absurd cc

@@ -1,0 +1,139 @@
+//! What a call answers: its code and its value, and what comes with them.
+
+ghost use Rattle.std.specs.Prelude.{◌≡◌};
+ghost use Rattle.wf_calls.specs.Codes.{entry};
+ghost use Rattle.wf_calls.specs.Replies.{bare, done, gives_back_canvas, gives_back_job, gives_canvas, gives_job, refusal, refused};
+
+use crate::call::Job;
+use crate::code::Code;
+use crate::order::Turn;
+use wf_image::Canvas;
+
+/// What comes with a reply.
+#[derive(Drop)]
+pub enum Payload {
+    Nothing,
+    Canvas(Canvas),
+    Job(Job),
+}
+
+/// The answer to a call.
+#[derive(Drop)]
+pub struct Reply {
+    pub code: Code,
+    pub value: u32,
+    pub payload: Payload,
+}
+
+/// The answer to a call with which nothing comes.
+#[derive(Clone, Copy, Debug, PartialEq, Eq)]
+pub struct Answer {
+    pub code: Code,
+    pub value: u32,
+}
+
+/// Why a call is refused: its code, and its value.
+#[derive(Clone, Copy, Debug, PartialEq, Eq)]
+pub struct Refusal {
+    pub code: Code,
+    pub value: u32,
+}
+
+impl Refusal {
+    /// The refusal by a code alone.
+    pub fn of(code: Code) -> Refusal
+        ensures { result ≡ refusal code }
+    {
+        Refusal { code, value: 0 }
+    }
+}
+
+impl Answer {
+    /// The call was carried out, and answers this value.
+    pub fn done(value: u32) -> Answer
+        ensures { result ≡ done value }
+    {
+        Answer {
+            code: Code::Ok,
+            value,
+        }
+    }
+
+    /// The call is refused.
+    pub fn refused(refusal: Refusal) -> Answer
+        ensures { result ≡ refused refusal }
+    {
+        Answer {
+            code: refusal.code,
+            value: refusal.value,
+        }
+    }
+}
+
+impl Reply {
+    /// The reply with which nothing comes.
+    pub fn bare(answer: Answer) -> Reply
+        ensures { result ≡ bare answer }
+    {
+        Reply {
+            code: answer.code,
+            value: answer.value,
+            payload: Payload::Nothing,
+        }
+    }
+
+    /// The reply that gives a write buffer.
+    pub fn giving_canvas(canvas: Canvas) -> Reply
+        ensures { result ≡ gives_canvas canvas }
+    {
+        Reply {
+            code: Code::Ok,
+            value: 0,
+            payload: Payload::Canvas(canvas),
+        }
+    }
+
+    /// The reply that gives a Job beside its value.
+    pub fn giving_job(value: u32, job: Job) -> Reply
+        ensures { result ≡ gives_job value job }
+    {
+        Reply {
+            code: Code::Ok,
+            value,
+            payload: Payload::Job(job),
+        }
+    }
+
+    /// The reply that hands a refused canvas back.
+    pub fn giving_back_canvas(canvas: Canvas) -> Reply
+        ensures { result ≡ gives_back_canvas canvas }
+    {
+        Reply {
+            code: Code::BadHandle,
+            value: 0,
+            payload: Payload::Canvas(canvas),
+        }
+    }
+
+    /// The reply that hands a refused Job back.
+    pub fn giving_back_job(job: Job) -> Reply
+        ensures { result ≡ gives_back_job job }
+    {
+        Reply {
+            code: Code::BadHandle,
+            value: 0,
+            payload: Payload::Job(job),
+        }
+    }
+
+    /// The journal's entry of this reply to a client.
+    pub fn entry(&self, client: u8) -> Turn
+        ensures { result ≡ entry client self.now }
+    {
+        Turn {
+            client,
+            code: self.code.number(),
+            value: self.value,
+        }
+    }
+}

@@ -1,0 +1,35 @@
+-- What a call of composition leaves and answers.
+use Rattle.std.specs.Prelude.{◌≡◌, ℕ, Bool, List, IfSome, IsSome, IsTrue, Option, pos}
+use Rattle.wf_pixel.specs.Choice.{is_between}
+use Rattle.wf_stream.specs.Streams.{KeptStream, StoreView}
+use Rattle.wf_calls.specs.Codes.{is_out_of_memory}
+use Rattle.wf_calls.specs.Replies.{bare, told}
+use Rattle.wf_calls.specs.declared.call.Call.{Call}
+use Rattle.wf_calls.specs.declared.call.Call.TheVariants as call
+use Rattle.wf_calls.specs.declared.reply.Reply.{Reply}
+use Rattle.wf_model.specs.Composition.{CoreSide, core_answer}
+use Rattle.wf_model.specs.Objects.{CoreState}
+use Rattle.wf_model.specs.Outcome.{Outcome}
+use Rattle.wf_core.specs.Fits.{Fits, IsOfPixels}
+use Rattle.wf_core.specs.Sides.{side_of}
+
+-- nothing of the store changed
+abbrev pub KeepsAll : StoreView → StoreView → Type 0
+KeepsAll old new = new ≡ old
+
+-- a call that names a device: it leaves and answers what the plain call does, where want of memory is told by the answer;
+-- so much of the store is kept; objects and store fit again; and nothing comes with the reply
+pub record Steps (device : ℕ) (plain : Bool → CoreSide → Outcome CoreSide) (Keeps : StoreView → StoreView → Type 0) (core left : CoreState) (store now : StoreView) (reply : Reply) : Type 0 where
+  pub step : core_answer device (side_of core store) (plain (is_out_of_memory reply.code) (side_of core store)) ≡ (side_of left now, told reply)
+  pub kept : Keeps store now
+  pub fits : Fits left now
+  pub bare : reply ≡ bare (told reply)
+
+-- a screen is given for a port from 1 to 4 alone
+abbrev pub IsOfPort : Call → Option ℕ → Type 0
+IsOfPort (call.ScreenContext d port) screen = IsSome screen → IsTrue (is_between (pos 1) (pos 4) port)
+IsOfPort _ screen = Unit {0}
+
+-- the screen that a call is given: it is of the port that the call names, and a stream of pixels where it is kept
+abbrev pub IsGiven : Call → Option ℕ → List KeptStream → Type 0
+IsGiven c screen streams = IsOfPort c screen × IfSome screen (IsOfPixels streams)

@@ -1,0 +1,20 @@
+use Rattle.std.proofs.Common.{subst, ap, ◌∙◌}
+use Rattle.wf_model.specs.Names.{settle_if}
+use Rattle.wf_machine.specs.Object.{IsSettled, IsStep}
+use Rattle.wf_machine.proofs.Stepping.{acts, stepped}
+use Rattle.wf_machine.proofs.machine.Machine.carry.Goals as goal
+
+-- the step that was made
+made : (c : goal.After-settle_if) → IsStep c.args.self.now c.args.client c.args.call c.settle_if.new.self c.act_carrying-reply.result
+made c =
+    let reply = c.act_carrying-reply.result in
+    let done = acts c.args.self.now c.self.inside.parts c.self.view_is c.args.call c.act_carrying-reply.new.self reply
+        c.act_carrying-reply.ensures in
+    stepped c.args.self.now c.args.client c.args.call c.act_carrying-reply.new.self reply done c.settle_if.new.self (c.settle_if.ensures
+        ∙ ap (λ b. settle_if b c.act_carrying-reply.new.self) c.is_ok.ensures)
+
+pub invariant_of-self : goal.invariant_of-self
+invariant_of-self c = (made c).settled (subst IsSettled c.self.view_is c.self.invariant)
+
+pub returns : goal.returns
+returns c = made c

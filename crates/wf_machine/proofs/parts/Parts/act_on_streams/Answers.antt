@@ -1,0 +1,34 @@
+use Rattle.std.proofs.Common.{rules}
+use Rattle.std.proofs.Common.{ap, sym}
+use Rattle.std.proofs.Math.Facts.{to_z-of_z}
+use mir.Syntax.{w64}
+use mir.Val.{SFits}
+use Rattle.wf_calls.specs.declared.call.Call.TheVariants as call
+use Rattle.wf_calls.specs.Replies.{bare}
+use Rattle.wf_model.specs.Step.{act}
+use Rattle.wf_machine.proofs.Acts.{as_act, plain_answer}
+use Rattle.wf_machine.proofs.parts.Parts.act_on_streams.Goals as goal
+
+pub returns-in-StreamNew : goal.returns-in-StreamNew
+unfolding act
+returns-in-StreamNew c =
+    let x = c.in-StreamNew in
+    let w : SFits w64 c.in-StreamNew.width = search rules in
+    let h : SFits w64 c.in-StreamNew.height = search rules in
+    let b : SFits w64 c.in-StreamNew.buffers = search rules in
+    as_act c.args.self.now c.stream_new.new.self c.args.call.now (call.StreamNew x.width x.height x.format x.buffers)
+        (bare c.stream_new.result) x.is
+    (rw (to_z-of_z w, to_z-of_z h, to_z-of_z b) at c.stream_new.ensures) (plain_answer c.stream_new.result)
+
+pub returns-in-StreamDestroy : goal.returns-in-StreamDestroy
+unfolding act
+returns-in-StreamDestroy c =
+    as_act c.args.self.now c.stream_destroy.new.self c.args.call.now (call.StreamDestroy c.in-StreamDestroy.stream)
+        (bare c.stream_destroy.result)
+    c.in-StreamDestroy.is c.stream_destroy.ensures (plain_answer c.stream_destroy.result)
+
+pub returns-in-Stat : goal.returns-in-Stat
+unfolding act
+returns-in-Stat c =
+    as_act c.args.self.now c.args.self.now c.args.call.now (call.Stat c.in-Stat.what) (bare c.stat.result) c.in-Stat.is
+    (ap (λ a. (c.args.self.now, bare a)) (sym c.stat.ensures)) (plain_answer c.stat.result)
