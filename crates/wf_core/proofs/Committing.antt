@@ -27,13 +27,15 @@ taken : (m : Result Scene Fault) (s : Scene) → Ok s ≡ fault_as_refusal m →
 taken (Ok t) s is = let same : s ≡ t = cc in ap (λ (x : Scene). Ok x) (sym same)
 taken (Err f) s is = absurd cc
 
-module _ (core : CoreState) (store : StoreView) (fits : Fits core store) (d h : ℕ) (place : ℕ) (c : Context) (at : slice_get core.contexts place ≡ Some c) (own : owned_context d h (side_of core store) ≡ Ok c) where
+module _ (core : CoreState) (store : StoreView) (fits : Fits core store) (d h : ℕ) (place : ℕ) (c : Context)
+    (at : slice_get core.contexts place ≡ Some c) (own : owned_context d h (side_of core store) ≡ Ok c) where
   abbrev w : CoreSide
   w = side_of core store
 
   -- the answer is that of the cached scene
   answered : (m : Result Scene Refusal) → m ≡ fault_as_refusal (consistent (sight_in store) c.cached)
-      → commit d h w ≡ (let leave : Scene → Outcome CoreSide = λ scene. Ok (record w { core = change_context h (with_committed scene) core }, 0) in m >>= leave)
+      → commit d h w ≡ (let leave : Scene
+          → Outcome CoreSide = λ scene. Ok (record w { core = change_context h (with_committed scene) core }, 0) in m >>= leave)
   answered m is =
       let leave : Scene → Outcome CoreSide = λ scene. Ok (record w { core = change_context h (with_committed scene) core }, 0) in
       in_owned d h w c (λ (x : Context). fault_as_refusal (consistent (sight_of w) x.cached) >>= leave) own
@@ -44,14 +46,21 @@ module _ (core : CoreState) (store : StoreView) (fits : Fits core store) (d h : 
   commit_refused r is = answered (Err r) is
 
   pub committed_case : (s : Scene) → Ok s ≡ fault_as_refusal (consistent (sight_in store) c.cached)
-      → commit d h w ≡ (let done : CoreSide × ℕ = (side_of (record core { contexts = set core.contexts place (record c { committed = s }) }) store, 0) in Ok done)
+      → commit d h w ≡ (let done : CoreSide
+          × ℕ = (side_of (record core { contexts = set core.contexts place (record c { committed = s }) }) store, 0) in Ok done)
   committed_case s is =
       let done : CoreState → Outcome CoreSide = λ k. (let after : CoreSide × ℕ = (record w { core = k }, 0) in Ok after) in
       answered (Ok s) is
-      ∙ ap done (ap (λ (n : ℕ). change_context n (with_committed s) core) (sym (owned_parts d h w c own).0) ∙ placed_is core store fits place c at (with_committed s))
+      ∙ ap done (ap (λ (n : ℕ). change_context n (with_committed s) core) (sym (owned_parts d h w c own).0)
+          ∙ placed_is core store fits place c at (with_committed s))
 
-  pub committed_fits : (s : Scene) → Ok s ≡ fault_as_refusal (consistent (sight_in store) c.cached) → IsTrue (list_all is_placed_layer s.layers.items) → Fits (record core { contexts = set core.contexts place (record c { committed = s }) }) store
+  pub committed_fits : (s : Scene) → Ok s ≡ fault_as_refusal (consistent (sight_in store) c.cached)
+      → IsTrue (list_all is_placed_layer s.layers.items)
+      → Fits (record core { contexts = set core.contexts place (record c { committed = s }) }) store
   committed_fits s is placed =
-      let sound = consistent_fits core store fits c.cached s (ap (λ (sight : Sight). consistent sight c.cached) (sym (sights core store fits.handles)) ∙ taken (consistent (sight_in store) c.cached) s is) placed in
+      let sound = consistent_fits core store fits c.cached s
+          (ap (λ (sight : Sight). consistent sight c.cached) (sym (sights core store fits.handles))
+          ∙ taken (consistent (sight_in store) c.cached) s is) placed in
       let fit = each_at (ContextFits store.streams) core.contexts place c fits.streams.contexts at in
-      placed_fits core store fits place c at (record c { committed = s }) refl refl (record { target = fit.target; size = sound.0; layers = sound.1 })
+      placed_fits core store fits place c at (record c { committed = s }) refl refl
+          (record { target = fit.target; size = sound.0; layers = sound.1 })

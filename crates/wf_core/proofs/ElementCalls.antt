@@ -1,5 +1,6 @@
 -- Calls on an element: the context in which it lives, and what the call answers there.
-use Rattle.std.proofs.Common.{◌≡◌, ℕ, ◌+◌, ◌<◌, false, ◌&&◌, ◌||◌, ◌==◌, length, set, slice_get, option_and_then, is_some, Option, Some, None, IfSome, Result, Ok, Err, refl, sym, ap, ◌∙◌}
+use Rattle.std.proofs.Common.{◌≡◌, ℕ, ◌+◌, ◌<◌, false, ◌&&◌, ◌||◌, ◌==◌, length, set, slice_get, option_and_then, is_some, Option, Some,
+    None, IfSome, Result, Ok, Err, refl, sym, ap, ◌∙◌}
 use Rattle.std.specs.List.{list_any}
 use Rattle.std.specs.Prelude.{nat_le}
 use Rattle.wf_words.specs.Refusals.{◌>>=◌}
@@ -25,12 +26,15 @@ use Rattle.wf_words.specs.Places.{within}
 use Rattle.wf_core.proofs.Scenes.{placed_is}
 
 -- a call that goes on in the context of an element
-pub in_owner : (d e : ℕ) (w : CoreSide) (c : Context) (after : Context → Outcome CoreSide) → owning_context d e w ≡ Ok c → (device d w >>= (λ _. element_context d e w >>= after)) ≡ after c
+pub in_owner : (d e : ℕ) (w : CoreSide) (c : Context) (after : Context → Outcome CoreSide) → owning_context d e w ≡ Ok c
+    → (device d w >>= (λ _. element_context d e w >>= after)) ≡ after c
 in_owner d e w c after own = joined (device d w) (λ _. element_context d e w) after ∙ ap (λ (m : Result Context Refusal). m >>= after) own
 
 -- one that only reads the scene
-pub read_in_owner : (d e : ℕ) (w : CoreSide) (c : Context) (call : CachedScene → Result ℕ Refused) (o : Result ℕ Refused) (r : Result ℕ Refusal) → owning_context d e w ≡ Ok c → o ≡ call c.cached → r ≡ by_scene o
-    → (let told : ℕ → Outcome CoreSide = λ n. Ok (w, n) in device d w >>= (λ _. element_context d e w >>= (λ (x : Context). by_scene (call x.cached) >>= told))) ≡ done_by r w
+pub read_in_owner : (d e : ℕ) (w : CoreSide) (c : Context) (call : CachedScene
+    → Result ℕ Refused) (o : Result ℕ Refused) (r : Result ℕ Refusal) → owning_context d e w ≡ Ok c → o ≡ call c.cached → r ≡ by_scene o
+    → (let told : ℕ → Outcome CoreSide = λ n. Ok (w, n) in
+        device d w >>= (λ _. element_context d e w >>= (λ (x : Context). by_scene (call x.cached) >>= told))) ≡ done_by r w
 read_in_owner d e w c call o r own called answered =
     let told : ℕ → Outcome CoreSide = λ n. Ok (w, n) in
     in_owner d e w c (λ (x : Context). by_scene (call x.cached) >>= told) own
@@ -41,27 +45,36 @@ read_in_owner d e w c call o r own called answered =
     of_answer (Err x) = refl
 
 -- a handle is 0 or that of an element, by the place that was found
-pub any_element : (d h : ℕ) (w : CoreSide) (o : Option ℕ) → (h == 0) ≡ false → option_and_then (slice_get w.core.contexts) o ≡ of_element d h w.core.contexts → IfSome o (λ place. place < length w.core.contexts)
+pub any_element : (d h : ℕ) (w : CoreSide) (o : Option ℕ) → (h == 0) ≡ false
+    → option_and_then (slice_get w.core.contexts) o ≡ of_element d h w.core.contexts → IfSome o (λ place. place < length w.core.contexts)
     → is_some o ≡ is_element_or_0 d h w
 any_element d h w o other found less =
     of_place o less ∙ ap is_some found ∙ sym (any_found (λ (c : Context). (c.device == d) && has_element h c.cached) w.core.contexts)
     ∙ sym (ap (λ b. b || list_any (λ (c : Context). (c.device == d) && has_element h c.cached) w.core.contexts) other)
   where
-    of_place : (p : Option ℕ) → IfSome p (λ place. place < length w.core.contexts) → is_some p ≡ is_some (option_and_then (slice_get w.core.contexts) p)
+    of_place : (p : Option ℕ) → IfSome p (λ place. place < length w.core.contexts)
+        → is_some p ≡ is_some (option_and_then (slice_get w.core.contexts) p)
     of_place None within-is = refl
     of_place (Some place) within-is = (let x = within w.core.contexts place within-is in ap is_some (sym x.1))
 
 -- a new element of a context
-pub element_made : (d h : ℕ) (core : CoreState) (store : StoreView) (fits : Fits core store) (place : ℕ) (c : Context) → slice_get core.contexts place ≡ Some c → owned_context d h (side_of core store) ≡ Ok c
+pub element_made : (d h : ℕ) (core : CoreState) (store : StoreView) (fits : Fits core store) (place : ℕ) (c : Context)
+    → slice_get core.contexts place ≡ Some c → owned_context d h (side_of core store) ≡ Ok c
     → nat_le 64 (length c.cached.elements) ≡ false → is_full store.made ≡ false
     → element_new d h false (side_of core store)
-    ≡ (let done : CoreSide × ℕ = (side_of (record core { contexts = set core.contexts place (record c { cached = cached.add (store.made + 1) c.cached }) }) (with_other kind.Element h store), store.made + 1) in Ok done)
+    ≡ (let done : CoreSide
+        × ℕ = (side_of (record core { contexts = set core.contexts place (record c { cached = cached.add (store.made + 1) c.cached }) })
+        (with_other kind.Element h store), store.made + 1) in Ok done)
 element_made d h core store fits place c at own few free =
     let w = side_of core store in
     let x = both d h w c own in
     let handle : c.handle ≡ h = (owned_parts d h w c own).0 in
     let grown : Context → Context = with_cached (cached.add (store.made + 1) c.cached) in
-    let done : CoreState → ℕ → Outcome CoreSide = λ k count. (let left : CoreSide × ℕ = (record { made = store.made + 1; streams = store.streams; core = k; display_sources = count }, store.made + 1) in Ok left) in
+    let done : CoreState → ℕ → Outcome CoreSide = λ k count. (let left : CoreSide
+        × ℕ = (record { made = store.made + 1; streams = store.streams; core = k; display_sources = count }, store.made + 1) in Ok left) in
     rw (x.1, x.2, few, free)
-    (ap (λ (k : CoreState). done k w.display_sources) (ap (λ (n : ℕ). change_context n grown core) (sym handle) ∙ placed_is core store fits place c at grown)
-    ∙ ap (done (record core { contexts = set core.contexts place (grown c) })) (sym (count_left (λ (l : Live). same_kind l.kind kind.DisplaySource) store.others (record { handle = store.made + 1; kind = kind.Element; key = h }) refl)))
+    (ap (λ (k : CoreState). done k w.display_sources) (ap (λ (n : ℕ). change_context n grown core) (sym handle)
+        ∙ placed_is core store fits place c at grown)
+    ∙ ap (done (record core { contexts = set core.contexts place (grown c) }))
+        (sym (count_left (λ (l : Live). same_kind l.kind kind.DisplaySource) store.others
+        (record { handle = store.made + 1; kind = kind.Element; key = h }) refl)))

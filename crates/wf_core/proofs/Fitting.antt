@@ -9,9 +9,11 @@ use Rattle.wf_core.specs.Fits.{Fits, device_live}
 use Rattle.wf_words.specs.Keyed.{map_change}
 
 -- other registers
-pub register_fits : (d : ℕ) (f : Option Code → Option Code) (core new : CoreState) (store : StoreView) → new ≡ change_register d f core → Fits core store → Fits new store
+pub register_fits : (d : ℕ) (f : Option Code → Option Code) (core new : CoreState) (store : StoreView) → new ≡ change_register d f core
+    → Fits core store → Fits new store
 register_fits d f core new store is fits =
-    let named = map_change (λ (x : Device). x.handle) d (λ (x : Device). record x { register = f x.register }) device_live (λ x. refl) core.devices in
+    let named = map_change (λ (x : Device). x.handle) d (λ (x : Device). record x { register = f x.register }) device_live (λ x. refl)
+        core.devices in
     rw is (record {
       handles =
           record {

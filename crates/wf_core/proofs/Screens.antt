@@ -1,5 +1,6 @@
 -- The context of a screen: its refusals in their order, and what is made.
-use Rattle.std.proofs.Common.{◌≡◌, ℕ, ◌+◌, Bool, true, false, not, ◌||◌, ◌==◌, ℤ, List, [], ◌∷◌, ◌++◌, Option, Some, None, Ok, Err, refl, sym, ap, subst, ◌∙◌}
+use Rattle.std.proofs.Common.{◌≡◌, ℕ, ◌+◌, Bool, true, false, not, ◌||◌, ◌==◌, ℤ, List, [], ◌∷◌, ◌++◌, Option, Some, None, Ok, Err, refl,
+    sym, ap, subst, ◌∙◌}
 use Rattle.std.proofs.lemmas.Bool.{or_parts}
 use Rattle.wf_words.specs.Refusals.{◌>>=◌}
 use Rattle.wf_words.specs.Whole.{count_of}
@@ -27,14 +28,18 @@ use Rattle.wf_core.proofs.Lookups.{a_device, no_device}
 
 -- the stream of a screen that is seen
 screen_parts : (screen : Option ℕ) (streams : List KeptStream) (seen : Seen) → Ok seen ≡ screen_seen screen streams
-    → (n : ℕ) × (t : KeptStream) × (screen ≡ Some n) × (stream_at n streams ≡ Some t) × (seen ≡ record { stream = t.number; size = t.buffers.size; format = t.buffers.format })
+    → (n : ℕ) × (t : KeptStream) × (screen ≡ Some n) × (stream_at n streams ≡ Some t)
+        × (seen ≡ record { stream = t.number; size = t.buffers.size; format = t.buffers.format })
 screen_parts None streams seen is = absurd cc
 screen_parts (Some n) streams seen is = of_stream (stream_at n streams) refl is
   where
     of_stream : (o : Option KeptStream) → stream_at n streams ≡ o → Ok seen ≡ found code.IllegalArgument (seen_stream o)
-        → (m : ℕ) × (t : KeptStream) × (Some n ≡ Some m) × (stream_at m streams ≡ Some t) × (seen ≡ record { stream = t.number; size = t.buffers.size; format = t.buffers.format })
+        → (m : ℕ) × (t : KeptStream) × (Some n ≡ Some m) × (stream_at m streams ≡ Some t)
+            × (seen ≡ record { stream = t.number; size = t.buffers.size; format = t.buffers.format })
     of_stream None at same = absurd cc
-    of_stream (Some t) at same = (n, t, refl, at, (let told : Seen = record { stream = t.number; size = t.buffers.size; format = t.buffers.format } in let here : seen ≡ told = cc in here))
+    of_stream (Some t) at same =
+        (n, t, refl, at, (let told : Seen = record { stream = t.number; size = t.buffers.size; format = t.buffers.format } in
+        let here : seen ≡ told = cc in here))
 
 module _ (core : CoreState) (store : StoreView) (fits : Fits core store) (d : ℕ) (port : ℤ) (screen : Option ℕ) where
   abbrev w : CoreSide
@@ -48,12 +53,19 @@ module _ (core : CoreState) (store : StoreView) (fits : Fits core store) (d : �
     bad_screen m r is = let x = a_device core store fits.handles d key some in rw x.1 (of_screen screen is)
       where
         of_screen : (o : Option ℕ) → Err r ≡ screen_seen o store.streams
-            → (found code.IllegalArgument o >>= (λ n. found code.IllegalArgument (stream_at n store.streams) >>= (λ target. refuse code.InUse (has_port (count_of port) w) >>= (λ _. room (contexts_full w) m w >>= (λ _. Ok (created (record core { contexts = core.contexts ++ new_context (store.made + 1) d (count_of port) target ∷ [] }) w)))))) ≡ Err r
+            → (found code.IllegalArgument o >>= (λ n. found code.IllegalArgument (stream_at n store.streams) >>=
+                (λ target. refuse code.InUse (has_port (count_of port) w) >>=
+                (λ _. room (contexts_full w) m w >>=
+                (λ _. Ok (created (record core { contexts = core.contexts ++ new_context (store.made + 1) d (count_of port) target ∷ [] })
+                w)))))) ≡ Err r
         of_screen None told = (let same : r ≡ refusal code.IllegalArgument = cc in ap (λ (x : Refusal). Err x) (sym same))
         of_screen (Some n) told = of_stream (stream_at n store.streams) told
           where
             of_stream : (o : Option KeptStream) → Err r ≡ found code.IllegalArgument (seen_stream o)
-                → (found code.IllegalArgument o >>= (λ target. refuse code.InUse (has_port (count_of port) w) >>= (λ _. room (contexts_full w) m w >>= (λ _. Ok (created (record core { contexts = core.contexts ++ new_context (store.made + 1) d (count_of port) target ∷ [] }) w))))) ≡ Err r
+                → (found code.IllegalArgument o >>= (λ target. refuse code.InUse (has_port (count_of port) w) >>=
+                    (λ _. room (contexts_full w) m w >>=
+                    (λ _. Ok (created (record core { contexts = core.contexts ++ new_context (store.made + 1) d (count_of port) target
+                    ∷ [] }) w))))) ≡ Err r
             of_stream None at = (let same : r ≡ refusal code.IllegalArgument = cc in ap (λ (x : Refusal). Err x) (sym same))
             of_stream (Some t) at = absurd cc
 
@@ -65,7 +77,8 @@ module _ (core : CoreState) (store : StoreView) (fits : Fits core store) (d : �
           rw (x.1, s.2, s.3, used) refl
 
       module _ (free : has_port (count_of port) w ≡ false) where
-        pub limited : (m : Bool) → (contexts_full w || is_full store.made) ≡ true → screen_context d port screen m w ≡ Err (refusal code.Limit)
+        pub limited : (m : Bool) → (contexts_full w || is_full store.made) ≡ true
+            → screen_context d port screen m w ≡ Err (refusal code.Limit)
         limited m full =
             let x = a_device core store fits.handles d key some in
             let s = screen_parts screen store.streams seen sees in
@@ -79,11 +92,15 @@ module _ (core : CoreState) (store : StoreView) (fits : Fits core store) (d : �
               rw (x.1, s.2, s.3, free, room_is) refl
 
           -- a handle that is refused lacks memory
-          pub no_handle : (r : Refusal) → Err r ≡ refused_handle store.made (is_out_of_memory r.code) → screen_context d port screen (is_out_of_memory r.code) w ≡ Err r
-          no_handle r is = by_memory (is_out_of_memory r.code) (subst (λ b. Err r ≡ (refuse code.Limit b >>= (λ _. refuse code.OutOfMemory (is_out_of_memory r.code)))) (or_parts (contexts_full w) (is_full store.made) room_is).1 is)
+          pub no_handle : (r : Refusal) → Err r ≡ refused_handle store.made (is_out_of_memory r.code)
+              → screen_context d port screen (is_out_of_memory r.code) w ≡ Err r
+          no_handle r is = by_memory (is_out_of_memory r.code)
+              (subst (λ b. Err r ≡ (refuse code.Limit b >>= (λ _. refuse code.OutOfMemory (is_out_of_memory r.code))))
+              (or_parts (contexts_full w) (is_full store.made) room_is).1 is)
             where
               by_memory : (b : Bool) → Err r ≡ refuse code.OutOfMemory b → screen_context d port screen b w ≡ Err r
-              by_memory true told = (let same : r ≡ refusal code.OutOfMemory = cc in without_memory ∙ ap (λ (x : Refusal). Err x) (sym same))
+              by_memory true told = (let same : r ≡ refusal code.OutOfMemory = cc in
+                  without_memory ∙ ap (λ (x : Refusal). Err x) (sym same))
               by_memory false told = absurd cc
 
           abbrev pub made : Context
@@ -99,16 +116,24 @@ module _ (core : CoreState) (store : StoreView) (fits : Fits core store) (d : �
               }
 
           pub screen_made : (count_of port == 0) ≡ false → screen_context d port screen false w
-              ≡ (let done : CoreSide × ℕ = (side_of (record core { contexts = core.contexts ++ made ∷ [] }) (with_other kind.Context d store), store.made + 1) in Ok done)
+              ≡ (let done : CoreSide
+                  × ℕ = (side_of (record core { contexts = core.contexts ++ made ∷ [] }) (with_other kind.Context d store),
+                  store.made + 1) in Ok done)
           screen_made some_port =
               let x = a_device core store fits.handles d key some in
               let s = screen_parts screen store.streams seen sees in
               let done : Seen → Bool → ℕ → Outcome CoreSide = λ y on count.
-              (let new : Context = record { handle = store.made + 1; device = d; port = count_of port; target = y.stream; active = false; cached = empty y.size on; committed = blank_scene y.size } in
-              let after : CoreSide × ℕ = (record { made = store.made + 1; streams = store.streams; core = record core { contexts = core.contexts ++ new ∷ [] }; display_sources = count }, store.made + 1) in Ok after) in
+              (let new : Context = record { handle = store.made + 1; device = d; port = count_of port; target = y.stream; active = false;
+                  cached = empty y.size on; committed = blank_scene y.size } in
+              let after : CoreSide
+                  × ℕ = (record { made = store.made + 1; streams = store.streams;
+                  core = record core { contexts = core.contexts ++ new ∷ [] }; display_sources = count }, store.made + 1) in Ok after) in
               rw (x.1, s.2, s.3, free, room_is)
-              (ap (λ (y : Seen). done y (not (count_of port == 0)) w.display_sources) (sym s.4) ∙ ap (λ b. done seen (not b) w.display_sources) some_port
-              ∙ ap (done seen true) (sym (count_left (λ (l : Live). same_kind l.kind kind.DisplaySource) store.others (record { handle = store.made + 1; kind = kind.Context; key = d }) refl)))
+              (ap (λ (y : Seen). done y (not (count_of port == 0)) w.display_sources) (sym s.4)
+                  ∙ ap (λ b. done seen (not b) w.display_sources) some_port
+              ∙ ap (done seen true)
+                  (sym (count_left (λ (l : Live). same_kind l.kind kind.DisplaySource) store.others
+                  (record { handle = store.made + 1; kind = kind.Context; key = d }) refl)))
 
           -- it draws into a stream of pixels of its size
           pub made_fits : IfSome screen (IsOfPixels store.streams) → ContextFits store.streams made

@@ -19,8 +19,10 @@ KeepsAll old new = new ≡ old
 
 -- a call that names a device: it leaves and answers what the plain call does, where want of memory is told by the answer;
 -- so much of the store is kept; objects and store fit again; and nothing comes with the reply
-pub record Steps (device : ℕ) (plain : Bool → CoreSide → Outcome CoreSide) (Keeps : StoreView → StoreView → Type 0) (core left : CoreState) (store now : StoreView) (reply : Reply) : Type 0 where
-  pub step : core_answer device (side_of core store) (plain (is_out_of_memory reply.code) (side_of core store)) ≡ (side_of left now, told reply)
+pub record Steps (device : ℕ) (plain : Bool → CoreSide → Outcome CoreSide) (Keeps : StoreView → StoreView
+    → Type 0) (core left : CoreState) (store now : StoreView) (reply : Reply) : Type 0 where
+  pub step : core_answer device (side_of core store) (plain (is_out_of_memory reply.code) (side_of core store))
+      ≡ (side_of left now, told reply)
   pub kept : Keeps store now
   pub fits : Fits left now
   pub bare : reply ≡ bare (told reply)

@@ -16,7 +16,8 @@ impl Core {
     /// The answer of a call of a device that was carried out or refused.
     pub(crate) fn answer(&mut self, store: &Store, device: u32, done: Result<u32, Refusal>) -> Answer
         requires { Fits self.old store.now }
-        ensures answered { core_answer device (side_of self.old store.now) (done_by done (side_of self.old store.now)) ≡ (side_of self.new store.now, result) }
+        ensures answered { core_answer device (side_of self.old store.now) (done_by done (side_of self.old store.now))
+            ≡ (side_of self.new store.now, result) }
         ensures memory { is_out_of_memory result.code ≡ lacks_memory done }
         ensures fits { Fits self.new store.now }
     {

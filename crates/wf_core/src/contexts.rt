@@ -7,7 +7,8 @@ ghost use Rattle.wf_pixel.specs.Choice.{is_between};
 ghost use Rattle.wf_calls.specs.Codes.{is_out_of_memory};
 ghost use Rattle.wf_calls.specs.Replies.{refusal};
 ghost use Rattle.wf_model.specs.Composition.{core_answer};
-ghost use Rattle.wf_model.specs.Core.{blank_scene, by_scene, context_get, context_set, contexts_full, has_port, refusal_code, screen_context};
+ghost use Rattle.wf_model.specs.Core.{blank_scene, by_scene, context_get, context_set, contexts_full, has_port, refusal_code,
+    screen_context};
 ghost use Rattle.wf_core.specs.Sides.{KeepsRest, side_of, done_by, lacks_memory};
 ghost use Rattle.wf_core.specs.Steps.{KeepsAll, Steps};
 ghost use Rattle.wf_core.specs.Fits.{Fits, IsOfPixels};
@@ -109,7 +110,8 @@ impl Core {
         requires fits { Fits self.old store.old }
         requires declared { IsSome screen → IsTrue (is_between (pos 1) (pos 4) port) }
         requires pixels { IfSome screen (IsOfPixels store.old.streams) }
-        ensures case { screen_context device port screen (lacks_memory result) (side_of self.old store.old) ≡ done_by result (side_of self.new store.new) }
+        ensures case { screen_context device port screen (lacks_memory result) (side_of self.old store.old)
+            ≡ done_by result (side_of self.new store.new) }
         ensures refused { OnErr result (self.new ≡ self.old) }
         ensures unmade { OnErr result (store.new ≡ store.old) }
         ensures kept { KeepsRest store.old store.new }

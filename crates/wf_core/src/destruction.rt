@@ -45,7 +45,8 @@ fn leave_out_device(devices: &mut Vec<Device>, handle: u32)
 
 /// A source or a mask of a device has the handle.
 fn is_owned(sources: &[Source], contexts: &[Context], device: u32, handle: u32) -> bool
-    ensures { result ≡ list_any (λ s. (s.handle == handle) && list_any (λ c. (c.handle == s.context) && (c.device == device)) contexts.now) sources.now }
+    ensures { result ≡ list_any (λ s. (s.handle == handle) && list_any (λ c. (c.handle == s.context) && (c.device == device)) contexts.now)
+        sources.now }
 {
     sources.iter().any(|source| source.handle == handle
         && is_of_device(contexts, device, source.context))
@@ -127,7 +128,8 @@ impl Core {
         requires fits { Fits self.old store.old }
         requires within { place < length self.old.contexts }
         requires live { IfSome (slice_get self.old.contexts place) (λ c. IsTrue (has_element element c.cached)) }
-        ensures dropped { IfSome (slice_get self.old.contexts place) (λ c. self.new ≡ change_context c.handle (with_cached (forget element c.cached)) self.old) }
+        ensures dropped { IfSome (slice_get self.old.contexts place)
+            (λ c. self.new ≡ change_context c.handle (with_cached (forget element c.cached)) self.old) }
         ensures loses { Loses store.old store.new }
         ensures fits { Fits self.new store.new }
     {

@@ -3,7 +3,8 @@
 ghost use Rattle.std.specs.Prelude.{◌≡◌, OnErr};
 ghost use Rattle.wf_calls.specs.Codes.{is_out_of_memory};
 ghost use Rattle.wf_model.specs.Composition.{core_answer};
-ghost use Rattle.wf_model.specs.Core.{element_above, element_below, element_get, element_insert, element_new, element_remove, element_set, is_element_or_0};
+ghost use Rattle.wf_model.specs.Core.{element_above, element_below, element_get, element_insert, element_new, element_remove, element_set,
+    is_element_or_0};
 ghost use Rattle.wf_core.specs.Sides.{KeepsRest, side_of, done_by, lacks_memory};
 ghost use Rattle.wf_core.specs.Steps.{KeepsAll, Steps};
 ghost use Rattle.wf_core.specs.Fits.{Fits};
@@ -26,7 +27,8 @@ impl Core {
         context: u32,
     ) -> Result<u32, Refusal>
         requires { Fits self.old store.old }
-        ensures case { element_new device context (lacks_memory result) (side_of self.old store.old) ≡ done_by result (side_of self.new store.new) }
+        ensures case { element_new device context (lacks_memory result) (side_of self.old store.old)
+            ≡ done_by result (side_of self.new store.new) }
         ensures refused { OnErr result (self.new ≡ self.old) }
         ensures unmade { OnErr result (store.new ≡ store.old) }
         ensures kept { KeepsRest store.old store.new }

@@ -1,6 +1,7 @@
 //! Where an object is kept that a call names by its handle.
 
-ghost use Rattle.std.specs.Prelude.{◌≡◌, ◌<◌, ◌&&◌, ◌==◌, false, not, is_some, option_and_then, position, slice_get, length, IfOk, IfSome, IsTrue};
+ghost use Rattle.std.specs.Prelude.{◌≡◌, ◌<◌, ◌&&◌, ◌==◌, false, not, is_some, option_and_then, position, slice_get, length, IfOk, IfSome,
+    IsTrue};
 ghost use Rattle.wf_life.specs.Handles.{key_of};
 ghost use Rattle.wf_stream.specs.Streams.{is_stream};
 ghost use Rattle.wf_scene.specs.Cached.{has_element};

@@ -67,7 +67,8 @@ impl Core {
     /// Marks the streams that the objects name: the live sources and masks, and the live contexts by their targets and by
     /// the layers of their committed scenes.
     pub fn mark(&self, store: &mut Store)
-        ensures marked { (n : ℕ) → IsSome (stream_at n store.old.streams) → is_in n store.new.marked ≡ (is_in n store.old.marked || is_in n (core_names self.now)) }
+        ensures marked { (n : ℕ) → IsSome (stream_at n store.old.streams)
+            → is_in n store.new.marked ≡ (is_in n store.old.marked || is_in n (core_names self.now)) }
         ensures rest { record store.new { marked = [] } ≡ record store.old { marked = [] } }
     {
         mark_sources(store, &self.sources);

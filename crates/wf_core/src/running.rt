@@ -24,7 +24,8 @@ impl Core {
         requires fits { Fits self.old store.old }
         requires ours { IsTrue (is_of_core (part_of call.now)) }
         requires given { IsGiven call.now screen store.old.streams }
-        ensures case { core_call screen (lacks_memory result) call.now (side_of self.old store.old) ≡ done_by result (side_of self.new store.new) }
+        ensures case { core_call screen (lacks_memory result) call.now (side_of self.old store.old)
+            ≡ done_by result (side_of self.new store.new) }
         ensures refused { OnErr result (self.new ≡ self.old) }
         ensures untouched { OnErr result (store.new ≡ store.old) }
         ensures kept { KeepsRest store.old store.new }
@@ -112,7 +113,8 @@ impl Core {
         requires fits { Fits self.old store.old }
         requires ours { IsTrue (is_of_core (part_of call.now)) }
         requires given { IsGiven call.now screen store.old.streams }
-        ensures { Steps (device_of call.now) (λ m. core_call screen m call.now) KeepsRest self.old self.new store.old store.new (bare result) }
+        ensures { Steps (device_of call.now) (λ m. core_call screen m call.now) KeepsRest self.old self.new store.old store.new
+            (bare result) }
     {
         let done = self.carry_out(store, call, screen);
         self.answer(store, call.device(), done)

@@ -33,7 +33,8 @@ impl Core {
         stream: u32,
     ) -> Result<u32, Refusal>
         requires { Fits self.old store.old }
-        ensures case { source_new device context stream (lacks_memory result) (side_of self.old store.old) ≡ done_by result (side_of self.new store.new) }
+        ensures case { source_new device context stream (lacks_memory result) (side_of self.old store.old)
+            ≡ done_by result (side_of self.new store.new) }
         ensures refused { OnErr result (self.new ≡ self.old) }
         ensures unmade { OnErr result (store.new ≡ store.old) }
         ensures kept { KeepsRest store.old store.new }
@@ -66,7 +67,8 @@ impl Core {
         stream: u32,
     ) -> Result<u32, Refusal>
         requires { Fits self.old store.old }
-        ensures case { mask_new device context stream (lacks_memory result) (side_of self.old store.old) ≡ done_by result (side_of self.new store.new) }
+        ensures case { mask_new device context stream (lacks_memory result) (side_of self.old store.old)
+            ≡ done_by result (side_of self.new store.new) }
         ensures refused { OnErr result (self.new ≡ self.old) }
         ensures unmade { OnErr result (store.new ≡ store.old) }
         ensures kept { KeepsRest store.old store.new }

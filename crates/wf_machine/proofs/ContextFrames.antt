@@ -1,5 +1,6 @@
 -- A context's frame that begins.
-use Rattle.std.proofs.Common.{◌≡◌, ℕ, ◌+◌, ◌-◌, ◌^◌, ◌<◌, Bool, true, false, cond, ◌==◌, List, [], ◌∷◌, map, Option, Some, None, refl, sym, Ok}
+use Rattle.std.proofs.Common.{◌≡◌, ℕ, ◌+◌, ◌-◌, ◌^◌, ◌<◌, Bool, true, false, cond, ◌==◌, List, [], ◌∷◌, map, Option, Some, None, refl, sym,
+    Ok}
 use Rattle.std.proofs.Common.{ap, subst, ◌∙◌}
 use Rattle.std.specs.Prelude.{find}
 use Rattle.std.specs.List.{AllByRecursion}
@@ -20,7 +21,8 @@ use Rattle.wf_calls.specs.declared.call.JobKind.TheVariants as kind
 use Rattle.wf_calls.specs.declared.reply.Payload.TheVariants as payload
 use Rattle.wf_calls.specs.declared.reply.Reply.{Reply}
 use Rattle.wf_model.specs.declared.Context.{Context}
-use Rattle.wf_model.specs.Frames.{begin_context, begin_next, content_shape, is_running, latch, latched_among, newest_images, next_context, target_ready, is_short, all_begun}
+use Rattle.wf_model.specs.Frames.{begin_context, begin_next, content_shape, is_running, latch, latched_among, newest_images, next_context,
+    target_ready, is_short, all_begun}
 use Rattle.wf_model.specs.Frames.{scene_streams}
 use Rattle.wf_model.specs.Outcome.{refuse_with}
 use Rattle.wf_model.specs.Picture.{Fits as Drawn, Images}

@@ -86,9 +86,12 @@ set attr to = line 0 (verb.ElementSet d e attr to)
 abbrev composed : PlainScript
 composed =
     on_port (record { w = 4; h = 2 })
-    (made d verb.DeviceNew ∷ made c (verb.ScreenContext d (pos 1)) ∷ new_stream ∷ made x (verb.SourceNew d c s) ∷ made e (verb.ElementNew d c)
-    ∷ set element.Source (value.Handle x) ∷ set element.SrcRect (value.Numbers (pos 0 ∷ pos 0 ∷ pos 1 ∷ pos 1 ∷ [])) ∷ set element.Dest (value.Numbers (pos 0 ∷ pos 0 ∷ pos 4 ∷ pos 2 ∷ []))
-    ∷ line 0 (verb.ElementInsert d e None) ∷ line 0 (verb.Commit d c) ∷ line 0 (verb.Activate d c) ∷ line 0 (verb.Frame s (Fill grey)) ∷ line 0 verb.Tick ∷ [])
+    (made d verb.DeviceNew ∷ made c (verb.ScreenContext d (pos 1)) ∷ new_stream ∷ made x (verb.SourceNew d c s)
+        ∷ made e (verb.ElementNew d c)
+    ∷ set element.Source (value.Handle x) ∷ set element.SrcRect (value.Numbers (pos 0 ∷ pos 0 ∷ pos 1 ∷ pos 1 ∷ []))
+        ∷ set element.Dest (value.Numbers (pos 0 ∷ pos 0 ∷ pos 4 ∷ pos 2 ∷ []))
+    ∷ line 0 (verb.ElementInsert d e None) ∷ line 0 (verb.Commit d c) ∷ line 0 (verb.Activate d c) ∷ line 0 (verb.Frame s (Fill grey))
+        ∷ line 0 verb.Tick ∷ [])
 
 abbrev composed_order : List Turn
 composed_order = map (entry 0 0) (1 ∷ 2 ∷ 3 ∷ 4 ∷ 5 ∷ 0 ∷ 0 ∷ 0 ∷ 0 ∷ 0 ∷ 0 ∷ 0 ∷ 0 ∷ 2 ∷ 0 ∷ 0 ∷ 1 ∷ 0 ∷ [])
@@ -103,7 +106,8 @@ grey_screen =
       port = 1;
       tick = 1;
       size = record { w = 4; h = 2 };
-      pixels = 9 ∷ 9 ∷ 9 ∷ 255 ∷ 9 ∷ 9 ∷ 9 ∷ 255 ∷ 9 ∷ 9 ∷ 9 ∷ 255 ∷ 9 ∷ 9 ∷ 9 ∷ 255 ∷ 9 ∷ 9 ∷ 9 ∷ 255 ∷ 9 ∷ 9 ∷ 9 ∷ 255 ∷ 9 ∷ 9 ∷ 9 ∷ 255 ∷ 9 ∷ 9 ∷ 9 ∷ 255 ∷ [];
+      pixels = 9 ∷ 9 ∷ 9 ∷ 255 ∷ 9 ∷ 9 ∷ 9 ∷ 255 ∷ 9 ∷ 9 ∷ 9 ∷ 255 ∷ 9 ∷ 9 ∷ 9 ∷ 255 ∷ 9 ∷ 9 ∷ 9 ∷ 255 ∷ 9 ∷ 9 ∷ 9 ∷ 255 ∷ 9 ∷ 9 ∷ 9 ∷ 255
+          ∷ 9 ∷ 9 ∷ 9 ∷ 255 ∷ [];
     }
 
 composed_frames : frames_after (replay composed composed_order) ≡ grey_screen ∷ []

@@ -1,5 +1,6 @@
 -- One turn of a show that is played serially.
-use Rattle.std.proofs.Common.{◌≡◌, ◌∙◌, ℕ, zero, suc, ◌+◌, ◌-◌, ◌<◌, ◌≤◌, ◌==◌, Bool, true, false, not, cond, ◌&&◌, List, [], ◌∷◌, map, length, Option, Some, None, refl, sym, ap, subst, arith, set, get_or, IsTrue}
+use Rattle.std.proofs.Common.{◌≡◌, ◌∙◌, ℕ, zero, suc, ◌+◌, ◌-◌, ◌<◌, ◌≤◌, ◌==◌, Bool, true, false, not, cond, ◌&&◌, List, [], ◌∷◌, map,
+    length, Option, Some, None, refl, sym, ap, subst, arith, set, get_or, IsTrue}
 use Rattle.std.specs.Prelude.{slice_get}
 use Rattle.std.specs.Option.{IfSome, IsSome, IsSomeAnd}
 use Rattle.wf_calls.specs.declared.order.Turn.{Turn}
@@ -12,14 +13,16 @@ use Rattle.wf_model.specs.Step.{step}
 use Rattle.wf_script.specs.declared.line.Line.{Line}
 use Rattle.wf_script.specs.Script.{PlainScript}
 use Rattle.wf_turn.specs.Play.{first_client, is_marked}
-use Rattle.wf_turn.specs.Playing.{Ends, FirstEnds, HoldsPaintable, IsCast, IsReady, TakesTurn, TakesTurnAt, Turned, TurnsTo, may_turn, shown_by, with_frames}
+use Rattle.wf_turn.specs.Playing.{Ends, FirstEnds, HoldsPaintable, IsCast, IsReady, TakesTurn, TakesTurnAt, Turned, TurnsTo, may_turn,
+    shown_by, with_frames}
 use Rattle.wf_turn.specs.Program.{Program, in_setup, place_of, taught, took, worked}
 use Rattle.wf_turn.specs.Quota.{all_left, left}
 use Rattle.wf_turn.specs.Ready.{AreOf, IsFit}
 use Rattle.wf_turn.specs.Serial.{IsFirst}
 use Rattle.wf_turn.specs.Turns.{Show, answered, frames_of, handed_on, is_setting_up, turn}
 use Rattle.wf_turn.proofs.Begins.{Leaves, ended, turn_leaves}
-use Rattle.wf_turn.proofs.Casts.{IsOf, are_handed, are_set, at_client, handed_get, handed_same, left_handed, left_set, not_handed, other_is, other_set, setup_set, shown_handed}
+use Rattle.wf_turn.proofs.Casts.{IsOf, are_handed, are_set, at_client, handed_get, handed_same, left_handed, left_set, not_handed,
+    other_is, other_set, setup_set, shown_handed}
 use Rattle.wf_words.specs.Places.{get_map, get_set, length_map, map_set}
 use Rattle.wf_turn.proofs.Clients.{first_place}
 use Rattle.wf_turn.proofs.Fitting.{fit_took}
@@ -35,7 +38,8 @@ is_not true is = absurd cc
 is_not false is = refl
 
 -- the program whose turn it is
-module _ (s : Show) (client : ℕ) (p : Program) (cast : IsCast s) (first : IsFirst s.programs client) (found : slice_get s.programs client ≡ Some p) where
+module _ (s : Show) (client : ℕ) (p : Program) (cast : IsCast s) (first : IsFirst s.programs client)
+    (found : slice_get s.programs client ≡ Some p) where
   pub of : IsOf cast.script (0 + client) p
   of = at_client cast.script 0 s.programs client p cast.programs found
 
@@ -46,7 +50,8 @@ module _ (s : Show) (client : ℕ) (p : Program) (cast : IsCast s) (first : IsFi
       of_first : (o : Option (ℕ × ℕ)) → first_client (map place_of s.programs) ≡ o → IsSomeAnd o (λ c. c.0 ≡ client) → IsSome (place_of p)
       of_first None is none = absurd none
       of_first (Some c) is here =
-          let at : slice_get (map place_of s.programs) client ≡ Some (Some c.1) = ap (slice_get (map place_of s.programs)) (sym here) ∙ first_place (map place_of s.programs) c is in
+          let at : slice_get (map place_of s.programs) client ≡ Some (Some c.1) = ap (slice_get (map place_of s.programs)) (sym here)
+              ∙ first_place (map place_of s.programs) c is in
           let there : Some (place_of p) ≡ Some (Some c.1) = sym (get_map place_of s.programs client p found) ∙ at in
           let placed_at : place_of p ≡ Some c.1 = cc in
           rw placed_at refl
@@ -55,7 +60,8 @@ module _ (s : Show) (client : ℕ) (p : Program) (cast : IsCast s) (first : IsFi
   pub ends_running : IfSome s.state.frame (λ f. Ends f p)
   ends_running = of_frame s.state.frame refl
     where
-      of_first : (f : Running) (o : Option (ℕ × ℕ)) → IsSomeAnd o (λ c. c.0 ≡ client) → IfSome o (λ c. IfSome (slice_get s.programs c.0) (Ends f)) → Ends f p
+      of_first : (f : Running) (o : Option (ℕ × ℕ)) → IsSomeAnd o (λ c. c.0 ≡ client)
+          → IfSome o (λ c. IfSome (slice_get s.programs c.0) (Ends f)) → Ends f p
       of_first f None none own = absurd none
       of_first f (Some c) here own =
           let at : slice_get s.programs c.0 ≡ Some p = ap (slice_get s.programs) here ∙ found in
@@ -68,7 +74,8 @@ module _ (s : Show) (client : ℕ) (p : Program) (cast : IsCast s) (first : IsFi
           of_first f (first_client (map place_of s.programs)) first alone
 
 module _ (s : Show) (client : ℕ) (p q : Program) (left_state : State) (t : Turn) (painted : Bool)
-    (cast : IsCast s) (first : IsFirst s.programs client) (allowed : may_turn s.programs client ≡ true) (found : slice_get s.programs client ≡ Some p) (takes : TakesTurn client s.state left_state p q t painted) where
+    (cast : IsCast s) (first : IsFirst s.programs client) (allowed : may_turn s.programs client ≡ true)
+        (found : slice_get s.programs client ≡ Some p) (takes : TakesTurn client s.state left_state p q t painted) where
   abbrev W : State × Reply
   W = step s.state client takes.wanted.call (is_marked t)
 
@@ -93,7 +100,8 @@ module _ (s : Show) (client : ℕ) (p q : Program) (left_state : State) (t : Tur
 
   pub turns : TurnsTo s t (shown_by painted programs_now client) show_now
   turns =
-      let show : State → Program → List Frame → Show = λ h r frames. record { state = h; programs = handed_on s.programs (set s.programs client r); frames = frames } in
+      let show : State → Program → List Frame → Show = λ h r frames. record { state = h;
+          programs = handed_on s.programs (set s.programs client r); frames = frames } in
       record {
         first = subst (λ (n : ℕ). IsFirst s.programs n) (sym client_is) first;
         taken =
@@ -114,7 +122,8 @@ module _ (s : Show) (client : ℕ) (p q : Program) (left_state : State) (t : Tur
   programs_are : AreOf cast.script 0 programs_now
   programs_are =
       are_handed cast.script s.programs placed
-      (are_set cast.script 0 s.programs client p q cast.programs found (ap (λ (x : Program). x.script) takes.program ∙ same_script p W.1) (ap (λ (x : Program). x.client) takes.program ∙ same_client p W.1) fit_now)
+      (are_set cast.script 0 s.programs client p q cast.programs found (ap (λ (x : Program). x.script) takes.program ∙ same_script p W.1)
+          (ap (λ (x : Program). x.client) takes.program ∙ same_client p W.1) fit_now)
 
   ends_now : (f : Running) → s.state.frame ≡ Some f → Ends f p
   ends_now f runs = rw runs at (ends_running s client p cast first found)
@@ -161,18 +170,23 @@ module _ (s : Show) (client : ℕ) (p q : Program) (left_state : State) (t : Tur
       of_frame : (o : Option Running) → s.state.frame ≡ o → IsFirst programs_now client × (may_turn programs_now client ≡ true)
       of_frame (Some f) was =
           let e = ended p s.state client (is_marked t) takes.wanted f was (ends_now f was) takes.asks in
-          absurd (let no : IsSome none_running = subst (λ (o : Option Running). IsSome o) (ap (λ (h : State). h.frame) takes.state ∙ e.free) runs in cc)
+          absurd (let no : IsSome none_running = subst (λ (o : Option Running). IsSome o) (ap (λ (h : State). h.frame) takes.state ∙ e.free)
+              runs in cc)
       of_frame None free = of_now W.0.frame refl (leaves free).ends
         where
-          of_now : (o : Option Running) → W.0.frame ≡ o → IfSome o (λ f. Ends f (worked (took p W.1)) × ((took p W.1).lines ≡ p.lines)) → IsFirst programs_now client × (may_turn programs_now client ≡ true)
-          of_now None is own = absurd (let no : IsSome none_running = subst (λ (o : Option Running). IsSome o) (ap (λ (h : State). h.frame) takes.state ∙ is) runs in cc)
+          of_now : (o : Option Running) → W.0.frame ≡ o → IfSome o (λ f. Ends f (worked (took p W.1)) × ((took p W.1).lines ≡ p.lines))
+              → IsFirst programs_now client × (may_turn programs_now client ≡ true)
+          of_now None is own =
+              absurd (let no : IsSome none_running = subst (λ (o : Option Running). IsSome o) (ap (λ (h : State). h.frame) takes.state ∙ is)
+              runs in cc)
           of_now (Some f) is own = (
             subst (λ (ns : List (Option ℕ)). IsSomeAnd (first_client ns) (λ c. c.0 ≡ client)) (sym (same_places own.1)) first,
             ap (λ (b : Bool). not (not (client == 0) && b)) (same_setup own.1) ∙ allowed,
           )
 
   alone_now : IfSome left_state.frame (FirstEnds programs_now)
-  alone_now = subst (λ (o : Option Running). IfSome o (FirstEnds programs_now)) (sym (ap (λ (h : State). h.frame) takes.state)) (of_frame s.state.frame refl)
+  alone_now = subst (λ (o : Option Running). IfSome o (FirstEnds programs_now)) (sym (ap (λ (h : State). h.frame) takes.state))
+      (of_frame s.state.frame refl)
     where
       of_frame : (o : Option Running) → s.state.frame ≡ o → IfSome W.0.frame (FirstEnds programs_now)
       of_frame (Some f) was =
@@ -180,16 +194,20 @@ module _ (s : Show) (client : ℕ) (p q : Program) (left_state : State) (t : Tur
           rw e.free tt
       of_frame None free = of_now W.0.frame (leaves free).ends
         where
-          of_first : (f : Running) → (took p W.1).lines ≡ p.lines → Ends f q → (o : Option (ℕ × ℕ)) → first_client (map place_of s.programs) ≡ o → IsSomeAnd o (λ c. c.0 ≡ client) → IfSome o (λ c. IfSome (slice_get programs_now c.0) (Ends f))
+          of_first : (f : Running) → (took p W.1).lines ≡ p.lines → Ends f q → (o : Option (ℕ × ℕ))
+              → first_client (map place_of s.programs) ≡ o → IsSomeAnd o (λ c. c.0 ≡ client)
+              → IfSome o (λ c. IfSome (slice_get programs_now c.0) (Ends f))
           of_first f lines ends None is none = absurd none
           of_first f lines ends (Some c) is here =
               let at : slice_get programs_now c.0 ≡ Some q = ap (slice_get programs_now) here ∙ here_now lines in
               rw at ends
 
-          of_now : (o : Option Running) → IfSome o (λ f. Ends f (worked (took p W.1)) × ((took p W.1).lines ≡ p.lines)) → IfSome o (FirstEnds programs_now)
+          of_now : (o : Option Running) → IfSome o (λ f. Ends f (worked (took p W.1)) × ((took p W.1).lines ≡ p.lines))
+              → IfSome o (FirstEnds programs_now)
           of_now None own = tt
           of_now (Some f) own =
-              subst (λ (ns : List (Option ℕ)). IfSome (first_client ns) (λ c. IfSome (slice_get programs_now c.0) (Ends f))) (sym (same_places own.1))
+              subst (λ (ns : List (Option ℕ)). IfSome (first_client ns) (λ c. IfSome (slice_get programs_now c.0) (Ends f)))
+                  (sym (same_places own.1))
               (of_first f own.1 (subst (Ends f) (sym takes.program) own.0) (first_client (map place_of s.programs)) refl first)
 
   pub cast_now : IsCast show_now
@@ -197,7 +215,8 @@ module _ (s : Show) (client : ℕ) (p q : Program) (left_state : State) (t : Tur
       record {
         script = cast.script;
         programs = programs_are;
-        eight = length_map left programs_now placed (handed_same left (λ clock r. refl) s.programs placed) ∙ length_set s.programs client q ∙ cast.eight;
+        eight = length_map left programs_now placed (handed_same left (λ clock r. refl) s.programs placed) ∙ length_set s.programs client q
+            ∙ cast.eight;
         alone = alone_now;
       }
     where
@@ -213,7 +232,8 @@ module _ (s : Show) (client : ℕ) (p q : Program) (left_state : State) (t : Tur
       omega (arith, left_handed s.programs placed, left_set s.programs client p q found, less, ap left takes.program)
 
   pub paintable : IsTrue painted → HoldsPaintable programs_now client
-  paintable is = handed_get (λ (r : Program). IsSomeAnd r.job IsPaintable) (λ clock r can. can) s.programs placed client q (get_set s.programs client p q found) (takes.paintable is)
+  paintable is = handed_get (λ (r : Program). IsSomeAnd r.job IsPaintable) (λ clock r can. can) s.programs placed client q
+      (get_set s.programs client p q found) (takes.paintable is)
 
   pub begun : left_state.frame ≡ None → shown_by painted programs_now client ≡ []
   begun free_now = sym frames_are ∙ of_frame s.state.frame refl
@@ -230,7 +250,8 @@ module _ (s : Show) (client : ℕ) (p q : Program) (left_state : State) (t : Tur
       of_frame None free = absurd (let no : IsSome none_running = subst (λ (o : Option Running). IsSome o) free runs in cc)
 
 -- the program whose turn it is, if the client is one of the eight
-pub ready : (s : Show) (client : ℕ) → IsCast s → IsFirst s.programs client → client < 8 → IsSomeAnd (slice_get s.programs client) (IsReady s.state)
+pub ready : (s : Show) (client : ℕ) → IsCast s → IsFirst s.programs client → client < 8
+    → IsSomeAnd (slice_get s.programs client) (IsReady s.state)
 ready s client cast first within = of_program (slice_get s.programs client) refl
   where
     of_program : (o : Option Program) → slice_get s.programs client ≡ o → IsSomeAnd o (IsReady s.state)
@@ -240,32 +261,42 @@ ready s client cast first within = of_program (slice_get s.programs client) refl
         past [] i none = omega arith
         past (q ∷ qs) zero none = absurd cc
         past (q ∷ qs) (suc i) none = (let rest = past qs i none in omega (arith, rest))
-    of_program (Some p) found = record { fit = (of s client p cast first found).fit; more = stands s client p cast first found; alone = ends_running s client p cast first found }
+    of_program (Some p) found = record { fit = (of s client p cast first found).fit; more = stands s client p cast first found;
+        alone = ends_running s client p cast first found }
 
-pub cast_after : (s : Show) (client : ℕ) (h : State) (placed : List Program) (t : Turn) (painted : Bool) → IsCast s → IsFirst s.programs client → may_turn s.programs client ≡ true → client < 8 → TakesTurnAt client s.state h s.programs placed t painted
+pub cast_after : (s : Show) (client : ℕ) (h : State) (placed : List Program) (t : Turn) (painted : Bool) → IsCast s
+    → IsFirst s.programs client → may_turn s.programs client ≡ true → client < 8 → TakesTurnAt client s.state h s.programs placed t painted
     → IsCast (record { state = h; programs = handed_on s.programs placed; frames = [] })
-cast_after s client h placed t painted cast first allowed within takes = of_program (slice_get s.programs client) refl (ready s client cast first within) takes
+cast_after s client h placed t painted cast first allowed within takes =
+    of_program (slice_get s.programs client) refl (ready s client cast first within) takes
   where
-    of_program : (o : Option Program) → slice_get s.programs client ≡ o → IsSomeAnd o (IsReady s.state) → IfSome o (λ p. (q : Program) × ((placed ≡ set s.programs client q) × TakesTurn client s.state h p q t painted))
+    of_program : (o : Option Program) → slice_get s.programs client ≡ o → IsSomeAnd o (IsReady s.state)
+        → IfSome o (λ p. (q : Program) × ((placed ≡ set s.programs client q) × TakesTurn client s.state h p q t painted))
         → IsCast (record { state = h; programs = handed_on s.programs placed; frames = [] })
     of_program None none is took = absurd is
     of_program (Some p) found is took =
         subst (λ (ps : List Program). IsCast (record { state = h; programs = handed_on s.programs ps; frames = [] })) (sym took.1.0)
         (cast_now s client p took.0 h t painted cast first allowed found took.1.1)
 
-pub turned : (s : Show) (client : ℕ) (h : State) (placed : List Program) (t : Turn) (painted : Bool) → IsCast s → IsFirst s.programs client → may_turn s.programs client ≡ true → client < 8 → TakesTurnAt client s.state h s.programs placed t painted
-    → (seen : Show) → s ≡ seen → (now : Show) → now ≡ record { state = h; programs = handed_on s.programs placed; frames = [] } → Turned seen client now t painted
+pub turned : (s : Show) (client : ℕ) (h : State) (placed : List Program) (t : Turn) (painted : Bool) → IsCast s → IsFirst s.programs client
+    → may_turn s.programs client ≡ true → client < 8 → TakesTurnAt client s.state h s.programs placed t painted
+    → (seen : Show) → s ≡ seen → (now : Show) → now ≡ record { state = h; programs = handed_on s.programs placed; frames = [] }
+        → Turned seen client now t painted
 turned s client h placed t painted cast first allowed within takes seen is now now_is =
-    subst (λ (v : Show). Turned v client now t painted) is (subst (λ (v : Show). Turned s client v t painted) (sym now_is) (of_program (slice_get s.programs client) refl (ready s client cast first within) takes))
+    subst (λ (v : Show). Turned v client now t painted) is
+        (subst (λ (v : Show). Turned s client v t painted) (sym now_is)
+        (of_program (slice_get s.programs client) refl (ready s client cast first within) takes))
   where
-    of_program : (o : Option Program) → slice_get s.programs client ≡ o → IsSomeAnd o (IsReady s.state) → IfSome o (λ p. (q : Program) × ((placed ≡ set s.programs client q) × TakesTurn client s.state h p q t painted))
+    of_program : (o : Option Program) → slice_get s.programs client ≡ o → IsSomeAnd o (IsReady s.state)
+        → IfSome o (λ p. (q : Program) × ((placed ≡ set s.programs client q) × TakesTurn client s.state h p q t painted))
         → Turned s client (record { state = h; programs = handed_on s.programs placed; frames = [] }) t painted
     of_program None none is took = absurd is
     of_program (Some p) found is took =
         let q = took.0 in
         let one = took.1.1 in
         let k = again s client p q h t painted cast first allowed found one in
-        subst (λ (ps : List Program). Turned s client (record { state = h; programs = handed_on s.programs ps; frames = [] }) t painted) (sym took.1.0) (record {
+        subst (λ (ps : List Program). Turned s client (record { state = h; programs = handed_on s.programs ps; frames = [] }) t painted)
+            (sym took.1.0) (record {
           next = turns s client p q h t painted cast first allowed found one;
           client_is = client_is s client p q h t painted cast first allowed found one;
           fewer = fewer s client p q h t painted cast first allowed found one;
@@ -277,21 +308,27 @@ turned s client h placed t painted cast first allowed within takes seen is now n
         })
 
 -- the programs after a turn are those of the script
-pub are_after : (s : Show) (client : ℕ) (h : State) (placed : List Program) (t : Turn) (painted : Bool) (cast : IsCast s) → IsFirst s.programs client → client < 8 → TakesTurnAt client s.state h s.programs placed t painted → AreOf cast.script 0 placed
-are_after s client h placed t painted cast first within takes = of_program (slice_get s.programs client) refl (ready s client cast first within) takes
+pub are_after : (s : Show) (client : ℕ) (h : State) (placed : List Program) (t : Turn) (painted : Bool) (cast : IsCast s)
+    → IsFirst s.programs client → client < 8 → TakesTurnAt client s.state h s.programs placed t painted → AreOf cast.script 0 placed
+are_after s client h placed t painted cast first within takes =
+    of_program (slice_get s.programs client) refl (ready s client cast first within) takes
   where
-    of_program : (o : Option Program) → slice_get s.programs client ≡ o → IsSomeAnd o (IsReady s.state) → IfSome o (λ p. (q : Program) × ((placed ≡ set s.programs client q) × TakesTurn client s.state h p q t painted)) → AreOf cast.script 0 placed
+    of_program : (o : Option Program) → slice_get s.programs client ≡ o → IsSomeAnd o (IsReady s.state)
+        → IfSome o (λ p. (q : Program) × ((placed ≡ set s.programs client q) × TakesTurn client s.state h p q t painted))
+        → AreOf cast.script 0 placed
     of_program None none is took = absurd is
     of_program (Some p) found is took =
         let q = took.0 in
         let one = took.1.1 in
         let reply = (step s.state client one.wanted.call (is_marked t)).1 in
         subst (λ (ps : List Program). AreOf cast.script 0 ps) (sym took.1.0)
-        (are_set cast.script 0 s.programs client p q cast.programs found (ap (λ (x : Program). x.script) one.program ∙ same_script p reply) (ap (λ (x : Program). x.client) one.program ∙ same_client p reply)
+        (are_set cast.script 0 s.programs client p q cast.programs found (ap (λ (x : Program). x.script) one.program ∙ same_script p reply)
+            (ap (λ (x : Program). x.client) one.program ∙ same_client p reply)
         (subst IsFit (sym one.program) (fit_took p reply (of s client p cast first found).fit)))
 
 -- what is handed on, by the clock and the other programs
-pub handed_is : (clock now : Program) (others behind : List Program) (was : Bool) (items : List Program) → was ≡ in_setup clock → items ≡ cond (was && not (in_setup now)) (map (taught now) behind) behind → now ∷ items ≡ handed_on (clock ∷ others) (now ∷ behind)
+pub handed_is : (clock now : Program) (others behind : List Program) (was : Bool) (items : List Program) → was ≡ in_setup clock
+    → items ≡ cond (was && not (in_setup now)) (map (taught now) behind) behind → now ∷ items ≡ handed_on (clock ∷ others) (now ∷ behind)
 handed_is clock now others behind was items was_is items_is =
     ap (λ (ps : List Program). now ∷ ps) items_is
     ∙ ap (λ (b : Bool). now ∷ cond (b && not (in_setup now)) (map (taught now) behind) behind) was_is
@@ -302,17 +339,24 @@ handed_is clock now others behind was items was_is items_is =
     by_bool false = refl
 
 -- a turn of another client than the clock
-pub other_ready : (clock : Program) (others : List Program) (client : ℕ) (h : State) (d : Program) → (client ≡ 0 → ⊥) → d ≡ get_or others (client - 1) d → IsSomeAnd (slice_get (clock ∷ others) client) (IsReady h) → IsReady h d
-other_ready clock others client h d apart is can = of_program (slice_get (clock ∷ others) client) (other_is clock others client d apart is (slice_get (clock ∷ others) client) refl) can
+pub other_ready : (clock : Program) (others : List Program) (client : ℕ) (h : State) (d : Program) → (client ≡ 0 → ⊥)
+    → d ≡ get_or others (client - 1) d → IsSomeAnd (slice_get (clock ∷ others) client) (IsReady h) → IsReady h d
+other_ready clock others client h d apart is can =
+    of_program (slice_get (clock ∷ others) client) (other_is clock others client d apart is (slice_get (clock ∷ others) client) refl) can
   where
     of_program : (o : Option Program) → IfSome o (λ p. p ≡ d) → IsSomeAnd o (IsReady h) → IsReady h d
     of_program None same can = absurd can
     of_program (Some p) same can = subst (IsReady h) same can
 
-pub other_turned : (clock : Program) (others : List Program) (client : ℕ) (h left_state : State) (d q : Program) (t : Turn) (painted : Bool) → (client ≡ 0 → ⊥) → d ≡ get_or others (client - 1) d → TakesTurn client h left_state d q t painted
+pub other_turned : (clock : Program) (others : List Program) (client : ℕ) (h left_state : State) (d q : Program) (t : Turn) (painted : Bool)
+    → (client ≡ 0 → ⊥) → d ≡ get_or others (client - 1) d → TakesTurn client h left_state d q t painted
     → TakesTurnAt client h left_state (clock ∷ others) (clock ∷ set others (client - 1) q) t painted
-other_turned clock others client h left_state d q t painted apart is takes = of_program (slice_get (clock ∷ others) client) (other_is clock others client d apart is (slice_get (clock ∷ others) client) refl)
+other_turned clock others client h left_state d q t painted apart is takes =
+    of_program (slice_get (clock ∷ others) client) (other_is clock others client d apart is (slice_get (clock ∷ others) client) refl)
   where
-    of_program : (o : Option Program) → IfSome o (λ p. p ≡ d) → IfSome o (λ p. (r : Program) × ((clock ∷ set others (client - 1) q ≡ set (clock ∷ others) client r) × TakesTurn client h left_state p r t painted))
+    of_program : (o : Option Program) → IfSome o (λ p. p ≡ d)
+        → IfSome o (λ p. (r : Program) × ((clock ∷ set others (client - 1) q ≡ set (clock ∷ others) client r)
+        × TakesTurn client h left_state p r t painted))
     of_program None same = tt
-    of_program (Some p) same = (q, (other_set clock others client q apart, subst (λ (x : Program). TakesTurn client h left_state x q t painted) (sym same) takes))
+    of_program (Some p) same =
+        (q, (other_set clock others client q apart, subst (λ (x : Program). TakesTurn client h left_state x q t painted) (sym same) takes))

@@ -44,7 +44,8 @@ marked_is code.Limit = refl
 work_frames : (p : Program) → frames_of p ≡ frames_if (is_work p) (worked p)
 work_frames p = by_parts p.unpainted p.job
   where
-    by_parts : (b : Bool) (o : Option Job) → frames_of (record p { job = o; unpainted = b }) ≡ frames_if (is_work (record p { job = o; unpainted = b })) (worked (record p { job = o; unpainted = b }))
+    by_parts : (b : Bool) (o : Option Job) → frames_of (record p { job = o; unpainted = b })
+        ≡ frames_if (is_work (record p { job = o; unpainted = b })) (worked (record p { job = o; unpainted = b }))
     by_parts true None = refl
     by_parts true (Some job) = refl
     by_parts false None = refl
@@ -58,7 +59,8 @@ painted_one job can = record { port = can.port; fits = can.fits; size = refl; fo
 still_paintable : (p : Program) → IsWork p → IsTrue (is_work p) → IsSomeAnd (worked p).job IsPaintable
 still_paintable p work is = by_parts p.unpainted p.job work is
   where
-    by_parts : (b : Bool) (o : Option Job) → IsWork (record p { job = o; unpainted = b }) → IsTrue (is_work (record p { job = o; unpainted = b })) → IsSomeAnd (worked (record p { job = o; unpainted = b })).job IsPaintable
+    by_parts : (b : Bool) (o : Option Job) → IsWork (record p { job = o; unpainted = b })
+        → IsTrue (is_work (record p { job = o; unpainted = b })) → IsSomeAnd (worked (record p { job = o; unpainted = b })).job IsPaintable
     by_parts true None work is = absurd cc
     by_parts true (Some job) work is = painted_one job (work refl)
     by_parts false o work is = absurd cc
@@ -77,7 +79,8 @@ has_line p more = of_lines p.lines refl more
 
 pub turn_taken : (client : ℕ) (h left : State) (p now : Program) (w : Wanted) (reply : Reply) (t : Turn) (painted : Bool)
     → IsFit p → IfSome h.frame (λ f. Ends f p) → next p ≡ Some w → left ≡ after h client w.call reply → MayAnswer h client w.call reply
-    → t ≡ record { client = client; code = code_number reply.code; value = reply.value } → now ≡ worked (took (handed p) reply) → painted ≡ is_work (took (handed p) reply)
+    → t ≡ record { client = client; code = code_number reply.code; value = reply.value } → now ≡ worked (took (handed p) reply)
+        → painted ≡ is_work (took (handed p) reply)
     → TakesTurn client h left p now t painted
 turn_taken client h left p now w reply t painted fit alone asks left_is may t_is now_is painted_is =
     let marks : is_marked t ≡ is_out_of_memory reply.code = ap is_marked t_is ∙ marked_is reply.code in

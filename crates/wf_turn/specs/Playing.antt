@@ -1,5 +1,6 @@
 -- A show while it is played serially: how it is kept, and what holds of it.
-use Rattle.std.specs.Prelude.{◌≡◌, ℕ, ◌+◌, ◌≤◌, Bool, false, ◌&&◌, List, [], ◌∷◌, ◌++◌, map, length, slice_get, slice_set, flat_map, Option, Some, None, IfSome, IsSome, IsSomeAnd, IsTrue, not, ◌==◌, if◌then◌else◌}
+use Rattle.std.specs.Prelude.{◌≡◌, ℕ, ◌+◌, ◌≤◌, Bool, false, ◌&&◌, List, [], ◌∷◌, ◌++◌, map, length, slice_get, slice_set, flat_map,
+    Option, Some, None, IfSome, IsSome, IsSomeAnd, IsTrue, not, ◌==◌, if◌then◌else◌}
 use Rattle.wf_calls.specs.declared.call.Job.{Job}
 use Rattle.wf_calls.specs.declared.order.Turn.{Turn}
 use Rattle.wf_calls.specs.Codes.{entry}

@@ -1,6 +1,7 @@
 //! A show: the machine, and the programs of the eight clients.
 
-ghost use Rattle.std.specs.Prelude.{◌≡◌, ◌+◌, ◌*◌, ◌<◌, ◌≤◌, ◌^◌, ◌&&◌, not, if◌then◌else◌, ◌∷◌, map, slice_get, option_map, length, flat_map, Some, IfOk, IfErr, IfSome, IsSomeAnd, IsTrue, OnOk, All, true};
+ghost use Rattle.std.specs.Prelude.{◌≡◌, ◌+◌, ◌*◌, ◌<◌, ◌≤◌, ◌^◌, ◌&&◌, not, if◌then◌else◌, ◌∷◌, map, slice_get, option_map, length,
+    flat_map, Some, IfOk, IfErr, IfSome, IsSomeAnd, IsTrue, OnOk, All, true};
 ghost use Rattle.wf_film.specs.Film.{frame_bytes};
 ghost use Rattle.wf_io.specs.Bytes.{Puts, PutsPart};
 ghost use Rattle.wf_io.specs.Causes.{HasCause};
@@ -93,7 +94,8 @@ fn teach(clock: &Program, others: &mut [Program])
 fn hand_on(was_setup: bool, clock: &Program, others: &mut Vec<Program>)
     requires script { All (λ p. p.script ≡ clock.now.script) others.old.items }
     requires clock { clock.now.client ≡ 0 }
-    ensures { others.new.items ≡ (if was_setup && not (in_setup clock.now) then map (taught clock.now) others.old.items else others.old.items) }
+    ensures { others.new.items
+        ≡ (if was_setup && not (in_setup clock.now) then map (taught clock.now) others.old.items else others.old.items) }
 {
     if was_setup && !clock.in_setup() {
         teach(clock, others);
@@ -192,7 +194,9 @@ impl<'a> Show<'a> {
         ensures all { OnOk result (Puts K.took k.old k.new (flat_map frame_bytes (shown_by true self.now.programs client))) }
         ensures written { OnOk result (writer.new ≡ writer.old + length (flat_map frame_bytes (shown_by true self.now.programs client))) }
         ensures most { OnOk result (writer.new ≤ writer.old + 10 + 4 * 1024 * 1024) }
-        ensures part { IfErr result (λ stop. PutsPart K.took k.old k.new writer.old (flat_map frame_bytes (shown_by true self.now.programs client)) stop.written) }
+        ensures part
+            { IfErr result (λ stop. PutsPart K.took k.old k.new writer.old (flat_map frame_bytes (shown_by true self.now.programs client))
+            stop.written) }
         ensures cause { HasCause (K.faults k.old) (K.faults k.new) result }
     {
         let program = self.program(client);
@@ -210,7 +214,9 @@ fn put_job<K: Sink>(k: &mut K, writer: &mut Writer, tick: u32, job: &Job) -> Res
     ensures all { OnOk result (Puts K.took k.old k.new (flat_map frame_bytes (shown job.now.kind tick job.now))) }
     ensures written { OnOk result (writer.new ≡ writer.old + length (flat_map frame_bytes (shown job.now.kind tick job.now))) }
     ensures most { OnOk result (writer.new ≤ writer.old + 10 + 4 * 1024 * 1024) }
-    ensures part { IfErr result (λ stop. PutsPart K.took k.old k.new writer.old (flat_map frame_bytes (shown job.now.kind tick job.now)) stop.written) }
+    ensures part
+        { IfErr result (λ stop. PutsPart K.took k.old k.new writer.old (flat_map frame_bytes (shown job.now.kind tick job.now))
+        stop.written) }
     ensures cause { HasCause (K.faults k.old) (K.faults k.new) result }
 {
     match job.kind {

@@ -335,10 +335,10 @@ fn stands(place: usize, line: &Line) -> bool {
 #[test]
 fn values(rt: HostRuntime) -> Result<(), Fail> {
     let text =
-        b"WFS1\nport 4x2\n0 d = device\n0 c = screen d -7\n0 e = element d c\n0 s = stream 1 1 rgba 2\n0 x = source d c s\n0 m = mask d c s\n\
-        0 set d e dest -1 2 3 4\n0 set d e source x\n0 set d e mask none\n0 set d e filter better\n0 set d e transparency alpha+mask\n\
-        0 set d e alpha 9\n0 get d e srcrect 3\n0 cset d c background 4 3 2 1\n0 cget d c lowest 0\n0 insert d e none\n0 insert d e m\n\
-        0 remove d e\n0 above d e\n0 below d e\n0 commit d c\n0 error d\n0 activate d c\n0 deactivate d c\n0 del_mask d m\n\
+        b"WFS1\nport 4x2\n0 d = device\n0 c = screen d -7\n0 e = element d c\n0 s = stream 1 1 rgba 2\n0 x = source d c s\n\
+        0 m = mask d c s\n0 set d e dest -1 2 3 4\n0 set d e source x\n0 set d e mask none\n0 set d e filter better\n\
+        0 set d e transparency alpha+mask\n0 set d e alpha 9\n0 get d e srcrect 3\n0 cset d c background 4 3 2 1\n0 cget d c lowest 0\n\
+        0 insert d e none\n0 insert d e m\n0 remove d e\n0 above d e\n0 below d e\n0 commit d c\n0 error d\n0 activate d c\n0 deactivate d c\n0 del_mask d m\n\
         0 del_source d x\n0 del_element d e\n0 del_context d c\n0 del_device d\n0 del_stream s\nend";
     let script = parse(rt.alloc(), text.as_slice())?;
     assert_eq!(rt; script.lines().len(), 30);

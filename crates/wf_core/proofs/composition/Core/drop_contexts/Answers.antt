@@ -13,7 +13,8 @@ told : (c : After-first_context) → c.first_context.result ≡ position (λ (x 
 told c = c.first_context.ensures.place ∙ rw (c.deref.ensures.value, ← c.self.view_is) refl
 
 -- the context there is the first of the device
-found : (c : After-drop_context) → c.first_context.result ≡ position (λ (x : Context). x.device == c.args.device) c.loop-place.self.contexts → find (λ (x : Context). x.device == c.args.device) c.loop-place.self.contexts ≡ Some c.index.result.now
+found : (c : After-drop_context) → c.first_context.result ≡ position (λ (x : Context). x.device == c.args.device) c.loop-place.self.contexts
+    → find (λ (x : Context). x.device == c.args.device) c.loop-place.self.contexts ≡ Some c.index.result.now
 found c is =
     let cs = c.loop-place.self.contexts in
     let less : c.in-Some.place < length cs = rw (← c.self.view_is) (rw (← c.deref.ensures.value) c.in-Some.ensures.within) in
@@ -33,12 +34,14 @@ loop-place-preserved c =
     record {
       fits = c.drop_context.ensures.fits;
       loses = then_lost c.args.store.now l.store c.drop_context.new.store l.invariant.loses c.drop_context.ensures.loses;
-      rest = ap (but_contexts_of c.args.device) c.drop_context.ensures.dropped ∙ one_context_fewer l.self l.store l.invariant.fits c.args.device c.index.result.now first ∙ l.invariant.rest;
+      rest = ap (but_contexts_of c.args.device) c.drop_context.ensures.dropped
+          ∙ one_context_fewer l.self l.store l.invariant.fits c.args.device c.index.result.now first ∙ l.invariant.rest;
     }
 
 pub returns-clause-dropped : goal.returns-clause-dropped
 returns-clause-dropped c =
     let l = c.loop-place in
     let cs = l.self.contexts in
-    let none = sym (get_position (λ (x : Context). x.device == c.args.device) cs) ∙ ap (option_and_then (slice_get cs)) (sym (told (goal.at.returns-clause-dropped c).After-first_context) ∙ c.in_default.is) in
+    let none = sym (get_position (λ (x : Context). x.device == c.args.device) cs)
+        ∙ ap (option_and_then (slice_get cs)) (sym (told (goal.at.returns-clause-dropped c).After-first_context) ∙ c.in_default.is) in
     sym (no_contexts c.args.device l.self none) ∙ l.invariant.rest

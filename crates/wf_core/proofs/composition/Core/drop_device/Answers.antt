@@ -18,4 +18,5 @@ pub returns-clause-fits : goal.returns-clause-fits
 returns-clause-fits c =
     let a = c.args in
     let u = device_under a.self.now a.store.now c.requires.fits a.device c.requires.live in
-    rw (c.drop_handle.ensures, c.leave_out_device.ensures.left) (rw (← c.self.view_is) at (device_dropped a.self.now a.store.now c.requires.fits a.device u))
+    rw (c.drop_handle.ensures, c.leave_out_device.ensures.left)
+        (rw (← c.self.view_is) at (device_dropped a.self.now a.store.now c.requires.fits a.device u))

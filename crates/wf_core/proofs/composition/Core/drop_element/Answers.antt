@@ -24,7 +24,8 @@ at c = standing _ c.args.self.now c.args.place c.index_mut.result.now c.self.vie
 here : (c : After-index_mut) → has_element c.args.element c.index_mut.result.now.cached ≡ true
 here c = let there = at c in rw there at c.requires.live
 
-under : (c : After-index_mut) → InContext c.args.self.now c.args.store.now c.requires.fits c.args.element c.args.place c.index_mut.result.now (at c)
+under : (c : After-index_mut)
+    → InContext c.args.self.now c.args.store.now c.requires.fits c.args.element c.args.place c.index_mut.result.now (at c)
 under c = element_under c.args.self.now c.args.store.now c.requires.fits c.args.element c.args.place c.index_mut.result.now (at c) (here c)
 
 pub forget-requires : goal.forget-requires
@@ -35,7 +36,8 @@ returns-clause-dropped c =
     let a = c.args in
     let x = c.index_mut.result.now in
     let there = at (goal.at.returns-clause-dropped c).After-index_mut in
-    rw (there, c.forget.ensures.forgotten) (rw (← c.self.view_is) refl ∙ sym (placed_is a.self.now a.store.now c.requires.fits a.place x there (with_cached (forget a.element x.cached))))
+    rw (there, c.forget.ensures.forgotten) (rw (← c.self.view_is) refl
+        ∙ sym (placed_is a.self.now a.store.now c.requires.fits a.place x there (with_cached (forget a.element x.cached))))
 
 pub returns-clause-loses : goal.returns-clause-loses
 returns-clause-loses c =
@@ -48,4 +50,5 @@ returns-clause-fits c =
     let a = c.args in
     let k = (goal.at.returns-clause-fits c).After-index_mut in
     rw (c.drop_handle.ensures, c.forget.ensures.forgotten)
-    (rw (← c.self.view_is) at (element_dropped a.self.now a.store.now c.requires.fits a.element a.place c.index_mut.result.now (at k) (under k)))
+    (rw (← c.self.view_is) at (element_dropped a.self.now a.store.now c.requires.fits a.element a.place c.index_mut.result.now (at k)
+        (under k)))

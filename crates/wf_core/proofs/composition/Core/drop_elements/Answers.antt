@@ -16,7 +16,8 @@ at c = standing _ c.loop-element.self c.args.place c.index.result.now c.self.vie
 
 -- it is the one that loses its elements
 handle : (c : After-first) → c.index.result.now.handle ≡ c.args.context
-handle c = let s = c.loop-element.invariant.here in let same : c.index.result.now ≡ s.context = let both = sym (at c) ∙ s.at in cc in ap (λ (x : Context). x.handle) same ∙ s.handle_is
+handle c = let s = c.loop-element.invariant.here in let same : c.index.result.now ≡ s.context = let both = sym (at c) ∙ s.at in cc in
+    ap (λ (x : Context). x.handle) same ∙ s.handle_is
 
 pub drop_element-requires-clause-live : goal.drop_element-requires-clause-live
 drop_element-requires-clause-live c =
@@ -27,14 +28,16 @@ drop_element-requires-clause-live c =
 
 -- what is left of the objects
 left : (c : After-drop_element) (there : slice_get c.loop-element.self.contexts c.args.place ≡ Some c.index.result.now)
-    → c.drop_element.new.self ≡ change_context c.index.result.now.handle (with_cached (forget c.in-Some.element c.index.result.now.cached)) c.loop-element.self
+    → c.drop_element.new.self ≡ change_context c.index.result.now.handle (with_cached (forget c.in-Some.element c.index.result.now.cached))
+        c.loop-element.self
 left c there = rw there at c.drop_element.ensures.dropped
 
 pub loop-element-smaller : goal.loop-element-smaller
 loop-element-smaller c =
     let l = c.loop-element in
     let k = (goal.at.loop-element-smaller c).After-first in
-    fewer_elements l.self l.store l.invariant.fits c.args.context c.args.place c.index.result.now (at k) (handle k) c.in-Some.element c.drop_element.new.self (left (goal.at.loop-element-smaller c).After-drop_element (at k))
+    fewer_elements l.self l.store l.invariant.fits c.args.context c.args.place c.index.result.now (at k) (handle k) c.in-Some.element
+        c.drop_element.new.self (left (goal.at.loop-element-smaller c).After-drop_element (at k))
     (sym c.in-Some.is ∙ c.first.ensures.first)
 
 pub loop-element-preserved : goal.loop-element-preserved
@@ -45,17 +48,21 @@ loop-element-preserved c =
     record {
       fits = c.drop_element.ensures.fits;
       loses = then_lost c.args.store.now l.store c.drop_element.new.store l.invariant.loses c.drop_element.ensures.loses;
-      rest = others_stay l.self l.store l.invariant.fits c.args.context c.args.place c.index.result.now (at k) (handle k) c.in-Some.element c.drop_element.new.self is ∙ l.invariant.rest;
-      here = still_stands l.self l.store l.invariant.fits c.args.context c.args.place c.index.result.now (at k) (handle k) c.in-Some.element c.drop_element.new.self is l.invariant.here.within;
+      rest = others_stay l.self l.store l.invariant.fits c.args.context c.args.place c.index.result.now (at k) (handle k) c.in-Some.element
+          c.drop_element.new.self is ∙ l.invariant.rest;
+      here = still_stands l.self l.store l.invariant.fits c.args.context c.args.place c.index.result.now (at k) (handle k) c.in-Some.element
+          c.drop_element.new.self is l.invariant.here.within;
     }
 
 pub returns-clause-live : goal.returns-clause-live
 returns-clause-live c =
     let s = c.loop-element.invariant.here in
-    any_at (λ (x : Context). x.handle == c.args.context) c.loop-element.self.contexts c.args.place s.context s.at (eq-eqb s.context.handle c.args.context s.handle_is)
+    any_at (λ (x : Context). x.handle == c.args.context) c.loop-element.self.contexts c.args.place s.context s.at
+        (eq-eqb s.context.handle c.args.context s.handle_is)
 
 pub returns-clause-bare : goal.returns-clause-bare
 returns-clause-bare c =
     let l = c.loop-element in
     let k = (goal.at.returns-clause-bare c).After-first in
-    emptied l.self l.store l.invariant.fits c.args.context c.args.place c.index.result.now (at k) (handle k) (element_none c.index.result.now.cached.elements (sym c.in_default.is ∙ c.first.ensures.first))
+    emptied l.self l.store l.invariant.fits c.args.context c.args.place c.index.result.now (at k) (handle k)
+        (element_none c.index.result.now.cached.elements (sym c.in_default.is ∙ c.first.ensures.first))

@@ -18,4 +18,5 @@ pub returns-clause-fits : goal.returns-clause-fits
 returns-clause-fits c =
     let a = c.args in
     let u = mask_under a.self.now a.store.now c.requires.fits a.mask c.requires.live in
-    rw (c.drop_handle.ensures, c.leave_out.ensures.left) (rw (← c.self.view_is) at (mask_dropped a.self.now a.store.now c.requires.fits a.mask u))
+    rw (c.drop_handle.ensures, c.leave_out.ensures.left)
+        (rw (← c.self.view_is) at (mask_dropped a.self.now a.store.now c.requires.fits a.mask u))

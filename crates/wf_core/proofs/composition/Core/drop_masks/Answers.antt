@@ -12,22 +12,26 @@ told : (c : After-first_of) → c.first_of.result ≡ first_of c.args.context c.
 told c = c.first_of.ensures ∙ rw (c.deref.ensures.value, ← c.self.view_is) refl
 
 first : (c : In-Some) → IsFirst c.args.context c.in-Some.mask c.loop-mask.self.masks
-first c = first_is c.args.context c.in-Some.mask c.loop-mask.self.masks (sym c.in-Some.is ∙ (c.first_of.ensures ∙ rw (c.deref.ensures.value, ← c.self.view_is) refl))
+first c = first_is c.args.context c.in-Some.mask c.loop-mask.self.masks (sym c.in-Some.is
+    ∙ (c.first_of.ensures ∙ rw (c.deref.ensures.value, ← c.self.view_is) refl))
 
 pub drop_mask-requires-clause-live : goal.drop_mask-requires-clause-live
 drop_mask-requires-clause-live c =
     let l = c.loop-mask in
-    first_lives c.args.context c.in-Some.mask l.self.masks (rises_masks l.self l.store l.invariant.fits) (first (goal.at.drop_mask-requires-clause-live c).In-Some)
+    first_lives c.args.context c.in-Some.mask l.self.masks (rises_masks l.self l.store l.invariant.fits)
+        (first (goal.at.drop_mask-requires-clause-live c).In-Some)
 
 pub loop-mask-smaller : goal.loop-mask-smaller
 loop-mask-smaller c =
     let l = c.loop-mask in
-    rw c.drop_mask.ensures.dropped (fewer c.args.context c.in-Some.mask l.self.masks (rises_masks l.self l.store l.invariant.fits) (first (goal.at.loop-mask-smaller c).In-Some))
+    rw c.drop_mask.ensures.dropped (fewer c.args.context c.in-Some.mask l.self.masks (rises_masks l.self l.store l.invariant.fits)
+        (first (goal.at.loop-mask-smaller c).In-Some))
 
 pub loop-mask-preserved : goal.loop-mask-preserved
 loop-mask-preserved c =
     let l = c.loop-mask in
-    let leaves = first_leaves c.args.context c.in-Some.mask l.self.masks (rises_masks l.self l.store l.invariant.fits) (first (goal.at.loop-mask-preserved c).In-Some) in
+    let leaves = first_leaves c.args.context c.in-Some.mask l.self.masks (rises_masks l.self l.store l.invariant.fits)
+        (first (goal.at.loop-mask-preserved c).In-Some) in
     record {
       fits = c.drop_mask.ensures.fits;
       loses = then_lost c.args.store.now l.store c.drop_mask.new.store l.invariant.loses c.drop_mask.ensures.loses;

@@ -10,7 +10,8 @@ invariant-loop-mask l =
     record {
       fits : Fits l.self l.store;
       loses : Loses l.fn.store l.store;
-      rest : record l.self { masks = without_those_of l.context l.self.masks } ≡ record l.fn.self { masks = without_those_of l.context l.fn.self.masks };
+      rest : record l.self { masks = without_those_of l.context l.self.masks }
+          ≡ record l.fn.self { masks = without_those_of l.context l.fn.self.masks };
     }
 
 -- one goes each time

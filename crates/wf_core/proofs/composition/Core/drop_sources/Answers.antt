@@ -12,22 +12,26 @@ told : (c : After-first_of) → c.first_of.result ≡ first_of c.args.context c.
 told c = c.first_of.ensures ∙ rw (c.deref.ensures.value, ← c.self.view_is) refl
 
 first : (c : In-Some) → IsFirst c.args.context c.in-Some.source c.loop-source.self.sources
-first c = first_is c.args.context c.in-Some.source c.loop-source.self.sources (sym c.in-Some.is ∙ (c.first_of.ensures ∙ rw (c.deref.ensures.value, ← c.self.view_is) refl))
+first c = first_is c.args.context c.in-Some.source c.loop-source.self.sources (sym c.in-Some.is
+    ∙ (c.first_of.ensures ∙ rw (c.deref.ensures.value, ← c.self.view_is) refl))
 
 pub drop_source-requires-clause-live : goal.drop_source-requires-clause-live
 drop_source-requires-clause-live c =
     let l = c.loop-source in
-    first_lives c.args.context c.in-Some.source l.self.sources (rises_sources l.self l.store l.invariant.fits) (first (goal.at.drop_source-requires-clause-live c).In-Some)
+    first_lives c.args.context c.in-Some.source l.self.sources (rises_sources l.self l.store l.invariant.fits)
+        (first (goal.at.drop_source-requires-clause-live c).In-Some)
 
 pub loop-source-smaller : goal.loop-source-smaller
 loop-source-smaller c =
     let l = c.loop-source in
-    rw c.drop_source.ensures.dropped (fewer c.args.context c.in-Some.source l.self.sources (rises_sources l.self l.store l.invariant.fits) (first (goal.at.loop-source-smaller c).In-Some))
+    rw c.drop_source.ensures.dropped (fewer c.args.context c.in-Some.source l.self.sources (rises_sources l.self l.store l.invariant.fits)
+        (first (goal.at.loop-source-smaller c).In-Some))
 
 pub loop-source-preserved : goal.loop-source-preserved
 loop-source-preserved c =
     let l = c.loop-source in
-    let leaves = first_leaves c.args.context c.in-Some.source l.self.sources (rises_sources l.self l.store l.invariant.fits) (first (goal.at.loop-source-preserved c).In-Some) in
+    let leaves = first_leaves c.args.context c.in-Some.source l.self.sources (rises_sources l.self l.store l.invariant.fits)
+        (first (goal.at.loop-source-preserved c).In-Some) in
     record {
       fits = c.drop_source.ensures.fits;
       loses = then_lost c.args.store.now l.store c.drop_source.new.store l.invariant.loses c.drop_source.ensures.loses;

@@ -10,7 +10,8 @@ invariant-loop-source l =
     record {
       fits : Fits l.self l.store;
       loses : Loses l.fn.store l.store;
-      rest : record l.self { sources = without_those_of l.context l.self.sources } ≡ record l.fn.self { sources = without_those_of l.context l.fn.self.sources };
+      rest : record l.self { sources = without_those_of l.context l.self.sources }
+          ≡ record l.fn.self { sources = without_those_of l.context l.fn.self.sources };
     }
 
 -- one goes each time

@@ -7,7 +7,8 @@ use Rattle.wf_core.proofs.composition.Core.element_place.Goals as goal
 pub returns-in_default-clause-found : goal.returns-in_default-clause-found
 returns-in_default-clause-found c =
     let a = c.args in
-    ap Err c.of.ensures ∙ sym (refused_owner a.self.now a.store.now c.requires.handles a.device a.element (sym c.key_of.ensures ∙ c.in_default.is))
+    ap Err c.of.ensures
+        ∙ sym (refused_owner a.self.now a.store.now c.requires.handles a.device a.element (sym c.key_of.ensures ∙ c.in_default.is))
 
 pub returns-in-Some-element_in_device-clause-found : goal.returns-in-Some-element_in_device-clause-found
 returns-in-Some-element_in_device-clause-found c =

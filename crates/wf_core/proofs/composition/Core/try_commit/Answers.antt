@@ -22,7 +22,8 @@ told : (c : goal.After-self-1) → Ok c.in-Ok.scene ≡ fault_as_refusal (consis
 told c =
     let a = c.args in
     let read = standing _ a.self.now c.in_ok-place.place c.index.result.now c.self.view_is c.in_ok-place.ensures.within c.index.ensures in
-    let written = standing _ a.self.now c.in_ok-place.place c.index_mut.result.now c.self.view_is c.in_ok-place.ensures.within c.index_mut.ensures.value in
+    let written = standing _ a.self.now c.in_ok-place.place c.index_mut.result.now c.self.view_is c.in_ok-place.ensures.within
+        c.index_mut.ensures.value in
     let same : c.index.result.now ≡ c.index_mut.result.now = let both = sym read ∙ written in cc in
     c.in-Ok.ensures.scene ∙ ap (λ (y : Context). fault_as_refusal (consistent (sight_in a.store.now) y.cached)) same
 
@@ -32,7 +33,8 @@ returns-clause-case c =
     let x = c.index_mut.result.now in
     let at = standing _ a.self.now c.in_ok-place.place x c.self.view_is c.in_ok-place.ensures.within c.index_mut.ensures.value in
     let own = owned a.device a.context c.in_ok-place.place a.self.now a.store.now x c.in_ok-place.ensures.found at in
-    committed_case a.self.now a.store.now c.requires a.device a.context c.in_ok-place.place x at own c.in-Ok.scene (told c) ∙ rw (← c.self.view_is) refl
+    committed_case a.self.now a.store.now c.requires a.device a.context c.in_ok-place.place x at own c.in-Ok.scene (told c)
+        ∙ rw (← c.self.view_is) refl
 
 pub returns-clause-fits : goal.returns-clause-fits
 returns-clause-fits c =
@@ -40,5 +42,7 @@ returns-clause-fits c =
     let x = c.index_mut.result.now in
     let at = standing _ a.self.now c.in_ok-place.place x c.self.view_is c.in_ok-place.ensures.within c.index_mut.ensures.value in
     let own = owned a.device a.context c.in_ok-place.place a.self.now a.store.now x c.in_ok-place.ensures.found at in
-    subst (λ (k : CoreState). Fits (record k { contexts = set k.contexts c.in_ok-place.place (record x { committed = c.in-Ok.scene }) }) a.store.now) (sym c.self.view_is)
-    (committed_fits a.self.now a.store.now c.requires a.device a.context c.in_ok-place.place x at own c.in-Ok.scene (told c) c.in-Ok.ensures.placed)
+    subst (λ (k : CoreState). Fits (record k { contexts = set k.contexts c.in_ok-place.place (record x { committed = c.in-Ok.scene }) })
+        a.store.now) (sym c.self.view_is)
+    (committed_fits a.self.now a.store.now c.requires a.device a.context c.in_ok-place.place x at own c.in-Ok.scene (told c)
+        c.in-Ok.ensures.placed)

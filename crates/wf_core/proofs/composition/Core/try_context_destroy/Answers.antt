@@ -16,4 +16,5 @@ returns-clause-case c =
     let a = c.args in
     let x = within a.self.now.contexts c.in_ok-place.place c.in_ok-place.ensures.within in
     let own = owned a.device a.context c.in_ok-place.place a.self.now a.store.now x.0 c.in_ok-place.ensures.found x.1 in
-    context_destroyed a.device a.context a.self.now c.drop_context.new.self a.store.now c.drop_context.new.store x.0 own c.drop_context.ensures.dropped c.drop_context.ensures.loses
+    context_destroyed a.device a.context a.self.now c.drop_context.new.self a.store.now c.drop_context.new.store x.0 own
+        c.drop_context.ensures.dropped c.drop_context.ensures.loses

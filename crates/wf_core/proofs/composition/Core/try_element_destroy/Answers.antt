@@ -16,4 +16,5 @@ returns-clause-case c =
     let a = c.args in
     let x = within a.self.now.contexts c.in_ok-place.place c.in_ok-place.ensures.within in
     let own = owning a.device a.element c.in_ok-place.place a.self.now a.store.now x.0 c.in_ok-place.ensures.found x.1 in
-    element_destroyed a.device a.element a.self.now c.drop_element.new.self a.store.now c.drop_element.new.store x.0 own (rw x.1 at c.drop_element.ensures.dropped) c.drop_element.ensures.loses
+    element_destroyed a.device a.element a.self.now c.drop_element.new.self a.store.now c.drop_element.new.store x.0 own
+        (rw x.1 at c.drop_element.ensures.dropped) c.drop_element.ensures.loses

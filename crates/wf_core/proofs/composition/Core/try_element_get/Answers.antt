@@ -10,7 +10,8 @@ get-requires c =
     let a = c.args in
     let x = c.index.result.now in
     let at = standing _ a.self.now c.in_ok-place.place x c.self.view_is c.in_ok-place.ensures.within c.index.ensures in
-    (owning_parts a.device a.element (side_of a.self.now a.store.now) x (owning a.device a.element c.in_ok-place.place a.self.now a.store.now x c.in_ok-place.ensures.found at)).1
+    (owning_parts a.device a.element (side_of a.self.now a.store.now) x
+        (owning a.device a.element c.in_ok-place.place a.self.now a.store.now x c.in_ok-place.ensures.found at)).1
 
 pub returns : goal.returns
 returns c =
@@ -18,4 +19,5 @@ returns c =
     let x = c.index.result.now in
     let at = standing _ a.self.now c.in_ok-place.place x c.self.view_is c.in_ok-place.ensures.within c.index.ensures in
     read_in_owner a.device a.element (side_of a.self.now a.store.now) x (cached.get a.element a.attr a.index) c.get.result c.by_scene.result
-    (owning a.device a.element c.in_ok-place.place a.self.now a.store.now x c.in_ok-place.ensures.found at) (rw (to_z-of_z c.ranges.index) at c.get.ensures) c.by_scene.ensures
+    (owning a.device a.element c.in_ok-place.place a.self.now a.store.now x c.in_ok-place.ensures.found at)
+        (rw (to_z-of_z c.ranges.index) at c.get.ensures) c.by_scene.ensures

@@ -19,27 +19,33 @@ use Rattle.wf_core.proofs.composition.Core.try_element_remove.Goals as goal
 
 -- the context at the place
 at : (c : goal.In_default) → slice_get c.args.self.now.contexts c.in_ok-place.place ≡ Some c.index_mut.result.now
-at c = standing _ c.args.self.now c.in_ok-place.place c.index_mut.result.now c.self.view_is c.in_ok-place.ensures.within c.index_mut.ensures.value
+at c = standing _ c.args.self.now c.in_ok-place.place c.index_mut.result.now c.self.view_is c.in_ok-place.ensures.within
+    c.index_mut.ensures.value
 
 -- it is that of the element
-own : (c : goal.In_default) → owning_context c.args.device c.args.element (side_of c.args.self.now c.args.store.now) ≡ Ok c.index_mut.result.now
-own c = owning c.args.device c.args.element c.in_ok-place.place c.args.self.now c.args.store.now c.index_mut.result.now c.in_ok-place.ensures.found (at c)
+own : (c : goal.In_default) → owning_context c.args.device c.args.element (side_of c.args.self.now c.args.store.now)
+    ≡ Ok c.index_mut.result.now
+own c = owning c.args.device c.args.element c.in_ok-place.place c.args.self.now c.args.store.now c.index_mut.result.now
+    c.in_ok-place.ensures.found (at c)
 
 pub remove-requires : goal.remove-requires
 remove-requires c =
     let a = c.args in
     let x = c.index_mut.result.now in
     let here = standing _ a.self.now c.in_ok-place.place x c.self.view_is c.in_ok-place.ensures.within c.index_mut.ensures.value in
-    (owning_parts a.device a.element (side_of a.self.now a.store.now) x (owning a.device a.element c.in_ok-place.place a.self.now a.store.now x c.in_ok-place.ensures.found here)).1
+    (owning_parts a.device a.element (side_of a.self.now a.store.now) x
+        (owning a.device a.element c.in_ok-place.place a.self.now a.store.now x c.in_ok-place.ensures.found here)).1
 
 pub returns-clause-case : goal.returns-clause-case
 returns-clause-case c =
     let a = c.args in
     let w = side_of a.self.now a.store.now in
     let x = c.index_mut.result.now in
-    let left : Context → CachedScene → Outcome CoreSide = λ y scene. Ok (record w { core = change_context y.handle (with_cached scene) a.self.now }, 0) in
+    let left : Context → CachedScene → Outcome CoreSide =
+        λ y scene. Ok (record w { core = change_context y.handle (with_cached scene) a.self.now }, 0) in
     in_owner a.device a.element w x (λ (y : Context). by_scene (cached.remove a.element y.cached) >>= left y) (own c)
-    ∙ set_here a.self.now a.store.now c.requires c.in_ok-place.place x (at c) (cached.remove a.element) c.remove.new.self c.in_default.ensures.case
+    ∙ set_here a.self.now a.store.now c.requires c.in_ok-place.place x (at c) (cached.remove a.element) c.remove.new.self
+        c.in_default.ensures.case
     ∙ rw (← c.self.view_is) refl
 
 pub returns-clause-fits : goal.returns-clause-fits
@@ -47,7 +53,8 @@ returns-clause-fits c =
     let a = c.args in
     let x = c.index_mut.result.now in
     let keeps = remove_keeps a.element x.cached c.remove.new.self c.in_default.ensures.case in
-    subst (λ (k : CoreState). Fits (record k { contexts = set k.contexts c.in_ok-place.place (record x { cached = c.remove.new.self }) }) a.store.now) (sym c.self.view_is)
+    subst (λ (k : CoreState). Fits (record k { contexts = set k.contexts c.in_ok-place.place (record x { cached = c.remove.new.self }) })
+        a.store.now) (sym c.self.view_is)
     (scene_fits a.self.now a.store.now c.requires c.in_ok-place.place x (at c) c.remove.new.self keeps.0 keeps.1)
 
 pub returns-in-Err-clause-case : goal.returns-in-Err-clause-case
@@ -56,6 +63,8 @@ returns-in-Err-clause-case c =
     let w = side_of a.self.now a.store.now in
     let x = c.index_mut.result.now in
     let here = standing _ a.self.now c.in_ok-place.place x c.self.view_is c.in_ok-place.ensures.within c.index_mut.ensures.value in
-    let left : Context → CachedScene → Outcome CoreSide = λ y scene. Ok (record w { core = change_context y.handle (with_cached scene) a.self.now }, 0) in
-    in_owner a.device a.element w x (λ (y : Context). by_scene (cached.remove a.element y.cached) >>= left y) (owning a.device a.element c.in_ok-place.place a.self.now a.store.now x c.in_ok-place.ensures.found here)
+    let left : Context → CachedScene → Outcome CoreSide =
+        λ y scene. Ok (record w { core = change_context y.handle (with_cached scene) a.self.now }, 0) in
+    in_owner a.device a.element w x (λ (y : Context). by_scene (cached.remove a.element y.cached) >>= left y)
+        (owning a.device a.element c.in_ok-place.place a.self.now a.store.now x c.in_ok-place.ensures.found here)
     ∙ ap (λ (m : Result CachedScene Refused). by_scene m >>= left x) c.in-Err.ensures.case ∙ ap Err (sym c.scene_refusal.ensures)

@@ -12,8 +12,10 @@ format c = sym c.is_a8.ensures ∙ c.if-is_a8.false
 pub returns-clause-case : goal.returns-clause-case
 returns-clause-case c =
     let a = c.args in
-    let x = some_owned a.device a.context c.in_ok-context_place.field-0 a.self.now a.store.now c.in_ok-context_place.ensures.found c.in_ok-context_place.ensures.within in
-    source_made a.device a.context a.stream a.self.now a.store.now x.0 c.in-Some.seen x.1 (sym c.in-Some.ensures.seen) (sym c.sources_full.ensures ∙ c.if-sources_full.false)
+    let x = some_owned a.device a.context c.in_ok-context_place.field-0 a.self.now a.store.now c.in_ok-context_place.ensures.found
+        c.in_ok-context_place.ensures.within in
+    source_made a.device a.context a.stream a.self.now a.store.now x.0 c.in-Some.seen x.1 (sym c.in-Some.ensures.seen)
+        (sym c.sources_full.ensures ∙ c.if-sources_full.false)
     (not_full a.store.now.made c.in_ok-handle.ensures.stopped) (format c)
     ∙ rw (c.in_ok-handle.ensures.made, c.push_reserved.ensures.items, c.in_ok-handle.ensures.handle, ← c.self.view_is) refl
 
@@ -21,5 +23,6 @@ pub returns-clause-fits : goal.returns-clause-fits
 returns-clause-fits c =
     let a = c.args in
     rw (c.in_ok-handle.ensures.made, c.push_reserved.ensures.items)
-    (rw (← c.self.view_is) at (source_fits a.self.now a.store.now c.requires (record { handle = c.in_ok-handle.handle; context = a.context; stream = c.in-Some.seen.stream }) c.in_ok-handle.ensures.handle
+    (rw (← c.self.view_is) at (source_fits a.self.now a.store.now c.requires
+        (record { handle = c.in_ok-handle.handle; context = a.context; stream = c.in-Some.seen.stream }) c.in_ok-handle.ensures.handle
     (shows a.store.now.streams c.in-Some.seen false c.in_ok-handle.handle a.context c.in-Some.ensures.kept (format c))))
