@@ -32,12 +32,6 @@ use Rattle.wf_turn.specs.declared.stage.Stage.{Stage}
 use Rattle.wf_model.specs.Beginnings.{by_begin, next_is, port_is}
 use Rattle.wf_calls.specs.Replies.{bare}
 
--- between two turns no program has a Job to paint
-worked_painted : (p : Program) → (worked p).unpainted ≡ false
-worked_painted p =
-    elim p.unpainted as (λ b. p.unpainted ≡ b → (cond b (record p { job = option_map painted_job p.job; unpainted = false }) p).unpainted
-        ≡ false) [ true ↦ λ was. refl | false ↦ λ was. was ] refl
-
 -- the turn of a program: what it shows behind the answer, the entry of the answer tells
 module _ (show : Show) (client : ℕ) (m : Bool) (p : Program) (stands : program_at show client ≡ Some p) (painted : p.unpainted ≡ false)
     where

@@ -31,6 +31,7 @@ module _ {K : Type 0} (took : K → List ℕ → Type 0) where
     pub many : length played + all_left now.programs ≤ most
     pub few : written + all_left now.programs * 4194314 < 2 ^ 62
     pub later : before_faults ≤ faults
+    pub painted : ArePainted now.programs
 
   flat_one : (frames more : List Frame) → flat_map frame_bytes (frames ++ more) ≡ flat_map frame_bytes frames ++ flat_map frame_bytes more
   flat_one frames more = flat_map-append frame_bytes frames more

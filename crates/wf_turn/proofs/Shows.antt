@@ -13,9 +13,9 @@ use Rattle.wf_model.specs.Step.{step}
 use Rattle.wf_script.specs.declared.line.Line.{Line}
 use Rattle.wf_script.specs.Script.{PlainScript}
 use Rattle.wf_turn.specs.Play.{first_client, is_marked}
-use Rattle.wf_turn.specs.Playing.{Ends, FirstEnds, HoldsPaintable, IsCast, IsReady, TakesTurn, TakesTurnAt, Turned, TurnsTo, may_turn,
-    shown_by, with_frames}
-use Rattle.wf_turn.specs.Program.{Program, in_setup, place_of, taught, took, worked}
+use Rattle.wf_turn.specs.Playing.{ArePainted, Ends, FirstEnds, HoldsPaintable, IsCast, IsReady, TakesTurn, TakesTurnAt, Turned, TurnsTo,
+    all_painted, has_work, may_turn, shown_by, with_frames, with_paint}
+use Rattle.wf_turn.specs.Program.{Program, in_setup, is_work, place_of, taught, took, worked}
 use Rattle.wf_turn.specs.Quota.{all_left, left}
 use Rattle.wf_turn.specs.Ready.{AreOf, IsFit}
 use Rattle.wf_turn.specs.Serial.{IsFirst}
@@ -264,67 +264,106 @@ ready s client cast first within = of_program (slice_get s.programs client) refl
     of_program (Some p) found = record { fit = (of s client p cast first found).fit; more = stands s client p cast first found;
         alone = ends_running s client p cast first found }
 
-pub cast_after : (s : Show) (client : ℕ) (h : State) (placed : List Program) (t : Turn) (painted : Bool) → IsCast s
-    → IsFirst s.programs client → may_turn s.programs client ≡ true → client < 8 → TakesTurnAt client s.state h s.programs placed t painted
-    → IsCast (record { state = h; programs = handed_on s.programs placed; frames = [] })
-cast_after s client h placed t painted cast first allowed within takes =
-    of_program (slice_get s.programs client) refl (ready s client cast first within) takes
-  where
-    of_program : (o : Option Program) → slice_get s.programs client ≡ o → IsSomeAnd o (IsReady s.state)
-        → IfSome o (λ p. (q : Program) × ((placed ≡ set s.programs client q) × TakesTurn client s.state h p q t painted))
-        → IsCast (record { state = h; programs = handed_on s.programs placed; frames = [] })
-    of_program None none is took = absurd is
-    of_program (Some p) found is took =
-        subst (λ (ps : List Program). IsCast (record { state = h; programs = handed_on s.programs ps; frames = [] })) (sym took.1.0)
-        (cast_now s client p took.0 h t painted cast first allowed found took.1.1)
+-- what a turn of the first client leaves, before its Job is painted and then
+module _ (s : Show) (client : ℕ) (h : State) (placed : List Program) (t : Turn) (cast : IsCast s) (are : ArePainted s.programs)
+    (first : IsFirst s.programs client) (allowed : may_turn s.programs client ≡ true) (within : client < 8)
+    (takes : TakesTurnAt client s.state h s.programs placed t) where
+  abbrev pub show_left : Show
+  show_left = record { state = h; programs = handed_on s.programs placed; frames = [] }
 
-pub turned : (s : Show) (client : ℕ) (h : State) (placed : List Program) (t : Turn) (painted : Bool) → IsCast s → IsFirst s.programs client
-    → may_turn s.programs client ≡ true → client < 8 → TakesTurnAt client s.state h s.programs placed t painted
-    → (seen : Show) → s ≡ seen → (now : Show) → now ≡ record { state = h; programs = handed_on s.programs placed; frames = [] }
-        → Turned seen client now t painted
-turned s client h placed t painted cast first allowed within takes seen is now now_is =
-    subst (λ (v : Show). Turned v client now t painted) is
-        (subst (λ (v : Show). Turned s client v t painted) (sym now_is)
-        (of_program (slice_get s.programs client) refl (ready s client cast first within) takes))
-  where
-    of_program : (o : Option Program) → slice_get s.programs client ≡ o → IsSomeAnd o (IsReady s.state)
-        → IfSome o (λ p. (q : Program) × ((placed ≡ set s.programs client q) × TakesTurn client s.state h p q t painted))
-        → Turned s client (record { state = h; programs = handed_on s.programs placed; frames = [] }) t painted
-    of_program None none is took = absurd is
-    of_program (Some p) found is took =
-        let q = took.0 in
-        let one = took.1.1 in
-        let k = again s client p q h t painted cast first allowed found one in
-        subst (λ (ps : List Program). Turned s client (record { state = h; programs = handed_on s.programs ps; frames = [] }) t painted)
-            (sym took.1.0) (record {
-          next = turns s client p q h t painted cast first allowed found one;
-          client_is = client_is s client p q h t painted cast first allowed found one;
-          fewer = fewer s client p q h t painted cast first allowed found one;
-          paintable = paintable s client p q h t painted cast first allowed found one;
-          begun = begun s client p q h t painted cast first allowed found one;
-          ended = ended_shows s client p q h t painted cast first allowed found one;
-          again = λ runs. (k runs).0;
-          still = λ runs. (k runs).1;
-        })
+  -- the program whose turn it was
+  record Taken : Type 0 where
+    before : Program
+    now : Program
+    found : slice_get s.programs client ≡ Some before
+    placed_is : placed ≡ set s.programs client now
+    turn_is : TakesTurn client s.state h before (worked now) t (is_work now)
+    work : IsWork now
 
--- the programs after a turn are those of the script
-pub are_after : (s : Show) (client : ℕ) (h : State) (placed : List Program) (t : Turn) (painted : Bool) (cast : IsCast s)
-    → IsFirst s.programs client → client < 8 → TakesTurnAt client s.state h s.programs placed t painted → AreOf cast.script 0 placed
-are_after s client h placed t painted cast first within takes =
-    of_program (slice_get s.programs client) refl (ready s client cast first within) takes
-  where
-    of_program : (o : Option Program) → slice_get s.programs client ≡ o → IsSomeAnd o (IsReady s.state)
-        → IfSome o (λ p. (q : Program) × ((placed ≡ set s.programs client q) × TakesTurn client s.state h p q t painted))
-        → AreOf cast.script 0 placed
-    of_program None none is took = absurd is
-    of_program (Some p) found is took =
-        let q = took.0 in
-        let one = took.1.1 in
-        let reply = (step s.state client one.wanted.call (is_marked t)).1 in
-        subst (λ (ps : List Program). AreOf cast.script 0 ps) (sym took.1.0)
-        (are_set cast.script 0 s.programs client p q cast.programs found (ap (λ (x : Program). x.script) one.program ∙ same_script p reply)
-            (ap (λ (x : Program). x.client) one.program ∙ same_client p reply)
-        (subst IsFit (sym one.program) (fit_took p reply (of s client p cast first found).fit)))
+  taken : Taken
+  taken = of_program (slice_get s.programs client) refl (ready s client cast first within) takes
+    where
+      of_program : (o : Option Program) → slice_get s.programs client ≡ o → IsSomeAnd o (IsReady s.state)
+          → IfSome o (λ p. (q : Program)
+              × ((placed ≡ set s.programs client q) × TakesTurn client s.state h p (worked q) t (is_work q) × IsWork q)) → Taken
+      of_program None none is took = absurd is
+      of_program (Some p) found is took =
+          record { before = p; now = took.0; found = found; placed_is = took.1.0; turn_is = took.1.1; work = took.1.2 }
+
+  abbrev worked_programs : List Program
+  worked_programs = handed_on s.programs (set s.programs client (worked taken.now))
+
+  are_worked : ArePainted worked_programs
+  are_worked = handed_hold IsPainted s.programs client (worked taken.now) (worked_painted taken.now) are
+
+  here : slice_get show_left.programs client ≡ Some taken.now
+  here = ap (λ (ps : List Program). slice_get (handed_on s.programs ps) client) taken.placed_is
+      ∙ handed_here s.programs client taken.before taken.now taken.found
+
+  painted_is : with_paint client show_left.programs ≡ worked_programs
+  painted_is = ap (λ (ps : List Program). with_paint client (handed_on s.programs ps)) taken.placed_is
+      ∙ handed_worked s.programs client taken.before taken.now taken.found
+
+  pub are_after : ArePainted (with_paint client show_left.programs)
+  are_after = subst ArePainted (sym painted_is) are_worked
+
+  pub work_after : IfSome (slice_get show_left.programs client) IsWork
+  work_after = rw here taken.work
+
+  abbrev with_programs : List Program → Show
+  with_programs ps = record { state = h; programs = ps; frames = [] }
+
+  pub cast_after : IsCast (all_painted show_left)
+  cast_after =
+      let same : map worked show_left.programs ≡ worked_programs = sym (paint_all client show_left.programs)
+          ∙ ap (λ (ps : List Program). map worked ps) painted_is ∙ all_are worked_programs are_worked in
+      subst (λ (ps : List Program). IsCast (with_programs ps)) (sym same)
+      (cast_now s client taken.before (worked taken.now) h t (is_work taken.now) cast first allowed taken.found taken.turn_is)
+
+  pub turned : Turned s client (with_programs (with_paint client show_left.programs)) t (has_work client show_left.programs)
+  turned =
+      subst (λ (ps : List Program). Turned s client (with_programs ps) t (has_work client show_left.programs)) (sym painted_is)
+      (subst (λ (b : Bool). Turned s client (with_programs worked_programs) t b) (sym work_is) turned_worked)
+    where
+      work_is : has_work client show_left.programs ≡ is_work taken.now
+      work_is = rw here refl
+
+      turned_worked : Turned s client (with_programs worked_programs) t (is_work taken.now)
+      turned_worked =
+          let p = taken.before in
+          let q = worked taken.now in
+          let b = is_work taken.now in
+          let found = taken.found in
+          let one = taken.turn_is in
+          let k = again s client p q h t b cast first allowed found one in
+          record {
+            next = turns s client p q h t b cast first allowed found one;
+            client_is = client_is s client p q h t b cast first allowed found one;
+            fewer = fewer s client p q h t b cast first allowed found one;
+            paintable = paintable s client p q h t b cast first allowed found one;
+            begun = begun s client p q h t b cast first allowed found one;
+            ended = ended_shows s client p q h t b cast first allowed found one;
+            again = λ runs. (k runs).0;
+            still = λ runs. (k runs).1;
+          }
+
+  -- the programs are those of the script
+  pub of_script : AreOf cast.script 0 (map worked placed)
+  of_script =
+      let p = taken.before in
+      let one = taken.turn_is in
+      let reply = (step s.state client one.wanted.call (is_marked t)).1 in
+      let set_is : map worked placed ≡ set s.programs client (worked taken.now) = ap (λ (ps : List Program). map worked ps) taken.placed_is
+          ∙ worked_set s.programs client taken.now are in
+      subst (λ (ps : List Program). AreOf cast.script 0 ps) (sym set_is)
+      (are_set cast.script 0 s.programs client p (worked taken.now) cast.programs taken.found
+          (ap (λ (x : Program). x.script) one.program ∙ same_script p reply) (ap (λ (x : Program). x.client) one.program
+          ∙ same_client p reply)
+      (subst IsFit (sym one.program) (fit_took p reply (of s client p cast first taken.found).fit)))
+
+-- where nothing is to be painted, the programs are a cast as they stand
+pub cast_painted : (s : Show) → ArePainted s.programs → IsCast (all_painted s) → IsCast s
+cast_painted s are cast = subst (λ (ps : List Program). IsCast (record s { programs = ps })) (all_are s.programs are) cast
 
 -- what is handed on, by the clock and the other programs
 pub handed_is : (clock now : Program) (others behind : List Program) (was : Bool) (items : List Program) → was ≡ in_setup clock
@@ -348,15 +387,30 @@ other_ready clock others client h d apart is can =
     of_program None same can = absurd can
     of_program (Some p) same can = subst (IsReady h) same can
 
-pub other_turned : (clock : Program) (others : List Program) (client : ℕ) (h left_state : State) (d q : Program) (t : Turn) (painted : Bool)
-    → (client ≡ 0 → ⊥) → d ≡ get_or others (client - 1) d → TakesTurn client h left_state d q t painted
-    → TakesTurnAt client h left_state (clock ∷ others) (clock ∷ set others (client - 1) q) t painted
-other_turned clock others client h left_state d q t painted apart is takes =
+pub other_turned : (clock : Program) (others : List Program) (client : ℕ) (h left_state : State) (d q : Program) (t : Turn)
+    → (client ≡ 0 → ⊥) → d ≡ get_or others (client - 1) d → TakesTurn client h left_state d (worked q) t (is_work q) → IsWork q
+    → TakesTurnAt client h left_state (clock ∷ others) (clock ∷ set others (client - 1) q) t
+other_turned clock others client h left_state d q t apart is takes work =
     of_program (slice_get (clock ∷ others) client) (other_is clock others client d apart is (slice_get (clock ∷ others) client) refl)
   where
     of_program : (o : Option Program) → IfSome o (λ p. p ≡ d)
         → IfSome o (λ p. (r : Program) × ((clock ∷ set others (client - 1) q ≡ set (clock ∷ others) client r)
-        × TakesTurn client h left_state p r t painted))
+        × TakesTurn client h left_state p (worked r) t (is_work r) × IsWork r))
     of_program None same = tt
     of_program (Some p) same =
-        (q, (other_set clock others client q apart, subst (λ (x : Program). TakesTurn client h left_state x q t painted) (sym same) takes))
+        (q, (other_set clock others client q apart,
+            subst (λ (x : Program). TakesTurn client h left_state x (worked q) t (is_work q)) (sym same) takes, work))
+
+-- the painting of the Job of another client than the clock
+pub other_painted : (clock : Program) (others : List Program) (client : ℕ) (d : Program) → (client ≡ 0 → ⊥)
+    → d ≡ get_or others (client - 1) d → IsSome (slice_get (clock ∷ others) client)
+    → (clock ∷ set others (client - 1) (worked d) ≡ with_paint client (clock ∷ others)) × (is_work d ≡ has_work client (clock ∷ others))
+other_painted clock others client d apart is some = of_program (slice_get (clock ∷ others) client) refl some
+  where
+    of_program : (o : Option Program) → slice_get (clock ∷ others) client ≡ o → IsSome o
+        → (clock ∷ set others (client - 1) (worked d) ≡ with_paint client (clock ∷ others)) × (is_work d ≡ has_work client (clock ∷ others))
+    of_program None none no = absurd cc
+    of_program (Some p) found yes =
+        let same : p ≡ d = other_is clock others client d apart is (Some p) found in
+        (other_set clock others client (worked d) apart ∙ ap (λ (x : Program). set (clock ∷ others) client (worked x)) (sym same)
+            ∙ rw found refl, ap is_work (sym same) ∙ rw found refl)

@@ -13,8 +13,3 @@ script_at script [] i d within all = absurd (omega (arith, within))
 script_at script (p ∷ ps) zero d within all = All-head (λ (q : Program). q.script ≡ script) p ps all
 script_at script (p ∷ ps) (suc i) d within all = script_at script ps i d (omega (arith, within))
     (All-tail (λ (q : Program). q.script ≡ script) p ps all)
-
-pub all_of_one : (script own : PlainScript) (k : ℕ) (ps : List Program) → own ≡ script → AreOf script k ps → All (λ p. p.script ≡ own) ps
-all_of_one script own k [] same are = All-nil (λ (q : Program). q.script ≡ own)
-all_of_one script own k (p ∷ ps) same are = All-cons (λ (q : Program). q.script ≡ own) p ps (are.0 ∙ sym same)
-    (all_of_one script own (k + 1) ps same are.3)

@@ -7,8 +7,10 @@ ghost use Rattle.wf_io.specs.Bytes.{Puts, PutsPart};
 ghost use Rattle.wf_io.specs.Causes.{HasCause};
 ghost use Rattle.wf_machine.specs.Object.{IsPaintable};
 ghost use Rattle.wf_turn.specs.Play.{earlier, first_client};
-ghost use Rattle.wf_turn.specs.Playing.{HoldsPaintable, IsReady, StandsOwn, TakesTurnAt, Turned, may_turn, shown_by};
+ghost use Rattle.wf_turn.specs.Playing.{ArePainted, HoldsPaintable, IsReady, StandsOwn, TakesTurnAt, Turned, has_work, may_turn,
+    shown_by, with_paint};
 ghost use Rattle.wf_turn.specs.Program.{in_setup, place_of, taught};
+ghost use Rattle.wf_turn.specs.Ready.{IsWork};
 ghost use Rattle.wf_turn.specs.Serial.{IsFirst};
 ghost use Rattle.wf_turn.specs.Turns.{opening_show, shown};
 
@@ -108,10 +110,10 @@ fn take_turn_of(
     clock: &mut Program,
     others: &mut Vec<Program>,
     client: usize,
-) -> (Turn, bool)
+) -> Turn
     requires within { client < 8 }
     requires ready { IsSomeAnd (slice_get (clock.old ∷ others.old.items) client) (IsReady machine.old) }
-    ensures { TakesTurnAt client machine.old machine.new (clock.old ∷ others.old.items) (clock.new ∷ others.new.items) result.0 result.1 }
+    ensures { TakesTurnAt client machine.old machine.new (clock.old ∷ others.old.items) (clock.new ∷ others.new.items) result }
 {
     if client == 0 {
         take_turn(machine, clock, 0)
@@ -140,6 +142,7 @@ impl<'a> Show<'a> {
 
     /// The client of the first line in the file that is not through, or none where all are.
     pub(crate) fn first(&self) -> Option<usize>
+        requires painted { ArePainted self.now.programs }
         ensures first { option_map (λ c. c.0) (first_client (map place_of self.now.programs)) ≡ result }
         ensures allowed { IfSome result (λ c. IsTrue (may_turn self.now.programs c)) }
         ensures within { IfSome result (λ c. c < 8) }
@@ -150,23 +153,41 @@ impl<'a> Show<'a> {
         }
     }
 
-    /// The next turn, of the client of the first line that is not through. It gives the entry, and whether a Job was
-    /// painted.
-    pub(crate) fn turn(&mut self, client: usize) -> (Turn, bool)
+    /// The next turn, of the client of the first line that is not through. It gives the entry; a Job that comes is left to
+    /// paint.
+    pub(crate) fn turn(&mut self, client: usize) -> Turn
+        requires painted { ArePainted self.old.programs }
         requires first { IsFirst self.old.programs client }
         requires allowed { IsTrue (may_turn self.old.programs client) }
         requires within { client < 8 }
-        ensures { Turned self.old client self.new result.0 result.1 }
+        ensures turned { Turned self.old client (record self.new { programs = with_paint client self.new.programs }) result
+            (has_work client self.new.programs) }
+        ensures painted { ArePainted (with_paint client self.new.programs) }
+        ensures work { IfSome (slice_get self.new.programs client) IsWork }
     {
         let was_setup = self.clock.in_setup();
-        let (turn, painted) = take_turn_of(
+        let turn = take_turn_of(
             &mut self.machine,
             &mut self.clock,
             &mut self.others,
             client,
         );
         hand_on(was_setup, &self.clock, &mut self.others);
-        (turn, painted)
+        turn
+    }
+
+    /// Paints the Job that a client's program holds and that is not painted yet, and answers whether there was one.
+    pub(crate) fn paint(&mut self, client: usize) -> bool
+        requires within { client < 8 }
+        requires work { IfSome (slice_get self.old.programs client) IsWork }
+        ensures painted { self.new ≡ record self.old { programs = with_paint client self.old.programs } }
+        ensures was { result ≡ has_work client self.old.programs }
+    {
+        if client == 0 {
+            self.clock.paint()
+        } else {
+            self.others[client - 1].paint()
+        }
     }
 
     /// The program of a client.

@@ -15,6 +15,7 @@ loop-client-preserved c =
       many = omega (arith, was.many, one.many);
       few = omega (arith, was.few, one.fewer, one.most);
       later = omega (arith, was.later, one.cause.later);
+      painted = one.painted;
     }
 
 pub returns-in-Err-clause-part : goal.returns-in-Err-clause-part

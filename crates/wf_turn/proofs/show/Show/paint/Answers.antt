@@ -1,0 +1,1 @@
+use Rattle.wf_turn.proofs.show.Show.paint.Goals as goal
