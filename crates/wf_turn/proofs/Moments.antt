@@ -1,7 +1,6 @@
 -- Each frame of an order is what a port shows at a moment of it.
-use Rattle.std.proofs.Common.{◌≡◌, ℕ, Bool, true, false, cond, List, [], ◌++◌, Option, Some, None, refl, sym, subst, get_or, Ok, ap}
+use Rattle.std.proofs.Common.{◌≡◌, ℕ, Bool, false, List, [], ◌++◌, Option, Some, None, refl, sym, subst, get_or, Ok, ap}
 use Rattle.std.specs.Prelude.{pos, All}
-use Rattle.std.specs.Option.{option_map}
 use Rattle.std.proofs.lemmas.List.Elements.{All-append, All-cons, All-nil}
 use Rattle.wf_calls.specs.declared.call.Call.{Call}
 use Rattle.wf_calls.specs.declared.call.Call.TheVariants as call
@@ -25,6 +24,7 @@ use Rattle.wf_turn.specs.Turns.{Show, frames_of, shown, turn, program_at}
 use Rattle.wf_turn.proofs.Begins.{nothing_shown}
 use Rattle.wf_turn.proofs.Cases.{turn_case, IsTick, asks_begin}
 use Rattle.wf_turn.proofs.Holding.{Holds, AllHold, handed_hold, opening_hold}
+use Rattle.wf_turn.proofs.Works.{worked_painted}
 use Rattle.wf_turn.proofs.Painting.{canvas_painted, frame_painted, IsPainted, done_painted, on_painted}
 use Rattle.wf_turn.proofs.Replays.{Step, at_step, order_keeps, taken_turn, turn_of}
 use Rattle.wf_words.specs.Each.{each_at}

@@ -11,6 +11,9 @@ use Rattle.wf_turn.specs.declared.stage.Stage.TheVariants as stage
 use Rattle.wf_turn.specs.Program.{Program, lines_from, program}
 use Rattle.wf_turn.specs.Ready.{AreOf}
 use Rattle.wf_turn.specs.Turns.{opening_show}
+use Rattle.wf_turn.specs.Playing.{ArePainted}
+use Rattle.wf_turn.proofs.Holding.{opening_hold}
+use Rattle.wf_turn.proofs.Painting.{IsPainted}
 use Rattle.wf_turn.proofs.Fitting.{fit_before}
 
 few_ports : (script : PlainScript) → may_declare script.ports ≡ true → length script.ports.modes.items ≤ 4
@@ -36,6 +39,10 @@ pub opening_cast : (script : PlainScript) → may_declare script.ports ≡ true 
 opening_cast script declared =
     record { script = script; programs = are_opening script (few_ports script declared) 0 8;
         eight = length-map (range_with_len 0 8) (program script); alone = tt }
+
+-- no program has a Job
+pub opening_painted : (script : PlainScript) → ArePainted (opening_show script).programs
+opening_painted script = opening_hold IsPainted refl script 0 8
 
 -- one client more
 pub range_more : (n : ℕ) → range_with_len 1 (n + 1) ≡ range_with_len 1 n ++ (n + 1) ∷ []

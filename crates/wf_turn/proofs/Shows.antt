@@ -17,7 +17,12 @@ use Rattle.wf_turn.specs.Playing.{ArePainted, Ends, FirstEnds, HoldsPaintable, I
     all_painted, has_work, may_turn, shown_by, with_frames, with_paint}
 use Rattle.wf_turn.specs.Program.{Program, in_setup, is_work, place_of, taught, took, worked}
 use Rattle.wf_turn.specs.Quota.{all_left, left}
+use Rattle.std.proofs.lemmas.List.{length-map}
 use Rattle.wf_turn.specs.Ready.{AreOf, IsFit}
+use Rattle.wf_turn.specs.Ready.{IsWork}
+use Rattle.wf_turn.proofs.Holding.{handed_hold}
+use Rattle.wf_turn.proofs.Painting.{IsPainted}
+use Rattle.wf_turn.proofs.Works.{all_are, cast_painted, handed_here, handed_worked, paint_all, worked_painted, worked_set}
 use Rattle.wf_turn.specs.Serial.{IsFirst}
 use Rattle.wf_turn.specs.Turns.{Show, answered, frames_of, handed_on, is_setting_up, turn}
 use Rattle.wf_turn.proofs.Begins.{Leaves, ended, turn_leaves}
@@ -264,9 +269,28 @@ ready s client cast first within = of_program (slice_get s.programs client) refl
     of_program (Some p) found = record { fit = (of s client p cast first found).fit; more = stands s client p cast first found;
         alone = ends_running s client p cast first found }
 
--- what a turn of the first client leaves, before its Job is painted and then
-module _ (s : Show) (client : ℕ) (h : State) (placed : List Program) (t : Turn) (cast : IsCast s) (are : ArePainted s.programs)
-    (first : IsFirst s.programs client) (allowed : may_turn s.programs client ≡ true) (within : client < 8)
+-- a show in which it is a client's turn
+pub record HasTurn (s : Show) (client : ℕ) : Type 0 where
+  pub are : ArePainted s.programs
+  pub cast : IsCast s
+  pub first : IsFirst s.programs client
+  pub allowed : may_turn s.programs client ≡ true
+  pub within : client < 8
+
+pub has_turn : (s seen : Show) (client : ℕ) → s ≡ seen → IsCast (all_painted s) → ArePainted seen.programs → IsFirst seen.programs client
+    → may_turn seen.programs client ≡ true → client < 8 → HasTurn s client
+has_turn s seen client is cast are first allowed within =
+    let here : ArePainted s.programs = subst (λ (v : Show). ArePainted v.programs) (sym is) are in
+    record {
+      are = here;
+      cast = cast_painted s here cast;
+      first = subst (λ (v : Show). IsFirst v.programs client) (sym is) first;
+      allowed = subst (λ (v : Show). may_turn v.programs client ≡ true) (sym is) allowed;
+      within = within;
+    }
+
+-- what such a turn leaves, before its Job is painted and then
+module _ (s : Show) (client : ℕ) (h : State) (placed : List Program) (t : Turn) (has : HasTurn s client)
     (takes : TakesTurnAt client s.state h s.programs placed t) where
   abbrev pub show_left : Show
   show_left = record { state = h; programs = handed_on s.programs placed; frames = [] }
@@ -281,7 +305,7 @@ module _ (s : Show) (client : ℕ) (h : State) (placed : List Program) (t : Turn
     work : IsWork now
 
   taken : Taken
-  taken = of_program (slice_get s.programs client) refl (ready s client cast first within) takes
+  taken = of_program (slice_get s.programs client) refl (ready s client has.cast has.first has.within) takes
     where
       of_program : (o : Option Program) → slice_get s.programs client ≡ o → IsSomeAnd o (IsReady s.state)
           → IfSome o (λ p. (q : Program)
@@ -294,7 +318,7 @@ module _ (s : Show) (client : ℕ) (h : State) (placed : List Program) (t : Turn
   worked_programs = handed_on s.programs (set s.programs client (worked taken.now))
 
   are_worked : ArePainted worked_programs
-  are_worked = handed_hold IsPainted s.programs client (worked taken.now) (worked_painted taken.now) are
+  are_worked = handed_hold IsPainted s.programs client (worked taken.now) (worked_painted taken.now) has.are
 
   here : slice_get show_left.programs client ≡ Some taken.now
   here = ap (λ (ps : List Program). slice_get (handed_on s.programs ps) client) taken.placed_is
@@ -318,7 +342,7 @@ module _ (s : Show) (client : ℕ) (h : State) (placed : List Program) (t : Turn
       let same : map worked show_left.programs ≡ worked_programs = sym (paint_all client show_left.programs)
           ∙ ap (λ (ps : List Program). map worked ps) painted_is ∙ all_are worked_programs are_worked in
       subst (λ (ps : List Program). IsCast (with_programs ps)) (sym same)
-      (cast_now s client taken.before (worked taken.now) h t (is_work taken.now) cast first allowed taken.found taken.turn_is)
+      (cast_now s client taken.before (worked taken.now) h t (is_work taken.now) has.cast has.first has.allowed taken.found taken.turn_is)
 
   pub turned : Turned s client (with_programs (with_paint client show_left.programs)) t (has_work client show_left.programs)
   turned =
@@ -335,35 +359,31 @@ module _ (s : Show) (client : ℕ) (h : State) (placed : List Program) (t : Turn
           let b = is_work taken.now in
           let found = taken.found in
           let one = taken.turn_is in
-          let k = again s client p q h t b cast first allowed found one in
+          let k = again s client p q h t b has.cast has.first has.allowed found one in
           record {
-            next = turns s client p q h t b cast first allowed found one;
-            client_is = client_is s client p q h t b cast first allowed found one;
-            fewer = fewer s client p q h t b cast first allowed found one;
-            paintable = paintable s client p q h t b cast first allowed found one;
-            begun = begun s client p q h t b cast first allowed found one;
-            ended = ended_shows s client p q h t b cast first allowed found one;
+            next = turns s client p q h t b has.cast has.first has.allowed found one;
+            client_is = client_is s client p q h t b has.cast has.first has.allowed found one;
+            fewer = fewer s client p q h t b has.cast has.first has.allowed found one;
+            paintable = paintable s client p q h t b has.cast has.first has.allowed found one;
+            begun = begun s client p q h t b has.cast has.first has.allowed found one;
+            ended = ended_shows s client p q h t b has.cast has.first has.allowed found one;
             again = λ runs. (k runs).0;
             still = λ runs. (k runs).1;
           }
 
   -- the programs are those of the script
-  pub of_script : AreOf cast.script 0 (map worked placed)
+  pub of_script : AreOf has.cast.script 0 (map worked placed)
   of_script =
       let p = taken.before in
       let one = taken.turn_is in
       let reply = (step s.state client one.wanted.call (is_marked t)).1 in
       let set_is : map worked placed ≡ set s.programs client (worked taken.now) = ap (λ (ps : List Program). map worked ps) taken.placed_is
-          ∙ worked_set s.programs client taken.now are in
-      subst (λ (ps : List Program). AreOf cast.script 0 ps) (sym set_is)
-      (are_set cast.script 0 s.programs client p (worked taken.now) cast.programs taken.found
+          ∙ worked_set s.programs client taken.now has.are in
+      subst (λ (ps : List Program). AreOf has.cast.script 0 ps) (sym set_is)
+      (are_set has.cast.script 0 s.programs client p (worked taken.now) has.cast.programs taken.found
           (ap (λ (x : Program). x.script) one.program ∙ same_script p reply) (ap (λ (x : Program). x.client) one.program
           ∙ same_client p reply)
-      (subst IsFit (sym one.program) (fit_took p reply (of s client p cast first taken.found).fit)))
-
--- where nothing is to be painted, the programs are a cast as they stand
-pub cast_painted : (s : Show) → ArePainted s.programs → IsCast (all_painted s) → IsCast s
-cast_painted s are cast = subst (λ (ps : List Program). IsCast (record s { programs = ps })) (all_are s.programs are) cast
+      (subst IsFit (sym one.program) (fit_took p reply (of s client p has.cast has.first taken.found).fit)))
 
 -- what is handed on, by the clock and the other programs
 pub handed_is : (clock now : Program) (others behind : List Program) (was : Bool) (items : List Program) → was ≡ in_setup clock
@@ -401,6 +421,20 @@ other_turned clock others client h left_state d q t apart is takes work =
         (q, (other_set clock others client q apart,
             subst (λ (x : Program). TakesTurn client h left_state x (worked q) t (is_work q)) (sym same) takes, work))
 
+-- there are eight programs
+pub eight_at : (s : Show) → IsCast (all_painted s) → (client : ℕ) → client < 8 → IsSome (slice_get s.programs client)
+eight_at s cast client within = of_program (slice_get s.programs client) refl
+  where
+    past : (ps : List Program) (i : ℕ) → slice_get ps i ≡ None → length ps ≤ i
+    past [] i none = omega arith
+    past (q ∷ qs) zero none = absurd cc
+    past (q ∷ qs) (suc i) none = (let rest = past qs i none in omega (arith, rest))
+
+    of_program : (o : Option Program) → slice_get s.programs client ≡ o → IsSome (slice_get s.programs client)
+    of_program None none =
+        absurd (omega (arith, past s.programs client none, cast.eight, length-map s.programs worked, within))
+    of_program (Some p) found = rw found refl
+
 -- the painting of the Job of another client than the clock
 pub other_painted : (clock : Program) (others : List Program) (client : ℕ) (d : Program) → (client ≡ 0 → ⊥)
     → d ≡ get_or others (client - 1) d → IsSome (slice_get (clock ∷ others) client)
@@ -409,8 +443,8 @@ other_painted clock others client d apart is some = of_program (slice_get (clock
   where
     of_program : (o : Option Program) → slice_get (clock ∷ others) client ≡ o → IsSome o
         → (clock ∷ set others (client - 1) (worked d) ≡ with_paint client (clock ∷ others)) × (is_work d ≡ has_work client (clock ∷ others))
-    of_program None none no = absurd cc
-    of_program (Some p) found yes =
+    of_program None none is_there = absurd cc
+    of_program (Some p) found is_there =
         let same : p ≡ d = other_is clock others client d apart is (Some p) found in
         (other_set clock others client (worked d) apart ∙ ap (λ (x : Program). set (clock ∷ others) client (worked x)) (sym same)
             ∙ rw found refl, ap is_work (sym same) ∙ rw found refl)

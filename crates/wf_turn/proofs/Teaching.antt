@@ -1,10 +1,9 @@
 -- A function over the elements of a list, one by one.
-use Rattle.std.proofs.Common.{◌≡◌, ◌∙◌, ℕ, zero, suc, ◌+◌, ◌<◌, List, [], ◌∷◌, length, get_or, sym, arith}
+use Rattle.std.proofs.Common.{◌≡◌, ℕ, zero, suc, ◌<◌, List, [], ◌∷◌, length, get_or, arith}
 use Rattle.std.specs.Prelude.{All}
-use Rattle.std.proofs.lemmas.List.Elements.{All-cons, All-head, All-nil, All-tail}
+use Rattle.std.proofs.lemmas.List.Elements.{All-head, All-tail}
 use Rattle.wf_script.specs.Script.{PlainScript}
 use Rattle.wf_turn.specs.Program.{Program}
-use Rattle.wf_turn.specs.Ready.{AreOf}
 
 -- of programs of one script each is
 pub script_at : (script : PlainScript) (ps : List Program) (i : ℕ) (d : Program) → i < length ps → All (λ p. p.script ≡ script) ps

@@ -6,7 +6,6 @@ use Rattle.wf_calls.specs.declared.call.Job.{Job}
 use Rattle.wf_calls.specs.declared.reply.Reply.{Reply}
 use Rattle.wf_calls.specs.declared.code.Code.{Code}
 use Rattle.wf_calls.specs.declared.code.Code.TheVariants as code
-use Rattle.wf_calls.specs.declared.order.Turn.{Turn}
 use Rattle.wf_calls.specs.Codes.{code_number, entry, is_out_of_memory}
 use Rattle.wf_film.specs.Film.{Frame}
 use Rattle.wf_machine.specs.Object.{IsPaintable, MayAnswer, after}

@@ -1,13 +1,13 @@
 -- The Job that a turn leaves, before it is painted and then.
-use Rattle.std.proofs.Common.{◌≡◌, ℕ, zero, suc, Bool, true, false, ◌&&◌, not, cond, List, [], ◌∷◌, map, set, slice_get, option_map,
-    Option, Some, None, refl, sym, ap, ◌∙◌}
+use Rattle.std.proofs.Common.{◌≡◌, ℕ, ◌+◌, zero, suc, Bool, true, false, ◌&&◌, not, cond, List, [], ◌∷◌, map, set, slice_get, option_map,
+    Option, Some, None, refl, sym, ap, subst, ◌∙◌}
 use Rattle.std.specs.List.{All}
 use Rattle.std.proofs.lemmas.List.Elements.{All-cons, All-nil}
 use Rattle.wf_script.specs.Script.{PlainScript}
-use Rattle.wf_turn.specs.Playing.{ArePainted, has_work, with_paint}
-use Rattle.wf_turn.specs.Program.{Program, in_setup, is_work, painted_job, taught, worked}
+use Rattle.wf_turn.specs.Playing.{ArePainted, IsCast, all_painted, with_paint}
+use Rattle.wf_turn.specs.Program.{Program, in_setup, painted_job, taught, worked}
 use Rattle.wf_turn.specs.Ready.{AreOf}
-use Rattle.wf_turn.specs.Turns.{all_taught, handed_on, is_setting_up}
+use Rattle.wf_turn.specs.Turns.{Show, handed_on}
 use Rattle.wf_words.specs.Places.{get_set}
 use Rattle.wf_turn.proofs.Casts.{not_handed}
 
@@ -109,3 +109,10 @@ pub all_of_one : (script own : PlainScript) (k : ℕ) (ps : List Program) → ow
 all_of_one script own k [] same are = All-nil (λ (q : Program). q.script ≡ own)
 all_of_one script own k (p ∷ ps) same are = All-cons (λ (q : Program). q.script ≡ own) p ps (sym (worked_script p) ∙ are.0 ∙ sym same)
     (all_of_one script own (k + 1) ps same are.3)
+
+-- where nothing is to be painted, the programs are a cast as they stand
+pub cast_painted : (s : Show) → ArePainted s.programs → IsCast (all_painted s) → IsCast s
+cast_painted s are cast = subst (λ (ps : List Program). IsCast (record s { programs = ps })) (all_are s.programs are) cast
+
+pub cast_still : (s : Show) → ArePainted s.programs → IsCast s → IsCast (all_painted s)
+cast_still s are cast = subst (λ (ps : List Program). IsCast (record s { programs = ps })) (sym (all_are s.programs are)) cast

@@ -1,8 +1,8 @@
-use Rattle.std.proofs.Common.{◌≡◌, ◌∙◌, ◌×◌, Some, sym, ap, subst}
+use Rattle.std.proofs.Common.{◌∙◌, sym, ap, subst}
 use Rattle.wf_calls.specs.Codes.{entry}
 use Rattle.wf_calls.specs.declared.order.Turn.{Turn}
 use Rattle.wf_turn.specs.Playing.{TakesTurn}
-use Rattle.wf_turn.specs.Program.{Program, is_work, next, took, worked}
+use Rattle.wf_turn.specs.Program.{Program, is_work, took, worked}
 use Rattle.wf_turn.specs.Ready.{IsWork}
 use Rattle.wf_turn.proofs.Turnings.{turn_taken}
 use Rattle.wf_turn.proofs.turning.take_turn.Goals as goal

@@ -1,3 +1,6 @@
+use Rattle.wf_turn.specs.Playing.{all_painted}
+use Rattle.wf_turn.proofs.Works.{cast_still}
+use Rattle.wf_turn.proofs.Openings.{opening_painted}
 use Rattle.std.proofs.Common.{◌≡◌, ◌∙◌, ◌++◌, ◌∷◌, [], ◌+◌, ap, sym, subst, List, ℕ, map, arith}
 use Rattle.std.specs.List.{range_with_len}
 use Rattle.std.proofs.lemmas.List.{map-append}
@@ -40,8 +43,8 @@ module _ (c : goal.After-loop-behind) where
           ∙ ap (λ (n : ℕ). map made (range_with_len 1 n)) seven)
 
 pub invariant_of-result : goal.invariant_of-result
-invariant_of-result c = subst IsCast (sym (show_is c))
-    (opening_cast c.args.script.now (subst (λ (ports : Ports). IsTrue (may_declare ports)) c.ports.ensures.ports c.ports.ensures.declared))
+invariant_of-result c = subst (λ (v : Show). IsCast (all_painted v)) (sym (show_is c))
+    (cast_still (opening_show c.args.script.now) (opening_painted c.args.script.now) (opening_cast c.args.script.now (subst (λ (ports : Ports). IsTrue (may_declare ports)) c.ports.ensures.ports c.ports.ensures.declared)))
 
 pub returns : goal.returns
 returns c = show_is c
