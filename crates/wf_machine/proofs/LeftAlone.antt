@@ -1,5 +1,6 @@
 -- Every call but the end of a frame leaves the running frame and its images alone.
-use Rattle.std.proofs.Common.{◌≡◌, ◌∙◌, ℕ, ◌+◌, Bool, true, false, cond, ◌==◌, List, [], ◌∷◌, ◌++◌, map, filter, flat_map, Option, Some, refl, sym, ap, subst, inl, inr}
+use Rattle.std.proofs.Common.{◌≡◌, ◌∙◌, ℕ, ◌+◌, Bool, true, false, cond, ◌==◌, List, [], ◌∷◌, ◌++◌, map, filter, flat_map, Option, Some,
+    refl, sym, ap, subst, inl, inr}
 use Rattle.std.specs.Option.{IsSomeAnd, is_some}
 use Rattle.std.proofs.lemmas.Bool.{eqb-true}
 use Rattle.std.proofs.lemmas.List.Folds.{list_any-append}
@@ -42,7 +43,8 @@ module _ (n : ℕ) (s : KeptStream) where
       → HasRead s (stream_at n (map g ss))
   mapped_read g keeps [] found = absurd cc
   mapped_read g keeps (t ∷ ss) found =
-      elim (t.number == n) as (λ b. (t.number == n) ≡ b → cond b (Some t) (stream_at n ss) ≡ Some s → HasRead s (stream_at n (map g (t ∷ ss)))) [
+      elim (t.number == n) as (λ b. (t.number == n) ≡ b → cond b (Some t) (stream_at n ss) ≡ Some s
+          → HasRead s (stream_at n (map g (t ∷ ss)))) [
         | true ↦ λ here same.
             let is : t ≡ s = cc in
             let at : ((g t).number == n) ≡ true = ap (λ (k : ℕ). k == n) (keeps.number t) ∙ here in
@@ -83,7 +85,8 @@ module _ (n : ℕ) (s : KeptStream) where
 unnamed_read : (handle : ℕ) → KeepsRead (unnamed handle)
 unnamed_read handle =
     record {
-      number = λ t. elim (t.handle == handle) as (λ b. (cond b (record t { handle = 0 }) t).number ≡ t.number) [ true ↦ refl | false ↦ refl ];
+      number = λ t. elim (t.handle == handle) as (λ b. (cond b (record t { handle = 0 }) t).number
+          ≡ t.number) [ true ↦ refl | false ↦ refl ];
       read = λ t. elim (t.handle == handle) as (λ b. (cond b (record t { handle = 0 }) t).buffers.read ≡ t.buffers.read) [
         | true ↦ refl
         | false ↦ refl
@@ -143,7 +146,8 @@ module _ (h : State) (c : Call) (x : State × Reply) (f : Running) (runs : h.fra
 
     read_left : Effect h c x → Left x.0.streams
     read_left (refuses honest left) =
-        by_streams h.streams (ap (λ (t : State). t.streams) left ∙ (offered_leaves (register_of c) x.1.code).1) (same_read n s h.streams found)
+        by_streams h.streams (ap (λ (t : State). t.streams) left ∙ (offered_leaves (register_of c) x.1.code).1)
+            (same_read n s h.streams found)
     read_left (composes made core value is) =
         by_streams h.streams (ap (λ (y : State × Reply). y.0.streams) is) (same_read n s h.streams found)
     read_left (makes new is) =

@@ -13,7 +13,8 @@ use Rattle.wf_film.specs.Film.{Frame, frame_bytes, frame_of}
 use Rattle.wf_io.specs.Bytes.{Puts, PutsPart}
 use Rattle.wf_io.specs.Parts.{puts_both, stops_late}
 use Rattle.wf_model.specs.State.{Running}
-use Rattle.wf_turn.specs.Playing.{ArePainted, PlaysTurn, PlaysTurns, StopsTurn, StopsTurns, Turned, TurnsTo, frames_if, job_frames, shown_by,
+use Rattle.wf_turn.specs.Playing.{ArePainted, PlaysTurn, PlaysTurns, StopsTurn, StopsTurns, Turned, TurnsTo, frames_if, job_frames,
+    shown_by,
     with_frames}
 use Rattle.wf_turn.specs.Program.{Program}
 use Rattle.wf_turn.specs.Quota.{all_left}

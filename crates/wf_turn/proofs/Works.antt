@@ -16,7 +16,8 @@ abbrev pub worked_if : Bool → Program → Program
 worked_if b p = cond b (record p { job = option_map painted_job p.job; unpainted = false }) p
 
 pub worked_painted : (p : Program) → (worked p).unpainted ≡ false
-worked_painted p = elim p.unpainted as (λ b. p.unpainted ≡ b → (worked_if b p).unpainted ≡ false) [ true ↦ λ was. refl | false ↦ λ was. was ] refl
+worked_painted p = elim p.unpainted as (λ b. p.unpainted ≡ b
+    → (worked_if b p).unpainted ≡ false) [ true ↦ λ was. refl | false ↦ λ was. was ] refl
 
 pub worked_none : (p : Program) → p.unpainted ≡ false → worked p ≡ p
 worked_none p painted = rw painted refl
@@ -30,7 +31,8 @@ worked_client p = elim p.unpainted as (λ b. (worked_if b p).client ≡ p.client
 -- where nothing is to be painted, painting changes nothing
 pub all_are : (ps : List Program) → ArePainted ps → map worked ps ≡ ps
 all_are [] painted = refl
-all_are (p ∷ ps) painted = ap (λ (q : Program). q ∷ map worked ps) (worked_none p painted.0) ∙ ap (λ (qs : List Program). p ∷ qs) (all_are ps painted.1)
+all_are (p ∷ ps) painted = ap (λ (q : Program). q ∷ map worked ps) (worked_none p painted.0)
+    ∙ ap (λ (qs : List Program). p ∷ qs) (all_are ps painted.1)
 
 -- one program that is not painted among painted ones
 pub worked_set : (ps : List Program) (i : ℕ) (q : Program) → ArePainted ps → map worked (set ps i q) ≡ set ps i (worked q)
@@ -68,7 +70,8 @@ handed_here (clock ∷ others) zero p q found =
     elim (in_setup clock && not (in_setup q))
         as (λ b. slice_get (cond b (q ∷ map (taught q) others) (q ∷ others)) 0 ≡ Some q) [ true ↦ refl | false ↦ refl ]
 handed_here (clock ∷ others) (suc k) p q found =
-    ap (λ (ps : List Program). slice_get ps (suc k)) (not_handed (clock ∷ others) (clock ∷ set others k q) refl) ∙ get_set others k p q found
+    ap (λ (ps : List Program). slice_get ps (suc k)) (not_handed (clock ∷ others) (clock ∷ set others k q) refl)
+        ∙ get_set others k p q found
 
 -- names that are handed on before a Job is painted are the same behind it
 pub handed_worked : (ps : List Program) (client : ℕ) (p q : Program) → slice_get ps client ≡ Some p
@@ -80,7 +83,8 @@ handed_worked ps client p q found = rw (handed_here ps client p q found) (of_lis
     of_list [] client found = absurd cc
     of_list (clock ∷ others) zero found =
         elim q.unpainted
-            as (λ b. set (handed_on (clock ∷ others) (q ∷ others)) 0 (worked_if b q) ≡ handed_on (clock ∷ others) (worked_if b q ∷ others)) [
+            as (λ b. set (handed_on (clock ∷ others) (q ∷ others)) 0 (worked_if b q)
+                ≡ handed_on (clock ∷ others) (worked_if b q ∷ others)) [
           | true ↦ of_setup (worked_if true q) refl (λ x. refl)
           | false ↦ of_setup q refl (λ x. refl)
         ]

@@ -44,7 +44,9 @@ module _ (c : goal.After-loop-behind) where
 
 pub invariant_of-result : goal.invariant_of-result
 invariant_of-result c = subst (λ (v : Show). IsCast (all_painted v)) (sym (show_is c))
-    (cast_still (opening_show c.args.script.now) (opening_painted c.args.script.now) (opening_cast c.args.script.now (subst (λ (ports : Ports). IsTrue (may_declare ports)) c.ports.ensures.ports c.ports.ensures.declared)))
+    (cast_still (opening_show c.args.script.now) (opening_painted c.args.script.now)
+        (opening_cast c.args.script.now (subst (λ (ports : Ports). IsTrue (may_declare ports)) c.ports.ensures.ports
+        c.ports.ensures.declared)))
 
 pub returns : goal.returns
 returns c = show_is c
