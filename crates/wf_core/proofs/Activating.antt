@@ -6,12 +6,12 @@ use Rattle.wf_model.specs.Objects.{CoreState}
 use Rattle.wf_model.specs.Outcome.{Outcome}
 use Rattle.wf_model.specs.Composition.{CoreSide, change_context}
 use Rattle.wf_model.specs.Core.{set_active, with_active}
-use Rattle.wf_core.specs.Fits.{ContextFits, Fits}
-use Rattle.wf_core.specs.Owners.{owned_context}
-use Rattle.wf_core.specs.Sides.{side_of}
+use Rattle.wf_objects.specs.Fits.{ContextFits, Fits}
+use Rattle.wf_objects.specs.Owners.{owned_context}
+use Rattle.wf_objects.specs.Sides.{side_of}
 use Rattle.wf_words.specs.Each.{each_at}
-use Rattle.wf_core.proofs.Owners.{in_owned, owned_parts}
-use Rattle.wf_core.proofs.Scenes.{placed_fits, placed_is}
+use Rattle.wf_objects.proofs.Owners.{in_owned, owned_parts}
+use Rattle.wf_objects.proofs.Scenes.{placed_fits, placed_is}
 
 module _ (core : CoreState) (store : StoreView) (fits : Fits core store) (place : ℕ) (c : Context)
     (at : slice_get core.contexts place ≡ Some c) (active : Bool) where

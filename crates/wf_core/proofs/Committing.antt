@@ -14,14 +14,14 @@ use Rattle.wf_model.specs.Objects.{CoreState}
 use Rattle.wf_model.specs.Outcome.{Outcome}
 use Rattle.wf_model.specs.Composition.{CoreSide, change_context, sight_of}
 use Rattle.wf_model.specs.Core.{commit, fault_as_refusal, with_committed}
-use Rattle.wf_core.specs.Fits.{ContextFits, Fits}
-use Rattle.wf_core.specs.Owners.{owned_context}
-use Rattle.wf_core.specs.Sides.{side_of}
-use Rattle.wf_core.specs.Sights.{sight_in}
+use Rattle.wf_objects.specs.Fits.{ContextFits, Fits}
+use Rattle.wf_objects.specs.Owners.{owned_context}
+use Rattle.wf_objects.specs.Sides.{side_of}
+use Rattle.wf_objects.specs.Sights.{sight_in}
 use Rattle.wf_core.proofs.Layering.{consistent_fits, sights}
 use Rattle.wf_words.specs.Each.{each_at}
-use Rattle.wf_core.proofs.Owners.{in_owned, owned_parts}
-use Rattle.wf_core.proofs.Scenes.{placed_fits, placed_is}
+use Rattle.wf_objects.proofs.Owners.{in_owned, owned_parts}
+use Rattle.wf_objects.proofs.Scenes.{placed_fits, placed_is}
 
 taken : (m : Result Scene Fault) (s : Scene) → Ok s ≡ fault_as_refusal m → m ≡ Ok s
 taken (Ok t) s is = let same : s ≡ t = cc in ap (λ (x : Scene). Ok x) (sym same)

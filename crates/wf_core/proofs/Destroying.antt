@@ -16,15 +16,15 @@ use Rattle.wf_calls.specs.Replies.{refusal}
 use Rattle.wf_model.specs.Composition.{CoreSide, change_context, device, is_of_device, with_cached}
 use Rattle.wf_model.specs.Core.{element_destroy, mask_destroy, source_destroy, without_source, context_destroy, device_destroy,
     without_context, without_device}
-use Rattle.wf_core.specs.Fits.{HandlesFit}
-use Rattle.wf_core.specs.Losses.{Loses}
-use Rattle.wf_core.specs.Owners.{owning_context, owned_context}
-use Rattle.wf_core.specs.Sides.{done_by, side_of}
-use Rattle.wf_core.proofs.Dropping.{side_left}
+use Rattle.wf_objects.specs.Fits.{HandlesFit}
+use Rattle.wf_objects.specs.Losses.{Loses}
+use Rattle.wf_objects.specs.Owners.{owning_context, owned_context}
+use Rattle.wf_objects.specs.Sides.{done_by, side_of}
+use Rattle.wf_objects.proofs.Dropping.{side_left}
 use Rattle.wf_core.proofs.ElementCalls.{in_owner}
 use Rattle.wf_words.specs.Found.{any_found, none_at, some_at}
-use Rattle.wf_core.proofs.Lookups.{a_device, no_device}
-use Rattle.wf_core.proofs.Owners.{in_owned}
+use Rattle.wf_objects.proofs.Lookups.{a_device, no_device}
+use Rattle.wf_objects.proofs.Owners.{in_owned}
 
 -- a call that was carried out, and leaves these objects and a store that lost handles
 pub left_so : (core after left : CoreState) (old new : StoreView) → left ≡ after → Loses old new

@@ -16,14 +16,14 @@ use Rattle.wf_model.specs.Objects.{CoreState}
 use Rattle.wf_model.specs.Outcome.{Outcome}
 use Rattle.wf_model.specs.Composition.{CoreSide, change_context, device, element_context, with_cached}
 use Rattle.wf_model.specs.Core.{by_scene, element_new, is_element_or_0}
-use Rattle.wf_core.specs.Sides.{done_by, side_of}
-use Rattle.wf_core.specs.Fits.{Fits}
-use Rattle.wf_core.specs.Owners.{of_element, owned_context, owning_context}
+use Rattle.wf_objects.specs.Sides.{done_by, side_of}
+use Rattle.wf_objects.specs.Fits.{Fits}
+use Rattle.wf_objects.specs.Owners.{of_element, owned_context, owning_context}
 use Rattle.wf_words.specs.Found.{any_found}
 use Rattle.wf_words.specs.Filtered.{count_left}
-use Rattle.wf_core.proofs.Owners.{both, joined, owned_parts}
+use Rattle.wf_objects.proofs.Owners.{both, joined, owned_parts}
 use Rattle.wf_words.specs.Places.{within}
-use Rattle.wf_core.proofs.Scenes.{placed_is}
+use Rattle.wf_objects.proofs.Scenes.{placed_is}
 
 -- a call that goes on in the context of an element
 pub in_owner : (d e : ℕ) (w : CoreSide) (c : Context) (after : Context → Outcome CoreSide) → owning_context d e w ≡ Ok c

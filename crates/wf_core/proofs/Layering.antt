@@ -24,13 +24,13 @@ use Rattle.wf_scene.specs.Sight.{Sight}
 use Rattle.wf_model.specs.declared.Source.{Source}
 use Rattle.wf_model.specs.Objects.{CoreState}
 use Rattle.wf_model.specs.Composition.{seen, seen_source, sight_of}
-use Rattle.wf_core.specs.Fits.{Fits, HandlesFit, LayerFits, Shows, mask_live, of_kind, source_live}
-use Rattle.wf_core.specs.Sides.{side_of}
-use Rattle.wf_core.specs.Sights.{seen_key, sight_in}
+use Rattle.wf_objects.specs.Fits.{Fits, HandlesFit, LayerFits, Shows, mask_live, of_kind, source_live}
+use Rattle.wf_objects.specs.Sides.{side_of}
+use Rattle.wf_objects.specs.Sights.{seen_key, sight_in}
 use Rattle.wf_core.proofs.Faults.{Keeps, faultless, no_fault}
 use Rattle.wf_words.specs.Each.{each_found}
-use Rattle.wf_core.proofs.Lookups.{keyed}
-use Rattle.wf_core.proofs.Seeing.{behind}
+use Rattle.wf_objects.proofs.Lookups.{keyed}
+use Rattle.wf_objects.proofs.Seeing.{behind}
 use Rattle.wf_words.specs.Options.{from_some}
 
 -- what is seen behind the keys of a kind is what is seen of the objects

@@ -20,11 +20,11 @@ use Rattle.wf_model.specs.Composition.{CoreSide, created, seen_stream}
 use Rattle.wf_model.specs.Core.{blank_scene, contexts_full, has_port, new_context, room, screen_context}
 use Rattle.wf_pixel.specs.Choice.{is_a8}
 use Rattle.std.specs.Option.{IfSome}
-use Rattle.wf_core.specs.Fits.{ContextFits, Fits, IsOfPixels}
-use Rattle.wf_core.specs.Sides.{refused_handle, side_of}
-use Rattle.wf_core.specs.Sights.{screen_seen}
+use Rattle.wf_objects.specs.Fits.{ContextFits, Fits, IsOfPixels}
+use Rattle.wf_objects.specs.Sides.{refused_handle, side_of}
+use Rattle.wf_objects.specs.Sights.{screen_seen}
 use Rattle.wf_words.specs.Filtered.{count_left}
-use Rattle.wf_core.proofs.Lookups.{a_device, no_device}
+use Rattle.wf_objects.proofs.Lookups.{a_device, no_device}
 
 -- the stream of a screen that is seen
 screen_parts : (screen : Option ℕ) (streams : List KeptStream) (seen : Seen) → Ok seen ≡ screen_seen screen streams

@@ -4,8 +4,8 @@ ghost use Rattle.std.specs.Prelude.{◌≡◌, ◌+◌, Bool, false, IfOk, OnOk,
 ghost use Rattle.wf_calls.specs.Codes.{is_out_of_memory};
 ghost use Rattle.wf_calls.specs.Replies.{refusal};
 ghost use Rattle.wf_model.specs.Composition.{core_answer};
-ghost use Rattle.wf_core.specs.Sides.{side_of, done_by, lacks_memory};
-ghost use Rattle.wf_core.specs.Fits.{Fits};
+ghost use Rattle.wf_objects.specs.Sides.{side_of, done_by, lacks_memory};
+ghost use Rattle.wf_objects.specs.Fits.{Fits};
 
 use crate::composition::Core;
 use crate::registers::record_in;

@@ -8,10 +8,10 @@ ghost use Rattle.wf_scene.specs.Consistent.{consistent};
 ghost use Rattle.wf_scene.specs.Layers.{is_placed_layer};
 ghost use Rattle.wf_model.specs.Composition.{core_answer};
 ghost use Rattle.wf_model.specs.Core.{commit, fault_as_refusal};
-ghost use Rattle.wf_core.specs.Sides.{side_of, done_by};
-ghost use Rattle.wf_core.specs.Sights.{seen_key, sight_in};
+ghost use Rattle.wf_objects.specs.Sides.{side_of, done_by};
+ghost use Rattle.wf_objects.specs.Sights.{seen_key, sight_in};
 ghost use Rattle.wf_core.specs.Steps.{KeepsAll, Steps};
-ghost use Rattle.wf_core.specs.Fits.{Fits};
+ghost use Rattle.wf_objects.specs.Fits.{Fits};
 
 use crate::composition::Core;
 use crate::finding::key_of;

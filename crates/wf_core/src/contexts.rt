@@ -9,10 +9,10 @@ ghost use Rattle.wf_calls.specs.Replies.{refusal};
 ghost use Rattle.wf_model.specs.Composition.{core_answer};
 ghost use Rattle.wf_model.specs.Core.{blank_scene, by_scene, context_get, context_set, contexts_full, has_port, refusal_code,
     screen_context};
-ghost use Rattle.wf_core.specs.Sides.{KeepsRest, side_of, done_by, lacks_memory};
+ghost use Rattle.wf_objects.specs.Sides.{KeepsRest, side_of, done_by, lacks_memory};
 ghost use Rattle.wf_core.specs.Steps.{KeepsAll, Steps};
-ghost use Rattle.wf_core.specs.Fits.{Fits, IsOfPixels};
-ghost use Rattle.wf_core.specs.Sights.{screen_seen};
+ghost use Rattle.wf_objects.specs.Fits.{Fits, IsOfPixels};
+ghost use Rattle.wf_objects.specs.Sights.{screen_seen};
 
 use crate::composition::{Core, MOST_CONTEXTS};
 use crate::finding::key_of;

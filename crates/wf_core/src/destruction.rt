@@ -8,9 +8,9 @@ ghost use Rattle.wf_scene.specs.Cached.{forget, has_element};
 ghost use Rattle.wf_model.specs.Composition.{change_context, core_answer, with_cached};
 ghost use Rattle.wf_model.specs.Core.{element_destroy, mask_destroy, source_destroy, without_source, context_destroy, device_destroy};
 ghost use Rattle.wf_core.specs.Steps.{KeepsAll, Steps};
-ghost use Rattle.wf_core.specs.Fits.{Fits};
-ghost use Rattle.wf_core.specs.Losses.{Loses};
-ghost use Rattle.wf_core.specs.Sides.{KeepsRest, done_by, side_of};
+ghost use Rattle.wf_objects.specs.Fits.{Fits};
+ghost use Rattle.wf_objects.specs.Losses.{Loses};
+ghost use Rattle.wf_objects.specs.Sides.{KeepsRest, done_by, side_of};
 
 use crate::composition::Core;
 use crate::finding::key_of;

@@ -5,9 +5,9 @@ ghost use Rattle.wf_calls.specs.Codes.{is_out_of_memory};
 ghost use Rattle.wf_model.specs.Composition.{core_answer};
 ghost use Rattle.wf_model.specs.Core.{element_above, element_below, element_get, element_insert, element_new, element_remove, element_set,
     is_element_or_0};
-ghost use Rattle.wf_core.specs.Sides.{KeepsRest, side_of, done_by, lacks_memory};
+ghost use Rattle.wf_objects.specs.Sides.{KeepsRest, side_of, done_by, lacks_memory};
 ghost use Rattle.wf_core.specs.Steps.{KeepsAll, Steps};
-ghost use Rattle.wf_core.specs.Fits.{Fits};
+ghost use Rattle.wf_objects.specs.Fits.{Fits};
 
 use crate::composition::Core;
 use crate::contexts::{by_scene, scene_refusal};

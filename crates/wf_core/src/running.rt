@@ -4,8 +4,8 @@ ghost use Rattle.std.specs.Prelude.{◌≡◌, IsTrue, OnErr};
 ghost use Rattle.wf_calls.specs.Parts.{device_of, is_of_core, part_of};
 ghost use Rattle.wf_calls.specs.Replies.{bare};
 ghost use Rattle.wf_model.specs.Core.{core_call};
-ghost use Rattle.wf_core.specs.Fits.{Fits};
-ghost use Rattle.wf_core.specs.Sides.{KeepsRest, done_by, lacks_memory, side_of};
+ghost use Rattle.wf_objects.specs.Fits.{Fits};
+ghost use Rattle.wf_objects.specs.Sides.{KeepsRest, done_by, lacks_memory, side_of};
 ghost use Rattle.wf_core.specs.Steps.{IsGiven, Steps};
 
 use crate::composition::Core;

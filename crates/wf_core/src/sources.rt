@@ -4,9 +4,9 @@ ghost use Rattle.std.specs.Prelude.{◌≡◌, OnErr};
 ghost use Rattle.wf_calls.specs.Codes.{is_out_of_memory};
 ghost use Rattle.wf_model.specs.Composition.{core_answer};
 ghost use Rattle.wf_model.specs.Core.{mask_new, source_new, sources_full};
-ghost use Rattle.wf_core.specs.Sides.{KeepsRest, side_of, done_by, lacks_memory};
+ghost use Rattle.wf_objects.specs.Sides.{KeepsRest, side_of, done_by, lacks_memory};
 ghost use Rattle.wf_core.specs.Steps.{KeepsAll, Steps};
-ghost use Rattle.wf_core.specs.Fits.{Fits};
+ghost use Rattle.wf_objects.specs.Fits.{Fits};
 
 use crate::composition::{Core, MOST_SOURCES};
 use crate::making::mint;

@@ -1,5 +1,5 @@
 use Rattle.std.proofs.Common.{arith}
-use Rattle.wf_core.specs.Sights.{sight_in}
+use Rattle.wf_objects.specs.Sights.{sight_in}
 use Rattle.wf_core.proofs.Faults.{small_fault}
 use Rattle.wf_core.proofs.commits.committed.Goals as goal
 

@@ -1,7 +1,7 @@
 use Rattle.std.proofs.Common.{refl, arith}
 use Rattle.std.proofs.lemmas.List.{with_items_is}
 use Rattle.wf_model.specs.Composition.{recorded}
-use Rattle.wf_core.proofs.Fitting.{register_fits}
+use Rattle.wf_objects.proofs.Fitting.{register_fits}
 use Rattle.wf_core.proofs.composition.Core.answer.Goals as goal
 
 pub returns-in-Err-clause-fits : goal.returns-in-Err-clause-fits

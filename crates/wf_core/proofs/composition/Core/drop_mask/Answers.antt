@@ -1,6 +1,6 @@
 use Rattle.std.proofs.Common.{refl}
 use Rattle.wf_life.specs.declared.Kind.TheVariants as kind
-use Rattle.wf_core.proofs.Dropping.{lives, loses, mask_dropped, mask_under}
+use Rattle.wf_objects.proofs.Dropping.{lives, loses, mask_dropped, mask_under}
 use Rattle.wf_core.proofs.composition.Core.drop_mask.Goals as goal
 
 pub drop_handle-requires : goal.drop_handle-requires

@@ -2,8 +2,8 @@ use Rattle.std.proofs.Common.{◌≡◌, ◌∙◌, List, refl, sym, ap}
 use Rattle.wf_model.specs.declared.Source.{Source}
 use Rattle.wf_model.specs.Objects.{CoreState}
 use Rattle.wf_model.specs.Core.{without_those_of}
-use Rattle.wf_core.proofs.Dropping.{then_lost}
-use Rattle.wf_core.proofs.Remainders.{IsFirst, fewer, first_is, first_leaves, first_lives, first_of, none_is, rises_masks}
+use Rattle.wf_objects.proofs.Dropping.{then_lost}
+use Rattle.wf_objects.proofs.Remainders.{IsFirst, fewer, first_is, first_leaves, first_lives, first_of, none_is, rises_masks}
 use Rattle.wf_core.proofs.composition.Core.drop_masks.Goals as goal
 use Rattle.wf_core.proofs.composition.Core.drop_masks.Goals.{After-first_of, In-Some}
 

@@ -1,7 +1,7 @@
 use Rattle.std.proofs.Common.{◌≡◌, length}
 use Rattle.wf_model.specs.Core.{without_those_of}
-use Rattle.wf_core.specs.Fits.{Fits}
-use Rattle.wf_core.specs.Losses.{Loses}
+use Rattle.wf_objects.specs.Fits.{Fits}
+use Rattle.wf_objects.specs.Losses.{Loses}
 use Rattle.wf_core.proofs.composition.Core.drop_masks.Given as goal
 
 -- objects and store fit, only handles went, and of what went each was of the context

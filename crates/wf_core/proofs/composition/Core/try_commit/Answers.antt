@@ -3,10 +3,10 @@ use Rattle.wf_scene.specs.Consistent.{consistent}
 use Rattle.wf_model.specs.Objects.{CoreState}
 use Rattle.wf_model.specs.declared.Context.{Context}
 use Rattle.wf_model.specs.Core.{fault_as_refusal}
-use Rattle.wf_core.specs.Fits.{Fits}
-use Rattle.wf_core.specs.Sights.{sight_in}
+use Rattle.wf_objects.specs.Fits.{Fits}
+use Rattle.wf_objects.specs.Sights.{sight_in}
 use Rattle.wf_core.proofs.Committing.{commit_refused, committed_case, committed_fits}
-use Rattle.wf_core.proofs.Owners.{owned, standing}
+use Rattle.wf_objects.proofs.Owners.{owned, standing}
 use Rattle.wf_core.proofs.composition.Core.try_commit.Goals as goal
 
 pub returns-in-Err-clause-case : goal.returns-in-Err-clause-case

@@ -1,6 +1,6 @@
-use Rattle.wf_core.specs.Sides.{side_of}
+use Rattle.wf_objects.specs.Sides.{side_of}
 use Rattle.wf_core.proofs.Destroying.{context_destroyed}
-use Rattle.wf_core.proofs.Owners.{owned, owned_parts}
+use Rattle.wf_objects.proofs.Owners.{owned, owned_parts}
 use Rattle.wf_words.specs.Places.{within}
 use Rattle.wf_core.proofs.composition.Core.try_context_destroy.Goals as goal
 

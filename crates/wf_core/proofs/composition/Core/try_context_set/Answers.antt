@@ -1,10 +1,10 @@
 use Rattle.std.proofs.Common.{◌≡◌, ◌∙◌, sym, subst, set, slice_get, Some, refl}
 use Rattle.wf_scene.specs.Cached as cached
 use Rattle.wf_model.specs.Objects.{CoreState}
-use Rattle.wf_core.specs.Fits.{Fits}
-use Rattle.wf_core.proofs.Owners.{owned, standing}
-use Rattle.wf_core.proofs.Keeping.{context_keeps}
-use Rattle.wf_core.proofs.Scenes.{scene_fits, set_in_context}
+use Rattle.wf_objects.specs.Fits.{Fits}
+use Rattle.wf_objects.proofs.Owners.{owned, standing}
+use Rattle.wf_objects.proofs.Keeping.{context_keeps}
+use Rattle.wf_objects.proofs.Scenes.{scene_fits, set_in_context}
 use Rattle.wf_core.proofs.composition.Core.try_context_set.Goals as goal
 
 -- the context at the place

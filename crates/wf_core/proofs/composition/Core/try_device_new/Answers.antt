@@ -1,4 +1,4 @@
-use Rattle.wf_core.proofs.Makings.{device_fits}
+use Rattle.wf_objects.proofs.Makings.{device_fits}
 use Rattle.wf_core.proofs.composition.Core.try_device_new.Goals as goal
 
 pub returns-clause-fits : goal.returns-clause-fits

@@ -1,7 +1,7 @@
 use Rattle.wf_scene.specs.Cached as cached
 use Rattle.wf_core.proofs.ElementCalls.{read_in_owner}
-use Rattle.wf_core.proofs.Owners.{owning, owning_parts, standing}
-use Rattle.wf_core.specs.Sides.{side_of}
+use Rattle.wf_objects.proofs.Owners.{owning, owning_parts, standing}
+use Rattle.wf_objects.specs.Sides.{side_of}
 use Rattle.wf_core.proofs.composition.Core.try_element_above.Goals as goal
 
 pub above-requires : goal.above-requires

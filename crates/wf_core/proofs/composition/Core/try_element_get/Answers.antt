@@ -1,8 +1,8 @@
 use Rattle.std.proofs.Math.Facts.{to_z-of_z}
 use Rattle.wf_scene.specs.Cached as cached
 use Rattle.wf_core.proofs.ElementCalls.{read_in_owner}
-use Rattle.wf_core.proofs.Owners.{owning, owning_parts, standing}
-use Rattle.wf_core.specs.Sides.{side_of}
+use Rattle.wf_objects.proofs.Owners.{owning, owning_parts, standing}
+use Rattle.wf_objects.specs.Sides.{side_of}
 use Rattle.wf_core.proofs.composition.Core.try_element_get.Goals as goal
 
 pub get-requires : goal.get-requires

@@ -9,13 +9,13 @@ use Rattle.wf_calls.specs.declared.code.Code.TheVariants as code
 use Rattle.wf_model.specs.Outcome.{Outcome, refuse}
 use Rattle.wf_model.specs.Core.{by_scene, is_element_or_0}
 use Rattle.wf_model.specs.Composition.{CoreSide, change_context, with_cached}
-use Rattle.wf_core.specs.Fits.{Fits}
-use Rattle.wf_core.specs.Owners.{owning_context}
-use Rattle.wf_core.specs.Sides.{side_of}
+use Rattle.wf_objects.specs.Fits.{Fits}
+use Rattle.wf_objects.specs.Owners.{owning_context}
+use Rattle.wf_objects.specs.Sides.{side_of}
 use Rattle.wf_core.proofs.ElementCalls.{in_owner}
-use Rattle.wf_core.proofs.Keeping.{insert_keeps}
-use Rattle.wf_core.proofs.Owners.{owning, owning_parts, standing}
-use Rattle.wf_core.proofs.Scenes.{scene_fits, set_here}
+use Rattle.wf_objects.proofs.Keeping.{insert_keeps}
+use Rattle.wf_objects.proofs.Owners.{owning, owning_parts, standing}
+use Rattle.wf_objects.proofs.Scenes.{scene_fits, set_here}
 use Rattle.wf_core.proofs.composition.Core.try_element_insert.Goals as goal
 
 -- the context at the place

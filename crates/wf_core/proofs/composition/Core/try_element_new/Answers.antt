@@ -3,13 +3,13 @@ use Rattle.std.specs.Prelude.{nat_le}
 use Rattle.std.proofs.lemmas.Bool.{lt-leb}
 use Rattle.wf_scene.specs.Cached as cached
 use Rattle.wf_model.specs.declared.Context.{Context}
-use Rattle.wf_core.specs.Fits.{HasElements}
-use Rattle.wf_core.specs.Sides.{side_of}
+use Rattle.wf_objects.specs.Fits.{HasElements}
+use Rattle.wf_objects.specs.Sides.{side_of}
 use Rattle.wf_core.proofs.ElementCalls.{element_made}
 use Rattle.wf_words.specs.Each.{each_at}
-use Rattle.wf_core.proofs.Makings.{element_fits, fresh}
-use Rattle.wf_core.proofs.Owners.{owned, owned_parts, standing}
-use Rattle.wf_core.proofs.Seeing.{not_full}
+use Rattle.wf_objects.proofs.Makings.{element_fits, fresh}
+use Rattle.wf_objects.proofs.Owners.{owned, owned_parts, standing}
+use Rattle.wf_objects.proofs.Seeing.{not_full}
 use Rattle.wf_core.proofs.composition.Core.try_element_new.Goals as goal
 
 pub add-requires-clause-fresh : goal.add-requires-clause-fresh

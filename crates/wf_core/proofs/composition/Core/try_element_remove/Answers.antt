@@ -8,13 +8,13 @@ use Rattle.wf_scene.specs.Cached.{CachedScene}
 use Rattle.wf_model.specs.Outcome.{Outcome}
 use Rattle.wf_model.specs.Core.{by_scene}
 use Rattle.wf_model.specs.Composition.{CoreSide, change_context, with_cached}
-use Rattle.wf_core.specs.Fits.{Fits}
-use Rattle.wf_core.specs.Owners.{owning_context}
-use Rattle.wf_core.specs.Sides.{side_of}
+use Rattle.wf_objects.specs.Fits.{Fits}
+use Rattle.wf_objects.specs.Owners.{owning_context}
+use Rattle.wf_objects.specs.Sides.{side_of}
 use Rattle.wf_core.proofs.ElementCalls.{in_owner}
-use Rattle.wf_core.proofs.Keeping.{remove_keeps}
-use Rattle.wf_core.proofs.Owners.{owning, owning_parts, standing}
-use Rattle.wf_core.proofs.Scenes.{scene_fits, set_here}
+use Rattle.wf_objects.proofs.Keeping.{remove_keeps}
+use Rattle.wf_objects.proofs.Owners.{owning, owning_parts, standing}
+use Rattle.wf_objects.proofs.Scenes.{scene_fits, set_here}
 use Rattle.wf_core.proofs.composition.Core.try_element_remove.Goals as goal
 
 -- the context at the place

@@ -9,12 +9,12 @@ use Rattle.wf_model.specs.Objects.{CoreState}
 use Rattle.wf_model.specs.Outcome.{Outcome}
 use Rattle.wf_model.specs.Core.{by_scene, linked}
 use Rattle.wf_model.specs.Composition.{CoreSide, change_context, with_cached}
-use Rattle.wf_core.specs.Fits.{Fits}
-use Rattle.wf_core.specs.Sides.{side_of}
+use Rattle.wf_objects.specs.Fits.{Fits}
+use Rattle.wf_objects.specs.Sides.{side_of}
 use Rattle.wf_core.proofs.ElementCalls.{in_owner}
-use Rattle.wf_core.proofs.Keeping.{set_keeps}
-use Rattle.wf_core.proofs.Owners.{owning, owning_parts, standing}
-use Rattle.wf_core.proofs.Scenes.{scene_fits, set_here}
+use Rattle.wf_objects.proofs.Keeping.{set_keeps}
+use Rattle.wf_objects.proofs.Owners.{owning, owning_parts, standing}
+use Rattle.wf_objects.proofs.Scenes.{scene_fits, set_here}
 use Rattle.wf_core.proofs.composition.Core.try_element_set.Goals as goal
 
 pub set-requires-clause-live : goal.set-requires-clause-live

@@ -4,8 +4,8 @@ use Rattle.wf_words.specs.Whole.{count_of}
 use Rattle.wf_calls.specs.declared.reply.Refusal.{Refusal}
 use Rattle.wf_calls.specs.Codes.{is_out_of_memory}
 use Rattle.wf_model.specs.Core.{has_port, screen_context}
-use Rattle.wf_core.specs.Sides.{side_of}
-use Rattle.wf_core.proofs.Makings.{context_fits}
+use Rattle.wf_objects.specs.Sides.{side_of}
+use Rattle.wf_objects.proofs.Makings.{context_fits}
 use Rattle.wf_core.proofs.Screens.{bad_device, bad_screen, in_use, limited, made, made_fits, no_handle, screen_made, without_memory}
 use Rattle.wf_core.proofs.composition.Core.try_screen_context.Goals as goal
 

@@ -1,8 +1,8 @@
 use Rattle.std.proofs.Common.{◌∙◌, sym, subst, set, refl}
 use Rattle.wf_model.specs.Objects.{CoreState}
-use Rattle.wf_core.specs.Fits.{Fits}
+use Rattle.wf_objects.specs.Fits.{Fits}
 use Rattle.wf_core.proofs.Activating.{active_case, active_fits}
-use Rattle.wf_core.proofs.Owners.{owned, standing}
+use Rattle.wf_objects.proofs.Owners.{owned, standing}
 use Rattle.wf_core.proofs.composition.Core.try_set_active.Goals as goal
 
 pub returns-clause-case : goal.returns-clause-case
