@@ -20,7 +20,7 @@ use Rattle.wf_objects.specs.Fits.{HandlesFit}
 use Rattle.wf_objects.specs.Losses.{Loses}
 use Rattle.wf_objects.specs.Owners.{owning_context, owned_context}
 use Rattle.wf_objects.specs.Sides.{done_by, side_of}
-use Rattle.wf_objects.proofs.Dropping.{side_left}
+use Rattle.wf_objects.proofs.Dropped.{side_left}
 use Rattle.wf_core.proofs.ElementCalls.{in_owner}
 use Rattle.wf_words.specs.Found.{any_found, none_at, some_at}
 use Rattle.wf_objects.proofs.Lookups.{a_device, no_device}

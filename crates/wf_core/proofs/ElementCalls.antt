@@ -44,19 +44,6 @@ read_in_owner d e w c call o r own called answered =
     of_answer (Ok n) = refl
     of_answer (Err x) = refl
 
--- a handle is 0 or that of an element, by the place that was found
-pub any_element : (d h : ℕ) (w : CoreSide) (o : Option ℕ) → (h == 0) ≡ false
-    → option_and_then (slice_get w.core.contexts) o ≡ of_element d h w.core.contexts → IfSome o (λ place. place < length w.core.contexts)
-    → is_some o ≡ is_element_or_0 d h w
-any_element d h w o other found less =
-    of_place o less ∙ ap is_some found ∙ sym (any_found (λ (c : Context). (c.device == d) && has_element h c.cached) w.core.contexts)
-    ∙ sym (ap (λ b. b || list_any (λ (c : Context). (c.device == d) && has_element h c.cached) w.core.contexts) other)
-  where
-    of_place : (p : Option ℕ) → IfSome p (λ place. place < length w.core.contexts)
-        → is_some p ≡ is_some (option_and_then (slice_get w.core.contexts) p)
-    of_place None within-is = refl
-    of_place (Some place) within-is = (let x = within w.core.contexts place within-is in ap is_some (sym x.1))
-
 -- a new element of a context
 pub element_made : (d h : ℕ) (core : CoreState) (store : StoreView) (fits : Fits core store) (place : ℕ) (c : Context)
     → slice_get core.contexts place ≡ Some c → owned_context d h (side_of core store) ≡ Ok c

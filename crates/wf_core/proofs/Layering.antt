@@ -30,7 +30,7 @@ use Rattle.wf_objects.specs.Sights.{seen_key, sight_in}
 use Rattle.wf_core.proofs.Faults.{Keeps, faultless, no_fault}
 use Rattle.wf_words.specs.Each.{each_found}
 use Rattle.wf_objects.proofs.Lookups.{keyed}
-use Rattle.wf_objects.proofs.Seeing.{behind}
+use Rattle.wf_core.proofs.Seeing.{behind}
 use Rattle.wf_words.specs.Options.{from_some}
 
 -- what is seen behind the keys of a kind is what is seen of the objects

@@ -17,7 +17,7 @@ use Rattle.wf_scene.specs.Keeping.{keeps_handle}
 -- what sets nothing of the elements keeps their handles
 
 -- the same elements and size
-abbrev Keeps : CachedScene → CachedScene → Type 0
+abbrev pub Keeps : CachedScene → CachedScene → Type 0
 Keeps c s = (handles s.elements ≡ handles c.elements) × (s.size ≡ c.size)
 
 from_value : {A : Type 0} (o : Option A) (f : A → CachedScene) (c s : CachedScene) → ((x : A) → Keeps c (f x))

@@ -2,9 +2,8 @@ pub mod Fitting
 pub mod Lookups
 pub mod Owners
 pub mod Scenes
-pub mod Seeing
 pub mod Makings
 pub mod Keeping
 pub mod Leaving
-pub mod Dropping
+pub mod Dropped
 pub mod Remainders

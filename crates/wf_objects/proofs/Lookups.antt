@@ -1,6 +1,6 @@
 -- What the store's table tells of an object that a call names.
 use Rattle.std.proofs.Common.{◌≡◌, ◌≢◌, eq-eqb, ne_eqb, ℕ, Bool, true, false, cond, ◌==◌, ◌&&◌, List, [], ◌∷◌, map, find, slice_get,
-    option_map, option_and_then, position, Option, Some, None, Err, is_some, refl, sym, ap, subst, ◌∙◌, arith}
+    option_map, option_and_then, position, Option, Some, None, Ok, Err, is_some, refl, sym, ap, subst, ◌∙◌, arith}
 use Rattle.std.specs.List.{list_any, AllByRecursion}
 use Rattle.std.proofs.lemmas.Bool.Decides.{nat_tests}
 use Rattle.wf_words.specs.Keyed.{at_key}
@@ -14,10 +14,9 @@ use Rattle.wf_model.specs.declared.Device.{Device}
 use Rattle.wf_model.specs.declared.Context.{Context}
 use Rattle.wf_model.specs.Objects.{CoreState}
 use Rattle.wf_calls.specs.Replies.{refusal}
-use Rattle.wf_model.specs.Outcome.{found}
 use Rattle.wf_objects.specs.Sides.{side_of}
 use Rattle.wf_objects.specs.Fits.{HandlesFit, HasElements, of_kind, elements_of, device_live, context_live, element_live}
-use Rattle.wf_objects.specs.Owners.{of_device, of_element, owned_context, owning_context}
+use Rattle.wf_objects.specs.Owners.{live_device, of_device, of_element}
 use Rattle.wf_words.specs.Found.{find_filtered, find_mapped, any_found, any_mapped, get_position}
 use Rattle.wf_words.specs.Rising.{Rises, rises_filter, rises_map, find_tested}
 
@@ -89,7 +88,7 @@ module _ (core : CoreState) (store : StoreView) (fits : HandlesFit core store) w
   none_placed d h key = sym (of_device_is d h ∙ ap (λ (o : Option ℕ). by_owner o d (by_handle h)) key)
 
   -- no live device
-  pub no_device : (d : ℕ) → key_of d kind.Device store.others ≡ None → at_key (λ (x : Device). x.handle) d core.devices ≡ None
+  no_device : (d : ℕ) → key_of d kind.Device store.others ≡ None → at_key (λ (x : Device). x.handle) d core.devices ≡ None
   no_device d none = of_found (at_key (λ (x : Device). x.handle) d core.devices)
       (sym (keyed kind.Device device_live d core.devices store.others fits.devices) ∙ none)
     where
@@ -98,7 +97,7 @@ module _ (core : CoreState) (store : StoreView) (fits : HandlesFit core store) w
       of_found (Some x) is = absurd cc
 
   -- a live device
-  pub a_device : (d key : ℕ) → key_of d kind.Device store.others ≡ Some key → (x : Device)
+  a_device : (d key : ℕ) → key_of d kind.Device store.others ≡ Some key → (x : Device)
       × (at_key (λ (x : Device). x.handle) d core.devices ≡ Some x)
   a_device d key some = of_found (at_key (λ (x : Device). x.handle) d core.devices) refl
       (sym (keyed kind.Device device_live d core.devices store.others fits.devices) ∙ some)
@@ -159,20 +158,10 @@ module _ (core : CoreState) (store : StoreView) (fits : HandlesFit core store) w
           let has : has_element e c.cached ≡ (owner == c.handle) = has_by_key e c all.0 ∙ ap (λ (o : Option ℕ). is_named o c.handle) is in
           rw (has, swapped (c.device == d) owner c.handle, of_contexts cs all.1 (Some owner) is) refl
 
-  -- the context that a call names, by the table
+  -- a device lives just where the store has its handle
 
-  pub refused_device : (d h : ℕ) → key_of d kind.Device store.others ≡ None
-      → owned_context d h (side_of core store) ≡ Err (refusal code.BadDevice)
-  refused_device d h none = rw (no_device d none) refl
+  pub dead_device : (d : ℕ) → key_of d kind.Device store.others ≡ None → live_device d (side_of core store) ≡ Err (refusal code.BadDevice)
+  dead_device d none = rw (no_device d none) refl
 
-  pub named_context : (d h key : ℕ) → key_of d kind.Device store.others ≡ Some key
-      → owned_context d h (side_of core store) ≡ found code.BadHandle (of_device d h core.contexts)
-  named_context d h key some = let x = a_device d key some in rw x.1 refl
-
-  pub refused_owner : (d e : ℕ) → key_of d kind.Device store.others ≡ None
-      → owning_context d e (side_of core store) ≡ Err (refusal code.BadDevice)
-  refused_owner d e none = rw (no_device d none) refl
-
-  pub named_owner : (d e key : ℕ) → key_of d kind.Device store.others ≡ Some key
-      → owning_context d e (side_of core store) ≡ found code.BadHandle (of_element d e core.contexts)
-  named_owner d e key some = let x = a_device d key some in rw x.1 refl
+  pub some_device : (d key : ℕ) → key_of d kind.Device store.others ≡ Some key → live_device d (side_of core store) ≡ Ok tt
+  some_device d key some = let x = a_device d key some in rw x.1 refl

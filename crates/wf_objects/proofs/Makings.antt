@@ -1,6 +1,6 @@
--- A new object fits with the handle that was made for it.
+-- A creation: it is refused, or a new object fits with the handle that was made for it.
 use Rattle.std.proofs.Common.{◌≡◌, ℕ, zero, suc, ◌+◌, ◌≤◌, Bool, true, false, cond, not, ◌==◌, ◌&&◌, ◌||◌, List, [], ◌∷◌, ◌++◌, map, set,
-    slice_get, Option, Some, None, option_map, refl, sym, ap, subst, ◌∙◌, arith}
+    slice_get, Option, Some, None, option_map, Result, Ok, Err, refl, sym, ap, subst, ◌∙◌, arith}
 use Rattle.std.specs.List.{list_all, AllByRecursion}
 use Rattle.std.proofs.lemmas.Bool.{and_parts, eqb-true, eq-eqb, ne_eqb}
 use Rattle.std.proofs.lemmas.Bool.Decides.{nat_tests}
@@ -8,7 +8,7 @@ use Rattle.std.proofs.lemmas.List.{map-append}
 use Rattle.wf_words.specs.Keyed.{is_in}
 use Rattle.wf_life.specs.declared.Kind.{Kind}
 use Rattle.wf_life.specs.declared.Kind.TheVariants as kind
-use Rattle.wf_life.specs.Handles.{Live, IsRising, same_kind, rising_more}
+use Rattle.wf_life.specs.Handles.{Live, IsRising, is_full, same_kind, rising_more}
 use Rattle.wf_stream.specs.Streams.{StoreView, with_other}
 use Rattle.wf_scene.specs.Cached as cached
 use Rattle.wf_scene.specs.Cached.{handle_of, handles}
@@ -17,103 +17,124 @@ use Rattle.wf_model.specs.declared.Device.{Device}
 use Rattle.wf_model.specs.declared.Context.{Context}
 use Rattle.wf_model.specs.declared.Source.{Source}
 use Rattle.wf_model.specs.Objects.{CoreState}
+use Rattle.wf_model.specs.Outcome.{Outcome}
+use Rattle.wf_model.specs.Composition.{CoreSide, created}
+use Rattle.wf_model.specs.Core.{room}
+use Rattle.wf_words.specs.Refusals.{◌>>=◌}
+use Rattle.wf_calls.specs.Codes.{is_out_of_memory}
+use Rattle.wf_calls.specs.Replies.{refusal}
+use Rattle.wf_calls.specs.declared.code.Code.TheVariants as code
+use Rattle.wf_calls.specs.declared.reply.Refusal.{Refusal}
+use Rattle.wf_objects.specs.Does.{Does, refuses}
+use Rattle.wf_objects.specs.Links.{link_kind, link_live, links, with_links}
+use Rattle.wf_objects.specs.Sides.{is_of_composition, refused_handle, side_of}
+use Rattle.wf_objects.proofs.Fitting.{Housed, KindChanged, contexts_fit, devices_fit, links_fit, links_live, links_show}
 use Rattle.wf_objects.specs.Fits.{ContextFits, Fits, HasElements, Shows, context_live, device_live, element_live, elements_of, has_owner,
-    live, mask_live, of_kind, source_live}
+    live, of_kind}
 use Rattle.wf_words.specs.Each.{each_at, each_more, each_other, each_set}
 use Rattle.wf_words.specs.Places.{map_set}
 use Rattle.wf_objects.proofs.Lookups.{has_by_key, is_named, rises_contexts}
 use Rattle.wf_words.specs.Rising.{Rises, each_replaced, none_over}
-use Rattle.wf_words.specs.Filtered.{more_left, all_more, more_passed, all_other}
+use Rattle.wf_words.specs.Filtered.{count_left, more_left, all_more, more_passed, all_other}
 
 last_under : (low high : ℕ) (ls : List Live) → IsRising low ls high → low ≤ high
 last_under low high [] rising = rising
 last_under low high (l ∷ ls) rising = omega (arith, rising.0, last_under l.handle high ls rising.1)
 
 module _ (core : CoreState) (store : StoreView) (fits : Fits core store) where
+  -- a creation, by its limit and what it leaves of the objects
+  module _ (plain : Bool → CoreSide → Outcome CoreSide) (at_limit : Bool) (grown : CoreState)
+      (is : (m : Bool) → plain m (side_of core store)
+          ≡ (room at_limit m (side_of core store) >>= (λ _. Ok (created grown (side_of core store))))) where
+    pub limited : (at_limit || is_full store.made) ≡ true → Does plain core core store store (Err (refusal code.Limit))
+    limited full = refuses plain core store (refusal code.Limit) fits (is false ∙ rw full refl)
+
+    pub without_memory : (at_limit || is_full store.made) ≡ false → Does plain core core store store (Err (refusal code.OutOfMemory))
+    without_memory free = refuses plain core store (refusal code.OutOfMemory) fits (is true ∙ rw free refl)
+
+    pub without_handle : at_limit ≡ false → (r : Refusal) → Err r ≡ refused_handle store.made (is_out_of_memory r.code)
+        → Does plain core core store store (Err r)
+    without_handle below r stopped =
+        let after : Unit {0} → Outcome CoreSide = λ _. Ok (created grown (side_of core store)) in
+        refuses plain core store r fits
+            (is (is_out_of_memory r.code) ∙ ap (λ b. room b (is_out_of_memory r.code) (side_of core store) >>= after) below
+            ∙ ap (λ (x : Result (Unit {0}) Refusal). x >>= after) (sym stopped))
+
+    pub creates : (k : Kind) (key : ℕ) → same_kind k kind.DisplaySource ≡ false → is_of_composition k ≡ true → at_limit ≡ false
+        → Ok tt ≡ refused_handle store.made false → Fits grown (with_other k key store)
+        → Does plain core grown store (with_other k key store) (Ok (store.made + 1))
+    creates k key other ours below given fit =
+        let new = live k (store.made + 1) key in
+        let after : Unit {0} → Outcome CoreSide = λ _. Ok (created grown (side_of core store)) in
+        let done : ℕ → Outcome CoreSide = λ count. (let left : CoreSide
+            × ℕ = (record { made = store.made + 1; streams = store.streams; core = grown; display_sources = count }, store.made + 1) in
+            Ok left) in
+        record {
+          case = is false ∙ ap (λ b. room b false (side_of core store) >>= after) below
+              ∙ ap (λ (x : Result (Unit {0}) Refusal). x >>= after) (sym given)
+              ∙ ap done (sym (count_left (λ (l : Live). same_kind l.kind kind.DisplaySource) store.others new other));
+          refused = tt;
+          untouched = tt;
+          kept = record { streams = refl; numbered = refl;
+              others = more_left (λ (l : Live). not (is_of_composition l.kind)) store.others new (ap not ours) };
+          fits = fit;
+        }
+
   -- the handle that comes next
   abbrev next : ℕ
   next = store.made + 1
 
-  -- other kinds are as they were
+  -- another handle of a kind
+  made_more : (k : Kind) (key : ℕ) → KindChanged k store next (with_other k key store).others
+  made_more k key =
+      record {
+        rising = rising_more 0 store.made store.others k key fits.handles.rising;
+        other = λ j other. more_left (λ (x : Live). same_kind x.kind j) store.others (live k next key) other;
+      }
 
-  other_kind : (k l : Kind) (key : ℕ) → same_kind k l ≡ false → of_kind l (with_other k key store).others ≡ of_kind l store.others
-  other_kind k l key other = more_left (λ (x : Live). same_kind x.kind l) store.others (live k next key) other
+  -- one that is of no element
+  still_housed : (k : Kind) (key : ℕ) → same_kind k kind.Element ≡ false → Housed core.contexts (with_other k key store).others
+  still_housed k key other =
+      record {
+        elements =
+            each_other (HasElements store.others) (HasElements (with_other k key store).others)
+            (λ c has. more_left (λ (x : Live). same_kind x.kind kind.Element && (x.key == c.handle)) store.others (live k next key)
+                (rw other refl) ∙ has) core.contexts fits.handles.elements;
+        owned = all_more (has_owner core.contexts) store.others (live k next key) fits.handles.owned (rw other refl);
+      }
 
-  elements_stay : (k : Kind) (key : ℕ) → same_kind k kind.Element ≡ false
-      → AllByRecursion (HasElements (with_other k key store).others) core.contexts
-  elements_stay k key other =
-      each_other (HasElements store.others) (HasElements (with_other k key store).others)
-      (λ c has. more_left (λ (x : Live). same_kind x.kind kind.Element && (x.key == c.handle)) store.others (live k next key)
-          (rw other refl) ∙ has) core.contexts fits.handles.elements
-
-  owned_stay : (k : Kind) (key : ℕ) → same_kind k kind.Element ≡ false
-      → list_all (has_owner core.contexts) (with_other k key store).others ≡ true
-  owned_stay k key other = all_more (has_owner core.contexts) store.others (live k next key) fits.handles.owned (rw other refl)
+  -- one more object of a kind
+  of_kind_more : {A : Type 0} (k : Kind) (key : ℕ) (g : A → Live) (x : A) (xs : List A) → same_kind k k ≡ true
+      → of_kind k store.others ≡ map g xs → g x ≡ live k next key → of_kind k (with_other k key store).others ≡ map g (xs ++ x ∷ [])
+  of_kind_more k key g x xs same have is =
+      more_passed (λ (l : Live). same_kind l.kind k) store.others (live k next key) same
+      ∙ ap (λ (ls : List Live). ls ++ live k next key ∷ []) have ∙ ap (λ (l : Live). map g xs ++ l ∷ []) (sym is)
+      ∙ sym (map-append g xs (x ∷ []))
 
   pub device_fits : Fits (record core { devices = core.devices ++ record { handle = next; register = None } ∷ [] })
       (with_other kind.Device 0 store)
   device_fits =
       let new : Device = record { handle = next; register = None } in
-      record {
-        handles =
-            record {
-              rising = rising_more 0 store.made store.others kind.Device 0 fits.handles.rising;
-              devices = more_passed (λ (x : Live). same_kind x.kind kind.Device) store.others (device_live new) refl
-                  ∙ ap (λ (ls : List Live). ls ++ device_live new ∷ []) fits.handles.devices
-                  ∙ sym (map-append device_live core.devices (new ∷ []));
-              contexts = other_kind kind.Device kind.Context 0 refl ∙ fits.handles.contexts;
-              sources = other_kind kind.Device kind.Source 0 refl ∙ fits.handles.sources;
-              masks = other_kind kind.Device kind.Mask 0 refl ∙ fits.handles.masks;
-              elements = elements_stay kind.Device 0 refl;
-              owned = owned_stay kind.Device 0 refl;
-            };
-        streams = record { sources = fits.streams.sources; masks = fits.streams.masks; contexts = fits.streams.contexts };
-      }
+      devices_fit core store fits next (with_other kind.Device 0 store).others (core.devices ++ new ∷ []) (made_more kind.Device 0)
+          (of_kind_more kind.Device 0 device_live new core.devices refl fits.handles.devices refl) (still_housed kind.Device 0 refl)
 
-  pub source_fits : (s : Source) → s.handle ≡ next → Shows false store.streams s
-      → Fits (record core { sources = core.sources ++ s ∷ [] }) (with_other kind.Source s.stream store)
-  source_fits s handle shows =
-      let new : source_live s ≡ live kind.Source next s.stream = ap (λ n. live kind.Source n s.stream) handle in
-      record {
-        handles =
-            record {
-              rising = rising_more 0 store.made store.others kind.Source s.stream fits.handles.rising;
-              devices = other_kind kind.Source kind.Device s.stream refl ∙ fits.handles.devices;
-              contexts = other_kind kind.Source kind.Context s.stream refl ∙ fits.handles.contexts;
-              sources =
-                  more_passed (λ (x : Live). same_kind x.kind kind.Source) store.others (live kind.Source next s.stream) refl
-                  ∙ ap (λ (ls : List Live). ls ++ live kind.Source next s.stream ∷ []) fits.handles.sources
-                      ∙ ap (λ (l : Live). map source_live core.sources ++ l ∷ []) (sym new)
-                      ∙ sym (map-append source_live core.sources (s ∷ []));
-              masks = other_kind kind.Source kind.Mask s.stream refl ∙ fits.handles.masks;
-              elements = elements_stay kind.Source s.stream refl;
-              owned = owned_stay kind.Source s.stream refl;
-            };
-        streams = record { sources = each_more (Shows false store.streams) core.sources s fits.streams.sources shows;
-            masks = fits.streams.masks; contexts = fits.streams.contexts };
-      }
+  pub link_fits : (mask : Bool) (s : Source) → s.handle ≡ next → Shows mask store.streams s
+      → Fits (with_links mask (links mask core ++ s ∷ []) core) (with_other (link_kind mask) s.stream store)
+  link_fits mask s handle shows =
+      links_fit core store fits next (with_other (link_kind mask) s.stream store).others mask (links mask core ++ s ∷ [])
+          (made_more (link_kind mask) s.stream)
+          (of_kind_more (link_kind mask) s.stream (link_live mask) s (links mask core) (same mask) (links_live core store fits.handles mask)
+          (ap (λ n. live (link_kind mask) n s.stream) handle))
+          (still_housed (link_kind mask) s.stream (no_element mask))
+          (each_more (Shows mask store.streams) (links mask core) s (links_show core store.streams fits.streams mask) shows)
+    where
+      same : (b : Bool) → same_kind (link_kind b) (link_kind b) ≡ true
+      same false = refl
+      same true = refl
 
-  pub mask_fits : (s : Source) → s.handle ≡ next → Shows true store.streams s
-      → Fits (record core { masks = core.masks ++ s ∷ [] }) (with_other kind.Mask s.stream store)
-  mask_fits s handle shows =
-      let new : mask_live s ≡ live kind.Mask next s.stream = ap (λ n. live kind.Mask n s.stream) handle in
-      record {
-        handles =
-            record {
-              rising = rising_more 0 store.made store.others kind.Mask s.stream fits.handles.rising;
-              devices = other_kind kind.Mask kind.Device s.stream refl ∙ fits.handles.devices;
-              contexts = other_kind kind.Mask kind.Context s.stream refl ∙ fits.handles.contexts;
-              sources = other_kind kind.Mask kind.Source s.stream refl ∙ fits.handles.sources;
-              masks =
-                  more_passed (λ (x : Live). same_kind x.kind kind.Mask) store.others (live kind.Mask next s.stream) refl
-                  ∙ ap (λ (ls : List Live). ls ++ live kind.Mask next s.stream ∷ []) fits.handles.masks
-                      ∙ ap (λ (l : Live). map mask_live core.masks ++ l ∷ []) (sym new) ∙ sym (map-append mask_live core.masks (s ∷ []));
-              elements = elements_stay kind.Mask s.stream refl;
-              owned = owned_stay kind.Mask s.stream refl;
-            };
-        streams = record { sources = fits.streams.sources;
-            masks = each_more (Shows true store.streams) core.masks s fits.streams.masks shows; contexts = fits.streams.contexts };
-      }
+      no_element : (b : Bool) → same_kind (link_kind b) kind.Element ≡ false
+      no_element false = refl
+      no_element true = refl
 
   -- the next handle is that of no element
   pub fresh : (c : Context) → HasElements store.others c → cached.has_element next c.cached ≡ false
@@ -129,44 +150,34 @@ module _ (core : CoreState) (store : StoreView) (fits : Fits core store) where
       (with_other kind.Element c.handle store)
   element_fits place c at =
       let grown : Context = record c { cached = cached.add next c.cached } in
+      let others = (with_other kind.Element c.handle store).others in
       let new : Live = live kind.Element next c.handle in
       let has = each_at (HasElements store.others) core.contexts place c fits.handles.elements at in
       let more = map-append handle_of c.cached.elements (new_element next ∷ []) in
       let fit = each_at (ContextFits store.streams) core.contexts place c fits.streams.contexts at in
       let named : map (λ (y : Context). y.handle) (set core.contexts place grown) ≡ map (λ (y : Context). y.handle) core.contexts =
           map_set (λ (y : Context). y.handle) core.contexts place c grown at refl in
-      record {
-        handles =
-            record {
-              rising = rising_more 0 store.made store.others kind.Element c.handle fits.handles.rising;
-              devices = other_kind kind.Element kind.Device c.handle refl ∙ fits.handles.devices;
-              contexts = other_kind kind.Element kind.Context c.handle refl ∙ fits.handles.contexts
-                  ∙ sym (map_set context_live core.contexts place c grown at refl);
-              sources = other_kind kind.Element kind.Source c.handle refl ∙ fits.handles.sources;
-              masks = other_kind kind.Element kind.Mask c.handle refl ∙ fits.handles.masks;
-              elements =
-                  each_replaced (λ (y : Context). y.handle) (HasElements store.others)
-                      (HasElements (with_other kind.Element c.handle store).others) 0 core.contexts place c grown
-                      (rises_contexts core store fits.handles) at
-                  (λ z other held. more_left (λ (l : Live). same_kind l.kind kind.Element && (l.key == z.handle)) store.others new
-                      (ne_eqb c.handle z.handle (λ same. other (sym same))) ∙ held) fits.handles.elements
-                  (more_passed (λ (l : Live). same_kind l.kind kind.Element && (l.key == c.handle)) store.others new
-                      (eq-eqb c.handle c.handle refl)
-                  ∙ ap (λ (ls : List Live). ls ++ new ∷ []) has ∙ sym (ap (map (element_live c.handle)) more
-                      ∙ map-append (element_live c.handle) (handles c.cached.elements) (next ∷ [])));
-              owned =
-                  subst (λ (hs : List ℕ). list_all (λ (l : Live). not (same_kind l.kind kind.Element) || is_in l.key hs)
-                      (with_other kind.Element c.handle store).others ≡ true) (sym named)
-                  (all_more (has_owner core.contexts) store.others new fits.handles.owned (stands core.contexts place at));
-            };
-        streams =
-            record {
-              sources = fits.streams.sources;
-              masks = fits.streams.masks;
-              contexts = each_set (ContextFits store.streams) core.contexts place grown fits.streams.contexts
-                  (record { target = fit.target; size = fit.size; layers = fit.layers });
-            };
-      }
+      contexts_fit kind.Element refl refl refl core store fits next others (set core.contexts place grown)
+          (made_more kind.Element c.handle)
+          (more_left (λ (l : Live). same_kind l.kind kind.Context) store.others new refl ∙ fits.handles.contexts
+          ∙ sym (map_set context_live core.contexts place c grown at refl))
+          (record {
+            elements =
+                each_replaced (λ (y : Context). y.handle) (HasElements store.others) (HasElements others) 0 core.contexts place c grown
+                    (rises_contexts core store fits.handles) at
+                (λ z other held. more_left (λ (l : Live). same_kind l.kind kind.Element && (l.key == z.handle)) store.others new
+                    (ne_eqb c.handle z.handle (λ same. other (sym same))) ∙ held) fits.handles.elements
+                (more_passed (λ (l : Live). same_kind l.kind kind.Element && (l.key == c.handle)) store.others new
+                    (eq-eqb c.handle c.handle refl)
+                ∙ ap (λ (ls : List Live). ls ++ new ∷ []) has ∙ sym (ap (map (element_live c.handle)) more
+                    ∙ map-append (element_live c.handle) (handles c.cached.elements) (next ∷ [])));
+            owned =
+                subst (λ (hs : List ℕ). list_all (λ (l : Live). not (same_kind l.kind kind.Element) || is_in l.key hs) others ≡ true)
+                    (sym named)
+                (all_more (has_owner core.contexts) store.others new fits.handles.owned (stands core.contexts place at));
+          })
+          (each_set (ContextFits store.streams) core.contexts place grown fits.streams.contexts
+              (record { target = fit.target; size = fit.size; layers = fit.layers }))
     where
       stands : (cs : List Context) (i : ℕ) → slice_get cs i ≡ Some c → is_in c.handle (map (λ (y : Context). y.handle) cs) ≡ true
       stands [] i here = absurd cc
@@ -233,33 +244,22 @@ module _ (core : CoreState) (store : StoreView) (fits : Fits core store) where
   pub context_fits : (c : Context) → c.handle ≡ next → c.cached.elements ≡ [] → ContextFits store.streams c
       → Fits (record core { contexts = core.contexts ++ c ∷ [] }) (with_other kind.Context c.device store)
   context_fits c handle none fit =
-      let new : context_live c ≡ live kind.Context next c.device = ap (λ n. live kind.Context n c.device) handle in
-      let here : elements_of c.handle (with_other kind.Context c.device store).others ≡ [] =
-      ap (λ n. elements_of n (with_other kind.Context c.device store).others) handle
-      ∙ more_left (λ (l : Live). same_kind l.kind kind.Element && (l.key == next)) store.others (live kind.Context next c.device) refl
+      let others = (with_other kind.Context c.device store).others in
+      let housed = still_housed kind.Context c.device refl in
+      let here : elements_of c.handle others ≡ [] =
+          ap (λ n. elements_of n others) handle
+          ∙ more_left (λ (l : Live). same_kind l.kind kind.Element && (l.key == next)) store.others (live kind.Context next c.device) refl
           ∙ unowned store.others fits.handles.owned in
       let handles_none : map (element_live c.handle) (handles c.cached.elements) ≡ [] =
           ap (λ es. map (element_live c.handle) (handles es)) none in
-      record {
-        handles =
-            record {
-              rising = rising_more 0 store.made store.others kind.Context c.device fits.handles.rising;
-              devices = other_kind kind.Context kind.Device c.device refl ∙ fits.handles.devices;
-              contexts =
-                  more_passed (λ (x : Live). same_kind x.kind kind.Context) store.others (live kind.Context next c.device) refl
-                  ∙ ap (λ (ls : List Live). ls ++ live kind.Context next c.device ∷ []) fits.handles.contexts
-                      ∙ ap (λ (l : Live). map context_live core.contexts ++ l ∷ []) (sym new)
-                      ∙ sym (map-append context_live core.contexts (c ∷ []));
-              sources = other_kind kind.Context kind.Source c.device refl ∙ fits.handles.sources;
-              masks = other_kind kind.Context kind.Mask c.device refl ∙ fits.handles.masks;
-              elements = each_more (HasElements (with_other kind.Context c.device store).others) core.contexts c
-                  (elements_stay kind.Context c.device refl) (here ∙ sym handles_none);
-              owned = all_other (has_owner core.contexts) (has_owner (core.contexts ++ c ∷ [])) wider
-                  (with_other kind.Context c.device store).others (owned_stay kind.Context c.device refl);
-            };
-        streams = record { sources = fits.streams.sources; masks = fits.streams.masks;
-            contexts = each_more (ContextFits store.streams) core.contexts c fits.streams.contexts fit };
-      }
+      contexts_fit kind.Context refl refl refl core store fits next others (core.contexts ++ c ∷ []) (made_more kind.Context c.device)
+          (of_kind_more kind.Context c.device context_live c core.contexts refl fits.handles.contexts
+          (ap (λ n. live kind.Context n c.device) handle))
+          (record {
+            elements = each_more (HasElements others) core.contexts c housed.elements (here ∙ sym handles_none);
+            owned = all_other (has_owner core.contexts) (has_owner (core.contexts ++ c ∷ [])) wider others housed.owned;
+          })
+          (each_more (ContextFits store.streams) core.contexts c fits.streams.contexts fit)
     where
       in_wider : (n : ℕ) (cs : List Context) → is_in n (map (λ (y : Context). y.handle) cs) ≡ true
           → is_in n (map (λ (y : Context). y.handle) (cs ++ c ∷ [])) ≡ true

@@ -1,81 +1,71 @@
 -- The context at a place that was found is the one that the call names.
-use Rattle.std.proofs.Common.{◌≡◌, ℕ, ◌<◌, length, true, ◌&&◌, ◌==◌, List, find, slice_get, slice_index_or, Option, Some, None, Result, Ok,
-    Err, refl, sym, ap, ◌∙◌}
+use Rattle.std.proofs.Common.{◌≡◌, ℕ, ◌<◌, length, true, false, ◌&&◌, ◌||◌, ◌==◌, is_some, List, find, slice_get, slice_index_or, option_and_then, Option, Some,
+    None, IfSome, Result, Ok, Err, refl, sym, ap, ◌∙◌}
 use Rattle.std.proofs.lemmas.Bool.{and_parts, eqb-true}
 use Rattle.std.proofs.lemmas.Option.{slice_get_read}
+use Rattle.std.specs.Option.{ok_or}
+use Rattle.std.specs.List.{list_any}
+use Rattle.wf_model.specs.Core.{is_element_or_0}
+use Rattle.wf_words.specs.Found.{any_found, passes}
+use Rattle.wf_words.specs.Places.{within}
 use Rattle.wf_words.specs.Refusals.{◌>>=◌}
 use Rattle.wf_stream.specs.Streams.{StoreView}
 use Rattle.wf_scene.specs.Cached.{has_element}
+use Rattle.wf_calls.specs.Replies.{refusal}
 use Rattle.wf_calls.specs.declared.reply.Refusal.{Refusal}
 use Rattle.wf_calls.specs.declared.code.Code.TheVariants as code
-use Rattle.wf_words.specs.Keyed.{at_key}
 use Rattle.wf_model.specs.declared.Context.{Context}
-use Rattle.wf_model.specs.declared.Device.{Device}
 use Rattle.wf_model.specs.Objects.{CoreState}
-use Rattle.wf_model.specs.Outcome.{Outcome, found}
-use Rattle.wf_model.specs.Composition.{CoreSide, device, context}
+use Rattle.wf_model.specs.Outcome.{found}
+use Rattle.wf_model.specs.Composition.{CoreSide, device}
 use Rattle.wf_objects.specs.Sides.{side_of}
-use Rattle.wf_objects.specs.Owners.{at_place, of_device, owned_context, owning_context}
-use Rattle.wf_words.specs.Found.{passes}
-use Rattle.wf_words.specs.Places.{within}
+use Rattle.wf_objects.specs.Owners.{LivesAt, StandsAt, at_place, of_element, owned_context, owning_context}
 
--- steps one after another, joined otherwise
-pub joined : {A B C E : Type 0} (m : Result A E) (f : A → Result B E) (k : B → Result C E) → (m >>= (λ x. f x >>= k)) ≡ ((m >>= f) >>= k)
-joined (Ok x) f k = refl
-joined (Err e) f k = refl
-
--- the context at a place that was found
-pub owned : (d h place : ℕ) (core : CoreState) (store : StoreView) (c : Context)
-    → at_place (Ok place) core.contexts ≡ owned_context d h (side_of core store) → slice_get core.contexts place ≡ Some c
-    → owned_context d h (side_of core store) ≡ Ok c
-owned d h place core store c is at = sym is ∙ ap (found code.BadHandle) at
-
-pub owning : (d e place : ℕ) (core : CoreState) (store : StoreView) (c : Context)
-    → at_place (Ok place) core.contexts ≡ owning_context d e (side_of core store) → slice_get core.contexts place ≡ Some c
-    → owning_context d e (side_of core store) ≡ Ok c
-owning d e place core store c is at = sym is ∙ ap (found code.BadHandle) at
+-- what stands at a place, or a bad handle
+pub placed_or : {A : Type 0} (o : Option ℕ) (xs : List A)
+    → at_place (ok_or o (refusal code.BadHandle)) xs ≡ found code.BadHandle (option_and_then (slice_get xs) o)
+placed_or None xs = refl
+placed_or (Some place) xs = refl
 
 found_is : {A : Type 0} (o : Option A) (x : A) → found code.BadHandle o ≡ Ok x → o ≡ Some x
 found_is None x is = absurd cc
 found_is (Some y) x is = cc
-
--- it has the handle and the device that the call names
 
 behind_device : {A : Type 0} {B : Type 0} (m : Result B Refusal) (o : Option A) (x : A) → (m >>= (λ _. found code.BadHandle o)) ≡ Ok x
     → o ≡ Some x
 behind_device (Ok y) o x is = found_is o x is
 behind_device (Err e) o x is = absurd cc
 
-pub owned_parts : (d h : ℕ) (w : CoreSide) (c : Context) → owned_context d h w ≡ Ok c → (c.handle ≡ h) × (c.device ≡ d)
-owned_parts d h w c is =
-    let at = behind_device (device d w) (find (λ (x : Context). (x.handle == h) && (x.device == d)) w.core.contexts) c is in
-    let parts = and_parts (c.handle == h) (c.device == d)
-        (passes (λ (x : Context). (x.handle == h) && (x.device == d)) w.core.contexts c at) in
-    (eqb-true c.handle h parts.0, eqb-true c.device d parts.1)
+module _ (d : ℕ) (w : CoreSide) (c : Context) where
+  -- it has the handle that the call names
+  owned_handle : (h : ℕ) → owned_context d h w ≡ Ok c → c.handle ≡ h
+  owned_handle h is =
+      let test : Context → _ = λ (x : Context). (x.handle == h) && (x.device == d) in
+      let at = behind_device (device d w) (find test w.core.contexts) c is in
+      eqb-true c.handle h (and_parts (c.handle == h) (c.device == d) (passes test w.core.contexts c at)).0
 
-pub owning_parts : (d e : ℕ) (w : CoreSide) (c : Context) → owning_context d e w ≡ Ok c → (c.device ≡ d) × (has_element e c.cached ≡ true)
-owning_parts d e w c is =
-    let at = behind_device (device d w) (find (λ (x : Context). (x.device == d) && has_element e x.cached) w.core.contexts) c is in
-    let parts = and_parts (c.device == d) (has_element e c.cached)
-        (passes (λ (x : Context). (x.device == d) && has_element e x.cached) w.core.contexts c at) in
-    (eqb-true c.device d parts.0, parts.1)
+  -- the element lives in it
+  owning_has : (e : ℕ) → owning_context d e w ≡ Ok c → has_element e c.cached ≡ true
+  owning_has e is =
+      let test : Context → _ = λ (x : Context). (x.device == d) && has_element e x.cached in
+      let at = behind_device (device d w) (find test w.core.contexts) c is in
+      (and_parts (c.device == d) (has_element e c.cached) (passes test w.core.contexts c at)).1
 
--- the live device and its context
-pub both : (d h : ℕ) (w : CoreSide) (c : Context) → owned_context d h w ≡ Ok c
-    → (x : Device) × (at_key (λ (x : Device). x.handle) d w.core.devices ≡ Some x) × (of_device d h w.core.contexts ≡ Some c)
-both d h w c is = of_device_found (at_key (λ (x : Device). x.handle) d w.core.devices) refl is
-  where
-    of_device_found : (o : Option Device) → at_key (λ (x : Device). x.handle) d w.core.devices ≡ o
-        → (found code.BadDevice o >>= (λ _. context d h w)) ≡ Ok c
-        → (x : Device) × (at_key (λ (x : Device). x.handle) d w.core.devices ≡ Some x) × (of_device d h w.core.contexts ≡ Some c)
-    of_device_found None at same = absurd cc
-    of_device_found (Some x) at same = (x, at, found_is (of_device d h w.core.contexts) c same)
+module _ (d place : ℕ) (core : CoreState) (store : StoreView) where
+  pub owned_here : (h : ℕ) → at_place (Ok place) core.contexts ≡ owned_context d h (side_of core store) → StandsAt h place core
+  owned_here h = of_context (slice_get core.contexts place)
+    where
+      of_context : (o : Option Context) → found code.BadHandle o ≡ owned_context d h (side_of core store) → IfSome o (λ c. c.handle ≡ h)
+      of_context None is = tt
+      of_context (Some c) is = owned_handle d (side_of core store) c h (sym is)
 
--- a place that was found tells that there is such a context
-pub some_owned : (d h place : ℕ) (core : CoreState) (store : StoreView)
-    → at_place (Ok place) core.contexts ≡ owned_context d h (side_of core store) → place < length core.contexts
-    → (c : Context) × (owned_context d h (side_of core store) ≡ Ok c)
-some_owned d h place core store is less = let x = within core.contexts place less in (x.0, owned d h place core store x.0 is x.1)
+  pub owning_lives : (e : ℕ) → at_place (Ok place) core.contexts ≡ owning_context d e (side_of core store) → LivesAt e place core
+  owning_lives e = of_context (slice_get core.contexts place)
+    where
+      of_context : (o : Option Context) → found code.BadHandle o ≡ owning_context d e (side_of core store)
+          → IfSome o (λ c. has_element e c.cached ≡ true)
+      of_context None is = tt
+      of_context (Some c) is = owning_has d (side_of core store) c e (sym is)
 
 -- the context that is read at a place
 pub standing : (view core : CoreState) (place : ℕ) (x : Context) → view ≡ core → place < length core.contexts
@@ -84,7 +74,15 @@ standing view core place x is less read =
     slice_get_read core.contexts (length core.contexts) place x refl less (read
         ∙ ap (λ (cs : List Context). slice_index_or cs place x) (ap (λ (k : CoreState). k.contexts) is))
 
--- a call that goes on in the context that it names
-pub in_owned : (d h : ℕ) (w : CoreSide) (c : Context) (after : Context → Outcome CoreSide) → owned_context d h w ≡ Ok c
-    → (device d w >>= (λ _. context d h w >>= after)) ≡ after c
-in_owned d h w c after own = joined (device d w) (λ _. context d h w) after ∙ ap (λ (m : Result Context Refusal). m >>= after) own
+-- a handle is 0 or that of an element, by the place that was found
+pub any_element : (d h : ℕ) (w : CoreSide) (o : Option ℕ) → (h == 0) ≡ false
+    → option_and_then (slice_get w.core.contexts) o ≡ of_element d h w.core.contexts → IfSome o (λ place. place < length w.core.contexts)
+    → is_some o ≡ is_element_or_0 d h w
+any_element d h w o other found less =
+    of_place o less ∙ ap is_some found ∙ sym (any_found (λ (c : Context). (c.device == d) && has_element h c.cached) w.core.contexts)
+    ∙ sym (ap (λ b. b || list_any (λ (c : Context). (c.device == d) && has_element h c.cached) w.core.contexts) other)
+  where
+    of_place : (p : Option ℕ) → IfSome p (λ place. place < length w.core.contexts)
+        → is_some p ≡ is_some (option_and_then (slice_get w.core.contexts) p)
+    of_place None within-is = refl
+    of_place (Some place) within-is = (let x = within w.core.contexts place within-is in ap is_some (sym x.1))

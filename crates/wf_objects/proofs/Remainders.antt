@@ -9,7 +9,9 @@ use Rattle.wf_model.specs.Objects.{CoreState}
 use Rattle.wf_model.specs.declared.Context.{Context}
 use Rattle.wf_model.specs.Composition.{change_context, is_of_device, with_cached}
 use Rattle.wf_model.specs.Core.{without_source, without_those_of, without_context}
-use Rattle.wf_objects.specs.Fits.{Fits, mask_live, source_live, HasElements, element_live, elements_of}
+use Rattle.wf_objects.specs.Fits.{Fits, HandlesFit, HasElements, element_live, elements_of}
+use Rattle.wf_objects.specs.Links.{link_kind, link_live, links, with_links}
+use Rattle.wf_objects.proofs.Fitting.{links_live}
 use Rattle.wf_objects.specs.Losses.{but_context, but_contexts_of}
 use Rattle.wf_words.specs.Filtered.{none_out, shorter, all_kept, any_left, filter_twice}
 use Rattle.wf_words.specs.Rising.{one_fewer, Rises, found_above}
@@ -23,7 +25,7 @@ use Rattle.std.proofs.lemmas.Bool.Decides.{nat_tests}
 use Rattle.wf_scene.specs.declared.element.Element.{Element}
 use Rattle.wf_scene.specs.Cached as cached
 use Rattle.wf_scene.specs.Cached.{handle_of, handles}
-use Rattle.wf_objects.proofs.Dropping.{and_false, and_true}
+use Rattle.wf_objects.proofs.Dropped.{and_false, and_true}
 use Rattle.wf_objects.proofs.Scenes.{placed_is}
 
 -- the handle of the first source or mask of a context
@@ -70,12 +72,24 @@ module _ (context handle : ℕ) (sources : List Source) (rises : Rises (λ (s : 
   pub fewer : length (without_source handle sources) < length sources
   fewer = shorter (λ (s : Source). s.handle == handle) sources first.source by_handle
 
-module _ (core : CoreState) (store : StoreView) (fits : Fits core store) where
-  pub rises_sources : Rises (λ (s : Source). s.handle) 0 core.sources
-  rises_sources = rises_kind kind.Source source_live core.sources store.others store.made fits.handles.rising fits.handles.sources
+pub rises_links : (core : CoreState) (store : StoreView) → HandlesFit core store → (mask : Bool)
+    → Rises (λ (s : Source). s.handle) 0 (links mask core)
+rises_links core store fits mask = rises_kind (link_kind mask) (link_live mask) (links mask core) store.others store.made fits.rising
+    (links_live core store fits mask)
 
-  pub rises_masks : Rises (λ (s : Source). s.handle) 0 core.masks
-  rises_masks = rises_kind kind.Mask mask_live core.masks store.others store.made fits.handles.rising fits.handles.masks
+-- the links of a kind, replaced
+
+pub links_with : (mask : Bool) (xs : List Source) (core : CoreState) → links mask (with_links mask xs core) ≡ xs
+links_with false xs core = refl
+links_with true xs core = refl
+
+pub with_twice : (mask : Bool) (xs ys : List Source) (core : CoreState) → with_links mask ys (with_links mask xs core) ≡ with_links mask ys core
+with_twice false xs ys core = refl
+with_twice true xs ys core = refl
+
+pub with_own : (mask : Bool) (core : CoreState) → with_links mask (links mask core) core ≡ core
+with_own false core = refl
+with_own true core = refl
 
 -- elements
 

@@ -3,7 +3,8 @@ use Rattle.std.specs.Prelude.{ℕ, Bool, true, false, List}
 use Rattle.wf_life.specs.declared.Kind.{Kind}
 use Rattle.wf_life.specs.declared.Kind.TheVariants as kind
 use Rattle.wf_life.specs.Handles.{Live}
-use Rattle.wf_model.specs.Objects.{CoreState, Source}
+use Rattle.wf_model.specs.declared.Source.{Source}
+use Rattle.wf_model.specs.Objects.{CoreState}
 
 -- the kind of a link that is a source, or a mask
 abbrev pub link_kind : Bool → Kind

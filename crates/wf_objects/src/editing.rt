@@ -1,12 +1,11 @@
 //! Changes of the context at a place.
 
 ghost use Rattle.std.specs.Prelude.{◌≡◌, ◌<◌, ◌+◌, length, slice_get, Ok, IfSome, IsTrue};
-ghost use Rattle.wf_words.specs.Refusals.{◌>>=◌};
 ghost use Rattle.wf_calls.specs.Replies.{refusal};
 ghost use Rattle.wf_scene.specs.Cached as cached;
 ghost use Rattle.wf_scene.specs.Elements.{may_take};
 ghost use Rattle.wf_model.specs.Core.{by_scene, refusal_code, with_active, with_committed};
-ghost use Rattle.wf_objects.specs.Does.{Does, changed_in_place, set_in_place, set_linked};
+ghost use Rattle.wf_objects.specs.Does.{Does, changed, edited_by, element_set, in_place, scene_set};
 ghost use Rattle.wf_objects.specs.Fits.{ContextFits, Fits};
 ghost use Rattle.wf_objects.specs.Owners.{LivesAt};
 
@@ -38,7 +37,7 @@ pub fn by_scene(done: Result<u32, Refused>) -> Result<u32, Refusal>
 
 /// 0, where a cached scene was changed, or its refusal.
 fn edited(done: Result<(), Refused>) -> Result<u32, Refusal>
-    ensures { result ≡ (by_scene done >>= (λ _. Ok 0)) }
+    ensures { result ≡ edited_by done }
 {
     match done {
         Ok(()) => Ok(0),
@@ -51,7 +50,7 @@ impl Objects {
     pub fn set_active(&mut self, store: &Store, place: usize, active: bool)
         requires fits { Fits self.old store.now }
         requires within { place < length self.old.contexts }
-        ensures { Does (changed_in_place place (with_active active)) self.old self.new store.now store.now (Ok 0) }
+        ensures { Does (in_place place (changed (with_active active))) self.old self.new store.now store.now (Ok 0) }
     {
         self.contexts[place].active = active;
     }
@@ -61,7 +60,7 @@ impl Objects {
         requires fits { Fits self.old store.now }
         requires within { place < length self.old.contexts }
         requires scene_fits { IfSome (slice_get self.old.contexts place) (λ c. ContextFits store.now.streams (with_committed scene c)) }
-        ensures { Does (changed_in_place place (with_committed scene)) self.old self.new store.now store.now (Ok 0) }
+        ensures { Does (in_place place (changed (with_committed scene))) self.old self.new store.now store.now (Ok 0) }
     {
         self.contexts[place].committed = scene;
     }
@@ -76,7 +75,7 @@ impl Objects {
     ) -> Result<u32, Refusal>
         requires fits { Fits self.old store.now }
         requires within { place < length self.old.contexts }
-        ensures { Does (set_in_place place (cached.set_context attr value)) self.old self.new store.now store.now result }
+        ensures { Does (in_place place (scene_set (cached.set_context attr value))) self.old self.new store.now store.now result }
     {
         edited(self.contexts[place].cached.set_context(attr, value))
     }
@@ -95,7 +94,7 @@ impl Objects {
         requires fits { Fits self.old store.now }
         requires within { place < length self.old.contexts }
         requires lives { LivesAt element place self.old }
-        ensures { Does (set_linked place device element attr value) self.old self.new store.now store.now result }
+        ensures { Does (in_place place (element_set device element attr value)) self.old self.new store.now store.now result }
     {
         let owner = self.contexts[place].handle;
         self.check_link(store, device, owner, attr, value)?;
@@ -114,7 +113,7 @@ impl Objects {
         requires fits { Fits self.old store.now }
         requires within { place < length self.old.contexts }
         requires lives { LivesAt element place self.old }
-        ensures { Does (set_in_place place (cached.insert element below)) self.old self.new store.now store.now result }
+        ensures { Does (in_place place (scene_set (cached.insert element below))) self.old self.new store.now store.now result }
     {
         edited(self.contexts[place].cached.insert(element, below))
     }
@@ -125,7 +124,7 @@ impl Objects {
         requires fits { Fits self.old store.now }
         requires within { place < length self.old.contexts }
         requires lives { LivesAt element place self.old }
-        ensures { Does (set_in_place place (cached.remove element)) self.old self.new store.now store.now result }
+        ensures { Does (in_place place (scene_set (cached.remove element))) self.old self.new store.now store.now result }
     {
         edited(self.contexts[place].cached.remove(element))
     }

@@ -4,7 +4,7 @@ ghost use Rattle.std.specs.Prelude.{◌≡◌, ◌+◌, ◌<◌, ◌++◌, ◌�
 ghost use Rattle.wf_pixel.specs.Choice.{is_a8};
 ghost use Rattle.wf_stream.specs.Streams.{buffers_at, is_stream, with_other};
 ghost use Rattle.wf_model.specs.Core.{blank_scene, device_new, sources_full};
-ghost use Rattle.wf_objects.specs.Does.{Does, context_made, element_in_place, link_made};
+ghost use Rattle.wf_objects.specs.Does.{Does, context_made, element_made, in_place, link_made};
 ghost use Rattle.wf_objects.specs.Fits.{Fits};
 ghost use Rattle.wf_objects.specs.Links.{link_kind, links, with_links};
 ghost use Rattle.wf_objects.specs.Sides.{lacks_memory, refused_handle, side_of, without_value};
@@ -156,7 +156,7 @@ impl Objects {
     pub fn add_element(&mut self, store: &mut Store, place: usize) -> Result<u32, Refusal>
         requires fits { Fits self.old store.old }
         requires within { place < length self.old.contexts }
-        ensures { Does (element_in_place place) self.old self.new store.old store.new result }
+        ensures { Does (in_place place element_made) self.old self.new store.old store.new result }
     {
         if self.contexts[place].cached.count() >= MOST_ELEMENTS {
             return Err(Refusal::of(Code::Limit));

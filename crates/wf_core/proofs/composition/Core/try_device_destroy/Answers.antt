@@ -2,7 +2,7 @@ use Rattle.std.proofs.Common.{◌∙◌, ◌==◌, not, filter, sym, ap, Err}
 use Rattle.wf_model.specs.declared.Device.{Device}
 use Rattle.wf_model.specs.Objects.{CoreState}
 use Rattle.wf_core.proofs.Destroying.{bad_device, device_destroyed, device_lives}
-use Rattle.wf_objects.proofs.Dropping.{then_lost}
+use Rattle.wf_objects.proofs.Dropped.{then_lost}
 use Rattle.wf_core.proofs.composition.Core.try_device_destroy.Goals as goal
 
 pub returns-in_default-clause-case : goal.returns-in_default-clause-case

@@ -9,7 +9,7 @@ use Rattle.wf_core.proofs.ElementCalls.{element_made}
 use Rattle.wf_words.specs.Each.{each_at}
 use Rattle.wf_objects.proofs.Makings.{element_fits, fresh}
 use Rattle.wf_objects.proofs.Owners.{owned, owned_parts, standing}
-use Rattle.wf_objects.proofs.Seeing.{not_full}
+use Rattle.wf_core.proofs.Seeing.{not_full}
 use Rattle.wf_core.proofs.composition.Core.try_element_new.Goals as goal
 
 pub add-requires-clause-fresh : goal.add-requires-clause-fresh

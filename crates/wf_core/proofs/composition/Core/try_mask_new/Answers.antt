@@ -2,7 +2,7 @@ use Rattle.std.proofs.Common.{◌≡◌, ◌∙◌, sym, refl, true}
 use Rattle.wf_pixel.specs.Choice.{is_a8}
 use Rattle.wf_objects.proofs.Makings.{mask_fits}
 use Rattle.wf_objects.proofs.Owners.{some_owned}
-use Rattle.wf_objects.proofs.Seeing.{mask_made, not_full, shows}
+use Rattle.wf_core.proofs.Seeing.{mask_made, not_full, shows}
 use Rattle.wf_core.proofs.composition.Core.try_mask_new.Goals as goal
 
 -- the format of the stream

@@ -2,7 +2,7 @@ use Rattle.std.proofs.Common.{◌≡◌, ◌∙◌, sym, refl, false}
 use Rattle.wf_pixel.specs.Choice.{is_a8}
 use Rattle.wf_objects.proofs.Makings.{source_fits}
 use Rattle.wf_objects.proofs.Owners.{some_owned}
-use Rattle.wf_objects.proofs.Seeing.{source_made, not_full, shows}
+use Rattle.wf_core.proofs.Seeing.{source_made, not_full, shows}
 use Rattle.wf_core.proofs.composition.Core.try_source_new.Goals as goal
 
 -- the format of the stream

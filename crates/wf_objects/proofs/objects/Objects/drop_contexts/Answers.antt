@@ -1,7 +1,7 @@
 use Rattle.std.proofs.Common.{◌≡◌, ◌∙◌, ◌<◌, ◌==◌, find, length, option_and_then, position, slice_get, Some, refl, sym, ap}
 use Rattle.wf_model.specs.declared.Context.{Context}
 use Rattle.wf_objects.specs.Losses.{but_contexts_of}
-use Rattle.wf_objects.proofs.Dropping.{then_lost}
+use Rattle.wf_objects.proofs.Dropped.{then_lost}
 use Rattle.wf_objects.proofs.Owners.{standing}
 use Rattle.wf_objects.proofs.Remainders.{contexts_fewer, no_contexts, one_context_fewer}
 use Rattle.wf_words.specs.Found.{get_position}

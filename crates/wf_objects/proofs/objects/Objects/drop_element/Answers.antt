@@ -2,7 +2,7 @@ use Rattle.std.proofs.Common.{◌≡◌, ◌∙◌, refl, sym, slice_get, Some, 
 use Rattle.wf_life.specs.declared.Kind.TheVariants as kind
 use Rattle.wf_scene.specs.Cached.{forget, has_element}
 use Rattle.wf_model.specs.Composition.{with_cached}
-use Rattle.wf_objects.proofs.Dropping.{InContext, element_dropped, element_under, lives, loses}
+use Rattle.wf_objects.proofs.Dropped.{InContext, element_dropped, element_under, lives, loses}
 use Rattle.wf_objects.proofs.Owners.{standing}
 use Rattle.wf_words.specs.Places.{within}
 use Rattle.wf_objects.proofs.Scenes.{placed_is}
@@ -13,7 +13,7 @@ pub drop_handle-requires : goal.drop_handle-requires
 drop_handle-requires c =
     let a = c.args in
     let x = within a.self.now.contexts a.place c.requires.within in
-    let has = rw x.1 at c.requires.live in
+    let has = rw x.1 at c.requires.lives in
     lives a.element kind.Element a.store.now.others (element_under a.self.now a.store.now c.requires.fits a.element a.place x.0 x.1 has).0
 
 -- the context at the place
@@ -22,7 +22,7 @@ at c = standing _ c.args.self.now c.args.place c.index_mut.result.now c.self.vie
 
 -- the element lives in it
 here : (c : After-index_mut) → has_element c.args.element c.index_mut.result.now.cached ≡ true
-here c = let there = at c in rw there at c.requires.live
+here c = let there = at c in rw there at c.requires.lives
 
 under : (c : After-index_mut)
     → InContext c.args.self.now c.args.store.now c.requires.fits c.args.element c.args.place c.index_mut.result.now (at c)

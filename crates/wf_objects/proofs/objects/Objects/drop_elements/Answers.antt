@@ -3,7 +3,7 @@ use Rattle.wf_scene.specs.declared.element.Element.{Element}
 use Rattle.wf_scene.specs.Cached.{forget}
 use Rattle.wf_model.specs.declared.Context.{Context}
 use Rattle.wf_model.specs.Composition.{change_context, with_cached}
-use Rattle.wf_objects.proofs.Dropping.{then_lost}
+use Rattle.wf_objects.proofs.Dropped.{then_lost}
 use Rattle.wf_words.specs.Found.{any_at, any_found}
 use Rattle.wf_objects.proofs.Owners.{standing}
 use Rattle.wf_objects.proofs.Remainders.{element_first, element_none, emptied, fewer_elements, others_stay, still_stands}
@@ -19,10 +19,10 @@ handle : (c : After-first) → c.index.result.now.handle ≡ c.args.context
 handle c = let s = c.loop-element.invariant.here in let same : c.index.result.now ≡ s.context = let both = sym (at c) ∙ s.at in cc in
     ap (λ (x : Context). x.handle) same ∙ s.handle_is
 
-pub drop_element-requires-clause-live : goal.drop_element-requires-clause-live
-drop_element-requires-clause-live c =
+pub drop_element-requires-clause-lives : goal.drop_element-requires-clause-lives
+drop_element-requires-clause-lives c =
     let es = c.index.result.now.cached.elements in
-    let there = at (goal.at.drop_element-requires-clause-live c).After-first in
+    let there = at (goal.at.drop_element-requires-clause-lives c).After-first in
     let x = element_first c.in-Some.element es (sym c.in-Some.is ∙ c.first.ensures.first) in
     rw there (any_found (λ (y : Element). y.handle == c.in-Some.element) es ∙ ap is_some x.1)
 

@@ -1,6 +1,6 @@
 use Rattle.std.proofs.Common.{◌∙◌, ne_eqb}
 use Rattle.wf_objects.specs.Sides.{side_of}
-use Rattle.wf_objects.proofs.ElementCalls.{any_element}
+use Rattle.wf_objects.proofs.Owners.{any_element}
 use Rattle.wf_objects.proofs.objects.Objects.is_element_or_0.Goals as goal
 
 pub returns-else-handle-eq0 : goal.returns-else-handle-eq0

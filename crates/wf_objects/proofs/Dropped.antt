@@ -15,10 +15,12 @@ use Rattle.wf_model.specs.declared.Source.{Source}
 use Rattle.wf_model.specs.Objects.{CoreState}
 use Rattle.wf_model.specs.declared.Device.{Device}
 use Rattle.wf_model.specs.Core.{without_source}
-use Rattle.wf_objects.specs.Fits.{ContextFits, Fits, HandlesFit, HasElements, Shows, context_live, element_live, has_owner, mask_live,
-    of_kind, source_live, device_live, elements_of}
+use Rattle.wf_objects.specs.Fits.{ContextFits, Fits, HandlesFit, HasElements, Shows, context_live, element_live, has_owner, of_kind,
+    device_live, elements_of}
+use Rattle.wf_objects.specs.Links.{link_kind, link_live, links, with_links}
+use Rattle.wf_objects.proofs.Fitting.{Housed, KindChanged, contexts_fit, devices_fit, links_fit, links_live, links_show}
 use Rattle.wf_objects.specs.Losses.{Loses, but_context}
-use Rattle.wf_objects.specs.Sides.{KeepsRest, is_of_composition, side_of}
+use Rattle.wf_objects.specs.Sides.{is_of_composition}
 use Rattle.wf_words.specs.Filtered.{all_filtered, filter_mapped, any_left}
 use Rattle.wf_objects.proofs.Leaving.{count_stays, left_out, taken_out}
 use Rattle.wf_words.specs.Each.{each_filtered, each_at, each_other, each_set}
@@ -82,6 +84,11 @@ object_under k g h made xs others rising is any = of_found (find (λ x. (x.handl
     of_found None at there = absurd cc
     of_found (Some l) at there = under h k made others l rising at
 
+-- a link is no element
+no_element : (mask : Bool) → same_kind (link_kind mask) kind.Element ≡ false
+no_element false = refl
+no_element true = refl
+
 -- what is under a handle lives
 pub lives : (h : ℕ) (k : Kind) (others : List Live) → IsUnder h k others → is_live h others ≡ true
 lives h k others u = any_found (λ (l : Live). l.handle == h) others ∙ ap is_some u.found
@@ -119,18 +126,7 @@ module _ (core : CoreState) (store : StoreView) (fits : HandlesFit core store) (
             ∙ other);
       }
 
--- what a call sees of a store that lost handles
-pub side_left : (core : CoreState) (old new : StoreView) → Loses old new → side_of core new ≡ side_of core old
-side_left core old new lost =
-    ap (λ (v : StoreView). record { made = v.made; streams = v.streams; core = core;
-        display_sources = live_count kind.DisplaySource new.others }) lost.rest
-    ∙ ap (λ n. record { made = old.made; streams = old.streams; core = core; display_sources = n }) lost.display
-
-pub kept_rest : (old new : StoreView) → Loses old new → KeepsRest old new
-kept_rest old new lost =
-    record { streams = ap (λ (v : StoreView). v.streams) lost.rest; numbered = ap (λ (v : StoreView). v.numbered) lost.rest;
-        others = lost.others }
-
+-- losses one after another
 pub none_lost : (v : StoreView) → Loses v v
 none_lost v = record { rest = refl; others = refl; display = refl }
 
@@ -139,48 +135,32 @@ then_lost a b c first second = record { rest = second.rest ∙ first.rest; other
     display = second.display ∙ first.display }
 
 module _ (core : CoreState) (store : StoreView) (fits : Fits core store) (h : ℕ) where
-  pub source_under : list_any (λ s. s.handle == h) core.sources ≡ true → IsUnder h kind.Source store.others
-  source_under any = object_under kind.Source source_live h store.made core.sources store.others fits.handles.rising fits.handles.sources
-      any
+  -- a handle of a kind that dies
+  died : (k : Kind) → IsUnder h k store.others → KindChanged k store store.made (without h store.others)
+  died k u = record { rising = rising_without h 0 store.made store.others fits.handles.rising; other = other_kind core store fits.handles h k u }
 
-  pub mask_under : list_any (λ s. s.handle == h) core.masks ≡ true → IsUnder h kind.Mask store.others
-  mask_under any = object_under kind.Mask mask_live h store.made core.masks store.others fits.handles.rising fits.handles.masks any
+  -- one that is of no element
+  still_housed : (k : Kind) (u : IsUnder h k store.others) → same_kind k kind.Element ≡ false
+      → Housed core.contexts (without h store.others)
+  still_housed k u other = record { elements = elements_stay core store fits.handles h k u other; owned = owned_stay core store fits.handles h k u }
 
-  pub source_dropped : IsUnder h kind.Source store.others → Fits (record core { sources = without_source h core.sources }) (dead h store)
-  source_dropped u =
-      record {
-        handles =
-            record {
-              rising = rising_without h 0 store.made store.others fits.handles.rising;
-              devices = other_kind core store fits.handles h kind.Source u kind.Device refl ∙ fits.handles.devices;
-              contexts = other_kind core store fits.handles h kind.Source u kind.Context refl ∙ fits.handles.contexts;
-              sources = taken_out (λ (l : Live). same_kind l.kind kind.Source) source_live h core.sources store.others fits.handles.sources;
-              masks = other_kind core store fits.handles h kind.Source u kind.Mask refl ∙ fits.handles.masks;
-              elements = elements_stay core store fits.handles h kind.Source u refl;
-              owned = owned_stay core store fits.handles h kind.Source u;
-            };
-        streams =
-            record { sources = each_filtered (Shows false store.streams) (λ (s : Source). not (s.handle == h)) core.sources
-            fits.streams.sources; masks = fits.streams.masks; contexts = fits.streams.contexts };
-      }
+  pub link_under : (mask : Bool) → list_any (λ s. s.handle == h) (links mask core) ≡ true → IsUnder h (link_kind mask) store.others
+  link_under mask any = object_under (link_kind mask) (link_live mask) h store.made (links mask core) store.others fits.handles.rising
+      (links_live core store fits.handles mask) any
 
-  pub mask_dropped : IsUnder h kind.Mask store.others → Fits (record core { masks = without_source h core.masks }) (dead h store)
-  mask_dropped u =
-      record {
-        handles =
-            record {
-              rising = rising_without h 0 store.made store.others fits.handles.rising;
-              devices = other_kind core store fits.handles h kind.Mask u kind.Device refl ∙ fits.handles.devices;
-              contexts = other_kind core store fits.handles h kind.Mask u kind.Context refl ∙ fits.handles.contexts;
-              sources = other_kind core store fits.handles h kind.Mask u kind.Source refl ∙ fits.handles.sources;
-              masks = taken_out (λ (l : Live). same_kind l.kind kind.Mask) mask_live h core.masks store.others fits.handles.masks;
-              elements = elements_stay core store fits.handles h kind.Mask u refl;
-              owned = owned_stay core store fits.handles h kind.Mask u;
-            };
-        streams = record { sources = fits.streams.sources;
-            masks = each_filtered (Shows true store.streams) (λ (s : Source). not (s.handle == h)) core.masks fits.streams.masks;
-            contexts = fits.streams.contexts };
-      }
+  pub link_dropped : (mask : Bool) → IsUnder h (link_kind mask) store.others
+      → Fits (with_links mask (without_source h (links mask core)) core) (dead h store)
+  link_dropped mask u =
+      links_fit core store fits store.made (without h store.others) mask (without_source h (links mask core)) (died (link_kind mask) u)
+          (taken_out (λ (l : Live). same_kind l.kind (link_kind mask)) (link_live mask) h (links mask core) store.others
+          (links_live core store fits.handles mask))
+          (still_housed (link_kind mask) u (no_element mask))
+          (each_filtered (Shows mask store.streams) (λ (s : Source). not (s.handle == h)) (links mask core)
+          (links_show core store.streams fits.streams mask))
+
+  pub link_loses : (mask : Bool) → IsUnder h (link_kind mask) store.others → Loses store (dead h store)
+  link_loses false u = loses core store fits.handles h kind.Source u refl refl
+  link_loses true u = loses core store fits.handles h kind.Mask u refl refl
 
 -- an element of the context at a place
 module _ (core : CoreState) (store : StoreView) (fits : Fits core store) (h place : ℕ) (c : Context)
@@ -208,36 +188,26 @@ module _ (core : CoreState) (store : StoreView) (fits : Fits core store) (h plac
       let fit = each_at (ContextFits store.streams) core.contexts place c fits.streams.contexts at in
       let named : map (λ (y : Context). y.handle) (set core.contexts place left) ≡ map (λ (y : Context). y.handle) core.contexts =
           map_set (λ (y : Context). y.handle) core.contexts place c left at refl in
-      record {
-        handles =
-            record {
-              rising = rising_without h 0 store.made store.others fits.handles.rising;
-              devices = other_kind core store fits.handles h kind.Element u kind.Device refl ∙ fits.handles.devices;
-              contexts = other_kind core store fits.handles h kind.Element u kind.Context refl ∙ fits.handles.contexts
-                  ∙ sym (map_set context_live core.contexts place c left at refl);
-              sources = other_kind core store fits.handles h kind.Element u kind.Source refl ∙ fits.handles.sources;
-              masks = other_kind core store fits.handles h kind.Element u kind.Mask refl ∙ fits.handles.masks;
-              elements =
-                  each_replaced (λ (y : Context). y.handle) (HasElements store.others) (HasElements (without h store.others)) 0
-                      core.contexts place c left (rises_contexts core store fits.handles) at
-                  (λ z other held. left_out (λ (l : Live). same_kind l.kind kind.Element && (l.key == z.handle)) h 0 store.others u.object
-                      rises u.found (elsewhere u.object z under_is.1 (λ equal. other (sym equal))) ∙ held) fits.handles.elements
-                  (taken_out (λ (l : Live). same_kind l.kind kind.Element && (l.key == c.handle)) (element_live c.handle) h
-                      (handles c.cached.elements) store.others has
-                  ∙ ap (map (element_live c.handle)) (filter_mapped (λ n. not (n == h)) handle_of c.cached.elements));
-              owned =
-                  subst (λ (hs : List ℕ). list_all (λ (l : Live). not (same_kind l.kind kind.Element) || is_in l.key hs)
-                      (without h store.others) ≡ true) (sym named)
-                  (owned_stay core store fits.handles h kind.Element u);
-            };
-        streams =
-            record {
-              sources = fits.streams.sources;
-              masks = fits.streams.masks;
-              contexts = each_set (ContextFits store.streams) core.contexts place left fits.streams.contexts
-                  (record { target = fit.target; size = fit.size; layers = fit.layers });
-            };
-      }
+      contexts_fit kind.Element refl refl refl core store fits store.made (without h store.others) (set core.contexts place left)
+          (died core store fits h kind.Element u)
+          (other_kind core store fits.handles h kind.Element u kind.Context refl ∙ fits.handles.contexts
+          ∙ sym (map_set context_live core.contexts place c left at refl))
+          (record {
+            elements =
+                each_replaced (λ (y : Context). y.handle) (HasElements store.others) (HasElements (without h store.others)) 0
+                    core.contexts place c left (rises_contexts core store fits.handles) at
+                (λ z other held. left_out (λ (l : Live). same_kind l.kind kind.Element && (l.key == z.handle)) h 0 store.others u.object
+                    rises u.found (elsewhere u.object z under_is.1 (λ equal. other (sym equal))) ∙ held) fits.handles.elements
+                (taken_out (λ (l : Live). same_kind l.kind kind.Element && (l.key == c.handle)) (element_live c.handle) h
+                    (handles c.cached.elements) store.others has
+                ∙ ap (map (element_live c.handle)) (filter_mapped (λ n. not (n == h)) handle_of c.cached.elements));
+            owned =
+                subst (λ (hs : List ℕ). list_all (λ (l : Live). not (same_kind l.kind kind.Element) || is_in l.key hs)
+                    (without h store.others) ≡ true) (sym named)
+                (owned_stay core store fits.handles h kind.Element u);
+          })
+          (each_set (ContextFits store.streams) core.contexts place left fits.streams.contexts
+              (record { target = fit.target; size = fit.size; layers = fit.layers }))
     where
       elsewhere : (l : Live) (z : Context) → l.key ≡ c.handle → c.handle ≢ z.handle
           → (same_kind l.kind kind.Element && (l.key == z.handle)) ≡ false
@@ -286,24 +256,16 @@ module _ (core : CoreState) (store : StoreView) (fits : Fits core store) (h : �
   -- a context without elements
   pub context_dropped : IsUnder h kind.Context store.others → elements_of h store.others ≡ [] → Fits (but_context h core) (dead h store)
   context_dropped u none =
-      record {
-        handles =
-            record {
-              rising = rising_without h 0 store.made store.others fits.handles.rising;
-              devices = other_kind core store fits.handles h kind.Context u kind.Device refl ∙ fits.handles.devices;
-              contexts = taken_out (λ (l : Live). same_kind l.kind kind.Context) context_live h core.contexts store.others
-                  fits.handles.contexts;
-              sources = other_kind core store fits.handles h kind.Context u kind.Source refl ∙ fits.handles.sources;
-              masks = other_kind core store fits.handles h kind.Context u kind.Mask refl ∙ fits.handles.masks;
-              elements = each_filtered (HasElements (without h store.others)) (λ (c : Context). not (c.handle == h)) core.contexts
-                  (elements_stay core store fits.handles h kind.Context u refl);
-              owned = all_filtered (has_owner (but_context h core).contexts) (λ (l : Live). not (l.handle == h)) store.others
-                  (owned_still h core.contexts store.others fits.handles.owned none);
-            };
-        streams = record { sources = fits.streams.sources; masks = fits.streams.masks;
-            contexts = each_filtered (ContextFits store.streams) (λ (c : Context). not (c.handle == h)) core.contexts fits.streams.contexts
-            };
-      }
+      contexts_fit kind.Context refl refl refl core store fits store.made (without h store.others) (but_context h core).contexts
+          (died core store fits h kind.Context u)
+          (taken_out (λ (l : Live). same_kind l.kind kind.Context) context_live h core.contexts store.others fits.handles.contexts)
+          (record {
+            elements = each_filtered (HasElements (without h store.others)) (λ (c : Context). not (c.handle == h)) core.contexts
+                (elements_stay core store fits.handles h kind.Context u refl);
+            owned = all_filtered (has_owner (but_context h core).contexts) (λ (l : Live). not (l.handle == h)) store.others
+                (owned_still h core.contexts store.others fits.handles.owned none);
+          })
+          (each_filtered (ContextFits store.streams) (λ (c : Context). not (c.handle == h)) core.contexts fits.streams.contexts)
 
   pub device_under : list_any (λ x. x.handle == h) core.devices ≡ true → IsUnder h kind.Device store.others
   device_under any = object_under kind.Device device_live h store.made core.devices store.others fits.handles.rising fits.handles.devices
@@ -312,16 +274,7 @@ module _ (core : CoreState) (store : StoreView) (fits : Fits core store) (h : �
   pub device_dropped : IsUnder h kind.Device store.others
       → Fits (record core { devices = filter (λ (x : Device). not (x.handle == h)) core.devices }) (dead h store)
   device_dropped u =
-      record {
-        handles =
-            record {
-              rising = rising_without h 0 store.made store.others fits.handles.rising;
-              devices = taken_out (λ (l : Live). same_kind l.kind kind.Device) device_live h core.devices store.others fits.handles.devices;
-              contexts = other_kind core store fits.handles h kind.Device u kind.Context refl ∙ fits.handles.contexts;
-              sources = other_kind core store fits.handles h kind.Device u kind.Source refl ∙ fits.handles.sources;
-              masks = other_kind core store fits.handles h kind.Device u kind.Mask refl ∙ fits.handles.masks;
-              elements = elements_stay core store fits.handles h kind.Device u refl;
-              owned = owned_stay core store fits.handles h kind.Device u;
-            };
-        streams = record { sources = fits.streams.sources; masks = fits.streams.masks; contexts = fits.streams.contexts };
-      }
+      devices_fit core store fits store.made (without h store.others) (filter (λ (x : Device). not (x.handle == h)) core.devices)
+          (died core store fits h kind.Device u)
+          (taken_out (λ (l : Live). same_kind l.kind kind.Device) device_live h core.devices store.others fits.handles.devices)
+          (still_housed core store fits h kind.Device u refl)
