@@ -1,7 +1,7 @@
 -- What still fits after a change of the objects.
-use Rattle.std.proofs.Common.{◌≡◌, ℕ, Bool, true, false, List, map, Option, refl, sym, ◌∙◌}
+use Rattle.std.proofs.Common.{◌≡◌, ℕ, Bool, true, false, List, map, Option, Some, None, Ok, refl, sym, ap, ◌∙◌}
 use Rattle.std.specs.List.{list_all, AllByRecursion}
-use Rattle.wf_words.specs.Keyed.{map_change}
+use Rattle.wf_words.specs.Keyed.{at_key, map_change}
 use Rattle.wf_life.specs.declared.Kind.{Kind}
 use Rattle.wf_life.specs.declared.Kind.TheVariants as kind
 use Rattle.wf_life.specs.Handles.{IsRising, Live, same_kind}
@@ -11,7 +11,11 @@ use Rattle.wf_model.specs.declared.Context.{Context}
 use Rattle.wf_model.specs.declared.Device.{Device}
 use Rattle.wf_model.specs.declared.Source.{Source}
 use Rattle.wf_model.specs.Objects.{CoreState}
-use Rattle.wf_model.specs.Composition.{change_register}
+use Rattle.wf_model.specs.Outcome.{Outcome}
+use Rattle.wf_model.specs.Composition.{CoreSide, change_register}
+use Rattle.wf_model.specs.Core.{get_error, register_number}
+use Rattle.wf_objects.specs.Does.{Does}
+use Rattle.wf_objects.specs.Sides.{side_of}
 use Rattle.wf_objects.specs.Fits.{ContextFits, Fits, HandlesFit, HasElements, Shows, StreamsFit, context_live, device_live, has_owner,
     of_kind}
 use Rattle.wf_objects.specs.Links.{link_kind, link_live, links, with_links}
@@ -35,6 +39,20 @@ register_fits d f core new store is fits =
           };
       streams = record { sources = fits.streams.sources; masks = fits.streams.masks; contexts = fits.streams.contexts };
     })
+
+-- the code of a register is taken out of it
+pub takes_error : (d : ℕ) (core new : CoreState) (store : StoreView) (x : Device) (n : ℕ) → Fits core store
+    → at_key (λ (x : Device). x.handle) d core.devices ≡ Some x → new ≡ change_register d (λ _. None) core → n ≡ register_number x.register
+    → Does (λ _. get_error d) core new store store (Ok n)
+takes_error d core new store x n fits at is number =
+    let done : CoreState → ℕ → Outcome CoreSide = λ k m. (let both : CoreSide × ℕ = (side_of k store, m) in Ok both) in
+    record {
+      case = rw at (ap (λ k. done k (register_number x.register)) (sym is) ∙ ap (done new) (sym number));
+      refused = tt;
+      untouched = tt;
+      kept = record { streams = refl; numbered = refl; others = refl };
+      fits = register_fits d (λ _. None) core new store is fits;
+    }
 
 -- links of one kind
 

@@ -14,6 +14,8 @@ use Rattle.wf_model.specs.declared.Device.{Device}
 use Rattle.wf_model.specs.declared.Context.{Context}
 use Rattle.wf_model.specs.Objects.{CoreState}
 use Rattle.wf_calls.specs.Replies.{refusal}
+use Rattle.wf_words.specs.Refusals.{◌>>=◌}
+use Rattle.wf_model.specs.Outcome.{found}
 use Rattle.wf_objects.specs.Sides.{side_of}
 use Rattle.wf_objects.specs.Fits.{HandlesFit, HasElements, of_kind, elements_of, device_live, context_live, element_live}
 use Rattle.wf_objects.specs.Owners.{live_device, of_device, of_element}
@@ -165,3 +167,13 @@ module _ (core : CoreState) (store : StoreView) (fits : HandlesFit core store) w
 
   pub some_device : (d key : ℕ) → key_of d kind.Device store.others ≡ Some key → live_device d (side_of core store) ≡ Ok tt
   some_device d key some = let x = a_device d key some in rw x.1 refl
+
+-- a live device is one of the devices
+pub device_lives : (d : ℕ) (core : CoreState) (store : StoreView) → live_device d (side_of core store) ≡ Ok tt
+    → list_any (λ (x : Device). x.handle == d) core.devices ≡ true
+device_lives d core store lives =
+    any_found (λ (x : Device). x.handle == d) core.devices ∙ of_found (at_key (λ (x : Device). x.handle) d core.devices) lives
+  where
+    of_found : (o : Option Device) → (found code.BadDevice o >>= (λ _. Ok (tt {0}))) ≡ Ok (tt {0}) → is_some o ≡ true
+    of_found None is = absurd cc
+    of_found (Some x) is = refl

@@ -1,6 +1,6 @@
 -- A creation: it is refused, or a new object fits with the handle that was made for it.
 use Rattle.std.proofs.Common.{◌≡◌, ℕ, zero, suc, ◌+◌, ◌≤◌, Bool, true, false, cond, not, ◌==◌, ◌&&◌, ◌||◌, List, [], ◌∷◌, ◌++◌, map, set,
-    slice_get, Option, Some, None, option_map, Result, Ok, Err, refl, sym, ap, subst, ◌∙◌, arith}
+    length, slice_get, Option, Some, None, option_map, Result, Ok, Err, refl, sym, ap, subst, ◌∙◌, arith}
 use Rattle.std.specs.List.{list_all, AllByRecursion}
 use Rattle.std.proofs.lemmas.Bool.{and_parts, eqb-true, eq-eqb, ne_eqb}
 use Rattle.std.proofs.lemmas.Bool.Decides.{nat_tests}
@@ -18,14 +18,16 @@ use Rattle.wf_model.specs.declared.Context.{Context}
 use Rattle.wf_model.specs.declared.Source.{Source}
 use Rattle.wf_model.specs.Objects.{CoreState}
 use Rattle.wf_model.specs.Outcome.{Outcome}
-use Rattle.wf_model.specs.Composition.{CoreSide, created}
+use Rattle.wf_model.specs.Composition.{CoreSide, change_context, created, with_cached}
 use Rattle.wf_model.specs.Core.{room}
 use Rattle.wf_words.specs.Refusals.{◌>>=◌}
 use Rattle.wf_calls.specs.Codes.{is_out_of_memory}
 use Rattle.wf_calls.specs.Replies.{refusal}
 use Rattle.wf_calls.specs.declared.code.Code.TheVariants as code
 use Rattle.wf_calls.specs.declared.reply.Refusal.{Refusal}
-use Rattle.wf_objects.specs.Does.{Does, refuses}
+use Rattle.std.specs.Prelude.{nat_le}
+use Rattle.wf_objects.specs.Does.{Does, element_made, in_place, refuses}
+use Rattle.wf_objects.proofs.Scenes.{placed_is}
 use Rattle.wf_objects.specs.Links.{link_kind, link_live, links, with_links}
 use Rattle.wf_objects.specs.Sides.{is_of_composition, refused_handle, side_of}
 use Rattle.wf_objects.proofs.Fitting.{Housed, KindChanged, contexts_fit, devices_fit, links_fit, links_live, links_show}
@@ -40,6 +42,11 @@ use Rattle.wf_words.specs.Filtered.{count_left, more_left, all_more, more_passed
 last_under : (low high : ℕ) (ls : List Live) → IsRising low ls high → low ≤ high
 last_under low high [] rising = rising
 last_under low high (l ∷ ls) rising = omega (arith, rising.0, last_under l.handle high ls rising.1)
+
+-- a link is of composition, and not of the display
+pub link_is_ours : (mask : Bool) → (same_kind (link_kind mask) kind.DisplaySource ≡ false) × (is_of_composition (link_kind mask) ≡ true)
+link_is_ours false = (refl, refl)
+link_is_ours true = (refl, refl)
 
 module _ (core : CoreState) (store : StoreView) (fits : Fits core store) where
   -- a creation, by its limit and what it leaves of the objects
@@ -185,6 +192,19 @@ module _ (core : CoreState) (store : StoreView) (fits : Fits core store) where
       stands (y ∷ cs) (suc i) here = (let later = stands cs i here in
           elim (y.handle == c.handle) as (λ b. (b || is_in c.handle (map (λ (z : Context). z.handle) cs))
           ≡ true) [ true ↦ refl | false ↦ later ])
+
+  pub element_creates : (place : ℕ) (c : Context) (at : slice_get core.contexts place ≡ Some c)
+      → nat_le 64 (length c.cached.elements) ≡ false → Ok tt ≡ refused_handle store.made false
+      → Does (in_place place element_made) core
+          (record core { contexts = set core.contexts place (record c { cached = cached.add next c.cached }) }) store
+          (with_other kind.Element c.handle store) (Ok next)
+  element_creates place c at below given =
+      let grown = change_context c.handle (with_cached (cached.add next c.cached)) core in
+      let is = placed_is core store fits place c at (with_cached (cached.add next c.cached)) in
+      let now = with_other kind.Element c.handle store in
+      subst (λ (k : CoreState). Does (in_place place element_made) core k store now (Ok next)) is
+          (creates (in_place place element_made) (nat_le 64 (length c.cached.elements)) grown (λ m. rw at refl) kind.Element c.handle refl
+          refl below given (subst (λ (k : CoreState). Fits k now) (sym is) (element_fits place c at)))
 
   -- the contexts have handles that were given
   abbrev IsUnder : List Context → Type 0

@@ -1,11 +1,10 @@
 -- Changes of the context at a place: each does what the plain change does.
-use Rattle.std.proofs.Common.{◌≡◌, ℕ, zero, suc, Bool, true, ◌||◌, not, ℤ, List, [], ◌∷◌, map, set, slice_get, Option, Some, OnErr, Result, Ok, Err, refl,
-    sym, ap, subst, ◌∙◌}
+use Rattle.std.proofs.Common.{◌≡◌, ℕ, zero, suc, Bool, true, ◌||◌, not, ℤ, List, [], ◌∷◌, map, set, slice_get, Some, OnErr, Result, Ok, Err, refl, sym, ap, subst, ◌∙◌}
 use Rattle.std.specs.List.{list_all}
 use Rattle.wf_words.specs.Each.{each_at, each_set}
 use Rattle.wf_words.specs.Keyed.{is_in}
 use Rattle.wf_words.specs.Places.{map_set}
-use Rattle.wf_words.specs.Refusals.{◌>>=◌, left_by}
+use Rattle.wf_words.specs.Refusals.{left_by}
 use Rattle.wf_words.specs.Rising.{change_at}
 use Rattle.wf_life.specs.declared.Kind.TheVariants as kind
 use Rattle.wf_life.specs.Handles.{Live, same_kind}
@@ -16,8 +15,6 @@ use Rattle.wf_scene.specs.declared.Scene.{Scene}
 use Rattle.wf_scene.specs.Cached as cached
 use Rattle.wf_scene.specs.Cached.{CachedScene, handles}
 use Rattle.wf_scene.specs.Values.{component}
-use Rattle.wf_calls.specs.Codes.{is_out_of_memory}
-use Rattle.wf_calls.specs.declared.code.Code.TheVariants as code
 use Rattle.wf_calls.specs.declared.reply.Refusal.{Refusal}
 use Rattle.wf_model.specs.declared.Context.{Context}
 use Rattle.wf_model.specs.Objects.{CoreState}
@@ -26,7 +23,7 @@ use Rattle.wf_model.specs.Composition.{CoreSide, change_context, with_cached}
 use Rattle.wf_model.specs.Core.{linked, with_active, with_committed}
 use Rattle.wf_objects.specs.Does.{Does, changed, edited_by, element_set, in_place, refuses, scene_set}
 use Rattle.wf_objects.specs.Fits.{ContextFits, Fits, HasElements, context_live}
-use Rattle.wf_objects.specs.Sides.{done_by, lacks_memory, side_of}
+use Rattle.wf_objects.specs.Sides.{side_of}
 use Rattle.wf_objects.proofs.Fitting.{contexts_fit}
 use Rattle.wf_objects.proofs.Keeping.{Keeps}
 use Rattle.wf_objects.proofs.Lookups.{rises_contexts}

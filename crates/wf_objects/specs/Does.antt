@@ -1,14 +1,13 @@
 -- What an operation on the tables leaves and answers, by the plain machine.
 use Rattle.std.specs.Prelude.{◌≡◌, ℕ, ◌+◌, Bool, false, not, ◌==◌, ℤ, List, [], ◌∷◌, ◌++◌, slice_get, nat_le, length, Option, Some, None,
     OnErr, IfSome, Result, Ok, Err}
-use Rattle.std.proofs.Common.{refl, sym, ap, subst, ◌∙◌}
+use Rattle.std.proofs.Common.{refl, sym, ap, ◌∙◌}
 use Rattle.wf_words.specs.Refusals.{◌>>=◌}
 use Rattle.wf_life.specs.declared.Kind.TheVariants as kind
 use Rattle.wf_life.specs.Handles.{live_count}
 use Rattle.wf_stream.specs.Streams.{StoreView}
 use Rattle.wf_scene.specs.declared.attributes.ElementAttr.{ElementAttr}
 use Rattle.wf_scene.specs.declared.attributes.Refused.{Refused}
-use Rattle.wf_scene.specs.declared.attributes.Refused.TheVariants as refused
 use Rattle.wf_scene.specs.declared.look.Seen.{Seen}
 use Rattle.wf_scene.specs.Values.{component}
 use Rattle.wf_scene.specs.Cached as cached

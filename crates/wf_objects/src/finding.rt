@@ -80,6 +80,7 @@ impl Objects {
         requires { Fits self.now store.now }
         ensures found { option_and_then (slice_get self.now.contexts) result ≡ of_device device context self.now.contexts }
         ensures within { IfSome result (λ place. place < length self.now.contexts) }
+        ensures here { IfSome result (λ place. StandsAt context place self.now) }
     {
         match key_of(store, context, Kind::Context) {
             Some(owner) if owner == device => place_of(&self.contexts, context),
@@ -109,9 +110,12 @@ impl Objects {
         requires { Fits self.now store.now }
         ensures found { option_and_then (slice_get self.now.contexts) result ≡ of_element device element self.now.contexts }
         ensures within { IfSome result (λ place. place < length self.now.contexts) }
+        ensures lives { IfSome result (λ place. LivesAt element place self.now) }
     {
-        let owner = key_of(store, element, Kind::Element)?;
-        self.place_in_device(store, device, owner)
+        match key_of(store, element, Kind::Element) {
+            Some(owner) => self.place_in_device(store, device, owner),
+            None => None,
+        }
     }
 
     /// The place of the context in which an element lives, or the refusal: BadDevice, or BadHandle.

@@ -1,4 +1,5 @@
-use Rattle.std.proofs.Common.{◌≡◌, ◌++◌, ◌∷◌, [], ◌+◌, None, Ok, length, false, subst, sym, refl}
+use Rattle.std.proofs.Common.{◌≡◌, ◌++◌, ◌∷◌, [], ◌+◌, None, Ok, length, false, subst, sym, ap, refl, arith}
+use Rattle.std.proofs.lemmas.Bool.{lt-leb}
 use Rattle.std.specs.Prelude.{nat_le}
 use Rattle.wf_life.specs.declared.Kind.TheVariants as kind
 use Rattle.wf_stream.specs.Streams.{with_other}
@@ -14,7 +15,8 @@ returns c =
     let store = c.args.store.now in
     let grown : CoreState → CoreState =
         λ k. record k { devices = k.devices ++ record { handle = store.made + 1; register = None } ∷ [] } in
-    let below : nat_le 8 (length core.devices) ≡ false = ? in
+    let below : nat_le 8 (length core.devices) ≡ false = lt-leb 8 (length core.devices)
+        (omega (arith, c.if-len-ge-MOST_DEVICES.false, c.len.ensures, ap (λ (k : CoreState). length k.devices) c.self.view_is)) in
     rw (c.in_ok-handle.ensures.made, c.push_reserved.ensures.items, c.in_ok-handle.ensures.handle)
         (subst (λ (k : CoreState). Does device_new core (grown k) store (with_other kind.Device 0 store) (Ok (store.made + 1)))
         (sym c.self.view_is)
