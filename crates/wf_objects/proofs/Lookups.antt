@@ -14,9 +14,8 @@ use Rattle.wf_model.specs.declared.Device.{Device}
 use Rattle.wf_model.specs.declared.Context.{Context}
 use Rattle.wf_model.specs.Objects.{CoreState}
 use Rattle.wf_calls.specs.Replies.{refusal}
-use Rattle.wf_words.specs.Refusals.{◌>>=◌}
 use Rattle.wf_model.specs.Outcome.{found}
-use Rattle.wf_objects.specs.Sides.{side_of}
+use Rattle.wf_objects.specs.Sides.{side_of, without_value}
 use Rattle.wf_objects.specs.Fits.{HandlesFit, HasElements, of_kind, elements_of, device_live, context_live, element_live}
 use Rattle.wf_objects.specs.Owners.{live_device, of_device, of_element}
 use Rattle.wf_words.specs.Found.{find_filtered, find_mapped, any_found, any_mapped, get_position}
@@ -174,6 +173,6 @@ pub device_lives : (d : ℕ) (core : CoreState) (store : StoreView) → live_dev
 device_lives d core store lives =
     any_found (λ (x : Device). x.handle == d) core.devices ∙ of_found (at_key (λ (x : Device). x.handle) d core.devices) lives
   where
-    of_found : (o : Option Device) → (found code.BadDevice o >>= (λ _. Ok (tt {0}))) ≡ Ok (tt {0}) → is_some o ≡ true
+    of_found : (o : Option Device) → without_value (found code.BadDevice o) ≡ Ok (tt {0}) → is_some o ≡ true
     of_found None is = absurd cc
     of_found (Some x) is = refl

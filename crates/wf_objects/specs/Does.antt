@@ -124,6 +124,14 @@ takes_out plain core after left store now does is lost fits =
       fits = fits;
     }
 
+-- what does as another call does what that one does
+pub as_other : (plain other : Bool → CoreSide → Outcome CoreSide) (core left : CoreState) (store now : StoreView) (result : Result ℕ Refusal)
+    → ((m : Bool) → plain m (side_of core store) ≡ other m (side_of core store)) → Does other core left store now result
+    → Does plain core left store now result
+as_other plain other core left store now result same does =
+    record { case = same (lacks_memory result) ∙ does.case; refused = does.refused; untouched = does.untouched; kept = does.kept;
+        fits = does.fits }
+
 module _ (place : ℕ) (after : Step) (core left : CoreState) (store now : StoreView) (result : Result ℕ Refusal)
     (does : Does (in_place place after) core left store now result) where
   -- in the context that a call names
@@ -131,37 +139,34 @@ module _ (place : ℕ) (after : Step) (core left : CoreState) (store now : Store
       → Does (λ m w. device d w >>= (λ _. context d h w >>= (λ c. after h m c w))) core left store now result
   in_owned d h at here =
       let w = side_of core store in
-      let m = lacks_memory result in
-      let go : Context → Outcome CoreSide = λ c. after h m c w in
-      record {
-        case = joined (device d w) (λ _. context d h w) go ∙ ap (λ (r : Result Context Refusal). r >>= go) (sym at)
-            ∙ by_handle (slice_get core.contexts place) here ∙ does.case;
-        refused = does.refused;
-        untouched = does.untouched;
-        kept = does.kept;
-        fits = does.fits;
-      }
+      as_other (λ m w. device d w >>= (λ _. context d h w >>= (λ c. after h m c w))) (in_place place after) core left store now result
+          (λ m. (let go : Context → Outcome CoreSide = λ c. after h m c w in
+              joined (device d w) (λ _. context d h w) go ∙ ap (λ (r : Result Context Refusal). r >>= go) (sym at)
+              ∙ by_handle m (slice_get core.contexts place) here)) does
     where
-      by_handle : (o : Option Context) → IfSome o (λ c. c.handle ≡ h)
-          → (found code.BadHandle o >>= (λ c. after h (lacks_memory result) c (side_of core store)))
-          ≡ (found code.BadHandle o >>= (λ c. after c.handle (lacks_memory result) c (side_of core store)))
-      by_handle None is = refl
-      by_handle (Some c) is = ap (λ n. after n (lacks_memory result) c (side_of core store)) (sym is)
+      by_handle : (m : Bool) (o : Option Context) → IfSome o (λ c. c.handle ≡ h)
+          → (found code.BadHandle o >>= (λ c. after h m c (side_of core store)))
+          ≡ (found code.BadHandle o >>= (λ c. after c.handle m c (side_of core store)))
+      by_handle m None is = refl
+      by_handle m (Some c) is = ap (λ n. after n m c (side_of core store)) (sym is)
 
   -- in the context of an element that a call names
   pub in_owner : (d e : ℕ) → at_place (Ok place) core.contexts ≡ owning_context d e (side_of core store)
       → Does (λ m w. device d w >>= (λ _. element_context d e w >>= (λ c. after c.handle m c w))) core left store now result
   in_owner d e at =
       let w = side_of core store in
-      let m = lacks_memory result in
-      let go : Context → Outcome CoreSide = λ c. after c.handle m c w in
-      record {
-        case = joined (device d w) (λ _. element_context d e w) go ∙ ap (λ (r : Result Context Refusal). r >>= go) (sym at) ∙ does.case;
-        refused = does.refused;
-        untouched = does.untouched;
-        kept = does.kept;
-        fits = does.fits;
-      }
+      as_other (λ m w. device d w >>= (λ _. element_context d e w >>= (λ c. after c.handle m c w))) (in_place place after) core left store now
+          result
+          (λ m. (let go : Context → Outcome CoreSide = λ c. after c.handle m c w in
+              joined (device d w) (λ _. element_context d e w) go ∙ ap (λ (r : Result Context Refusal). r >>= go) (sym at))) does
+
+-- what leaves of the context at a place, and a store that lost handles
+pub takes_in_place : (place : ℕ) (f : Context → CoreState → CoreState) (core left : CoreState) (store now : StoreView) (c : Context)
+    → slice_get core.contexts place ≡ Some c → left ≡ f c core → Loses store now → Fits left now
+    → Does (in_place place (λ _ _ c w. (let done : CoreSide × ℕ = (record w { core = f c w.core }, 0) in Ok done))) core left store now (Ok 0)
+takes_in_place place f core left store now c at is lost fits =
+    takes_out (in_place place (λ _ _ c w. (let done : CoreSide × ℕ = (record w { core = f c w.core }, 0) in Ok done))) core (f c core) left
+        store now (rw at refl) is lost fits
 
 -- what is read of the scene at a place
 pub reads : (place : ℕ) (core : CoreState) (store : StoreView) (call : CachedScene → Result ℕ Refused) (scene : CachedScene)

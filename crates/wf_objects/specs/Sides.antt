@@ -33,7 +33,7 @@ lacks_memory (Ok _) = false
 lacks_memory (Err r) = is_out_of_memory r.code
 
 -- only whether it was refused
-abbrev pub without_value : {A : Type 0} → Result A Refusal → Result (Unit {0}) Refusal
+abbrev pub without_value : {A E : Type 0} → Result A E → Result (Unit {0}) E
 without_value (Ok _) = Ok tt
 without_value (Err r) = Err r
 

@@ -143,6 +143,13 @@ impl Objects {
         handle == 0 || self.element_in_device(store, device, handle).is_some()
     }
 
+    /// A port has a context.
+    pub fn has_port(&self, port: u32) -> bool
+        ensures { result ≡ list_any (λ c. c.port == port) self.now.contexts }
+    {
+        self.contexts.iter().any(|context| context.port == port)
+    }
+
     /// The cached scene of the context at a place.
     pub fn cached(&self, place: usize) -> &Cached
         requires { place < length self.now.contexts }

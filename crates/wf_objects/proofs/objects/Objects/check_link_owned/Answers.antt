@@ -1,15 +1,14 @@
-use Rattle.std.proofs.Common.{◌≡◌, ◌∙◌, ℕ, ◌&&◌, ◌==◌, Bool, List, Ok, Err, sym, ap, refl}
+use Rattle.std.proofs.Common.{◌≡◌, ◌∙◌, ℕ, ◌&&◌, ◌==◌, Bool, List, Err, sym, ap, refl}
 use Rattle.std.specs.List.{list_any}
 use Rattle.wf_words.specs.Found.{any_first, none_at, some_at}
-use Rattle.wf_words.specs.Refusals.{◌>>=◌}
 use Rattle.wf_model.specs.declared.Context.{Context}
 use Rattle.wf_model.specs.declared.Source.{Source}
 use Rattle.wf_model.specs.Objects.{CoreState}
-use Rattle.wf_model.specs.Composition.{is_of_device}
+use Rattle.wf_model.specs.Composition.{device, is_of_device}
 use Rattle.wf_model.specs.Core.{owned_source}
 use Rattle.wf_objects.specs.Links.{links}
-use Rattle.wf_objects.specs.Owners.{past_device}
-use Rattle.wf_objects.specs.Sides.{side_of}
+use Rattle.wf_objects.specs.Owners.{passed}
+use Rattle.wf_objects.specs.Sides.{side_of, without_value}
 use Rattle.wf_objects.proofs.objects.Objects.check_link_owned.Goals as goal
 use Rattle.wf_objects.proofs.objects.Objects.check_link_owned.Goals.{After-is_owned}
 
@@ -34,7 +33,7 @@ returns-then-not-is_owned-clause-owned c =
     let xs = links a.mask a.self.now in
     let w = side_of a.self.now a.store.now in
     ap Err c.of.ensures
-    ∙ sym (past_device a.device w (owned_source a.device a.link xs w >>= (λ _. Ok tt)) c.in_ok-check_device.ensures
+    ∙ sym (ap without_value (passed (device a.device w) (owned_source a.device a.link xs w) c.in_ok-check_device.ensures)
         ∙ rw (none_at (is_sought k) xs (sym (asked k) ∙ c.if-not-is_owned.true)) refl)
 
 pub returns-clause-owned : goal.returns-clause-owned
@@ -44,7 +43,7 @@ returns-clause-owned c =
     let xs = links a.mask a.self.now in
     let w = side_of a.self.now a.store.now in
     let s = some_at (is_sought k) xs (sym (asked k) ∙ c.if-not-is_owned.false) in
-    sym (past_device a.device w (owned_source a.device a.link xs w >>= (λ _. Ok tt)) c.in_ok-check_device.ensures ∙ rw s.1 refl)
+    sym (ap without_value (passed (device a.device w) (owned_source a.device a.link xs w) c.in_ok-check_device.ensures) ∙ rw s.1 refl)
 
 pub returns-clause-live : goal.returns-clause-live
 returns-clause-live c =
