@@ -1,6 +1,29 @@
 -- What streams show, by their numbers and by their handles; and sources and masks of them.
-use Rattle.std.proofs.Common.{◌≡◌, ℕ, ◌+◌, Bool, true, false, not, ◌&&◌, ◌==◌, List, [], ◌∷◌, ◌++◌, option_map, Option, Some, None, Ok,
-    IfSome, refl, sym, ap, ◌∙◌}
+use Rattle.std.proofs.Common.{
+  ◌≡◌,
+  ℕ,
+  ◌+◌,
+  Bool,
+  true,
+  false,
+  not,
+  ◌&&◌,
+  ◌==◌,
+  List,
+  [],
+  ◌∷◌,
+  ◌++◌,
+  option_map,
+  Option,
+  Some,
+  None,
+  Ok,
+  IfSome,
+  refl,
+  sym,
+  ap,
+  ◌∙◌,
+}
 use Rattle.wf_words.specs.Refusals.{◌>>=◌}
 use Rattle.wf_pixel.specs.declared.Format.{Format}
 use Rattle.wf_pixel.specs.declared.Size.{Size}
@@ -9,8 +32,18 @@ use Rattle.wf_life.specs.declared.Kind.{Kind}
 use Rattle.wf_life.specs.declared.Kind.TheVariants as kind
 use Rattle.wf_life.specs.Handles.{Live, is_full, live_count, same_kind}
 use Rattle.wf_stream.specs.Buffers.{Buffers}
-use Rattle.wf_stream.specs.Streams.{KeptStream, IsNumbered, StoreView, buffers_at, number_of, stream_at, stream_of, with_other,
-    rises_streams, has_number}
+use Rattle.wf_stream.specs.Streams.{
+  KeptStream,
+  IsNumbered,
+  StoreView,
+  buffers_at,
+  number_of,
+  stream_at,
+  stream_of,
+  with_other,
+  rises_streams,
+  has_number,
+}
 use Rattle.wf_scene.specs.declared.look.Seen.{Seen}
 use Rattle.wf_calls.specs.declared.code.Code.TheVariants as code
 use Rattle.wf_model.specs.declared.Context.{Context}
@@ -40,8 +73,8 @@ seen_number n streams b size format is size-is format-is = of_stream (stream_at 
         let number : s.number ≡ n = has_number n streams s at in
         let shown : ℕ → Size → Format → Option Seen = λ m z f. Some (record { stream = m; size = z; format = f }) in
         ap (λ (m : ℕ). shown m size format) (sym number) ∙ ap (λ (z : Size). shown s.number z format) (size-is
-            ∙ ap (λ (x : Buffers). x.size) here) ∙ ap (λ (f : Format). shown s.number s.buffers.size f) (format-is
-            ∙ ap (λ (x : Buffers). x.format) here)
+        ∙ ap (λ (x : Buffers). x.size) here) ∙ ap (λ (f : Format). shown s.number s.buffers.size f) (format-is
+        ∙ ap (λ (x : Buffers). x.format) here)
 
 -- the stream of a live handle is that of its number
 pub by_handle : (handle n high : ℕ) (streams : List KeptStream) → IsNumbered 0 streams high → Some n ≡ number_of handle streams
@@ -54,7 +87,7 @@ by_handle handle n high streams rising is = of_stream (stream_of handle streams)
     of_stream (Some s) at same =
         let here : s.number ≡ n = cc in
         let found = found_above (λ (x : KeptStream). x.number) (λ (x : KeptStream). (x.handle == handle) && not (handle == 0)) 0 streams s
-            (rises_streams 0 high streams rising) at in
+        (rises_streams 0 high streams rising) at in
         ap (λ (m : ℕ). stream_at m streams) (sym here) ∙ found.1
 
 -- the stream that is seen
@@ -105,32 +138,44 @@ module _ (d h n : ℕ) (core : CoreState) (store : StoreView) (c : Context) (see
 
   pub source_made : is_a8 seen.format ≡ false
       → source_new d h n false w ≡ (let done : CoreSide
-          × ℕ = (side_of (record core { sources = core.sources ++ new ∷ [] }) (with_other kind.Source seen.stream store), store.made + 1) in
-          Ok done)
+      × ℕ = (side_of (record core { sources = core.sources ++ new ∷ [] }) (with_other kind.Source seen.stream store), store.made + 1) in
+      Ok done)
   source_made shows =
       let x = both d h w c own in
       let s = behind (stream_of n store.streams) seen sees in
       let pixels : is_a8 s.0.buffers.format ≡ false = ap (λ (y : Seen). is_a8 y.format) (sym s.2) ∙ shows in
       let done : ℕ → ℕ → Outcome CoreSide = λ number count.
       (let left : CoreSide
-          × ℕ = (record { made = store.made + 1; streams = store.streams;
+      × ℕ = (
+        record {
+          made = store.made + 1;
+          streams = store.streams;
           core = record core { sources = core.sources ++ record { handle = store.made + 1; context = h; stream = number } ∷ [] };
-          display_sources = count }, store.made + 1) in Ok left) in
+          display_sources = count;
+        },
+        store.made + 1,
+      ) in Ok left) in
       rw (x.1, x.2, s.1, pixels, full, free) (ap (λ number. done number w.display_sources) (ap (λ (y : Seen). y.stream) (sym s.2))
-          ∙ ap (done seen.stream) (sym (display_stays kind.Source refl)))
+      ∙ ap (done seen.stream) (sym (display_stays kind.Source refl)))
 
   pub mask_made : is_a8 seen.format ≡ true
       → mask_new d h n false w ≡ (let done : CoreSide
-          × ℕ = (side_of (record core { masks = core.masks ++ new ∷ [] }) (with_other kind.Mask seen.stream store), store.made + 1) in
-          Ok done)
+      × ℕ = (side_of (record core { masks = core.masks ++ new ∷ [] }) (with_other kind.Mask seen.stream store), store.made + 1) in
+      Ok done)
   mask_made shows =
       let x = both d h w c own in
       let s = behind (stream_of n store.streams) seen sees in
       let alphas : is_a8 s.0.buffers.format ≡ true = ap (λ (y : Seen). is_a8 y.format) (sym s.2) ∙ shows in
       let done : ℕ → ℕ → Outcome CoreSide = λ number count.
       (let left : CoreSide
-          × ℕ = (record { made = store.made + 1; streams = store.streams;
+      × ℕ = (
+        record {
+          made = store.made + 1;
+          streams = store.streams;
           core = record core { masks = core.masks ++ record { handle = store.made + 1; context = h; stream = number } ∷ [] };
-          display_sources = count }, store.made + 1) in Ok left) in
+          display_sources = count;
+        },
+        store.made + 1,
+      ) in Ok left) in
       rw (x.1, x.2, s.1, alphas, full, free) (ap (λ number. done number w.display_sources) (ap (λ (y : Seen). y.stream) (sym s.2))
-          ∙ ap (done seen.stream) (sym (display_stays kind.Mask refl)))
+      ∙ ap (done seen.stream) (sym (display_stays kind.Mask refl)))

@@ -16,22 +16,10 @@ use Rattle.wf_model.specs.Objects.{CoreState}
 use Rattle.wf_calls.specs.Replies.{refusal}
 use Rattle.wf_model.specs.Outcome.{found}
 use Rattle.wf_objects.specs.Sides.{side_of, without_value}
-use Rattle.wf_objects.specs.Fits.{HandlesFit, HasElements, of_kind, elements_of, device_live, context_live, element_live}
+use Rattle.wf_objects.specs.Fits.{HandlesFit, HasElements, keyed, of_kind, elements_of, device_live, context_live, element_live}
 use Rattle.wf_objects.specs.Owners.{live_device, of_device, of_element}
-use Rattle.wf_words.specs.Found.{find_filtered, find_mapped, any_found, any_mapped, get_position}
+use Rattle.wf_words.specs.Found.{find_filtered, any_found, any_mapped, get_position}
 use Rattle.wf_words.specs.Rising.{Rises, rises_filter, rises_map, find_tested}
-
-mapped_twice : {A B C : Type 0} (f : B → C) (g : A → B) (o : Option A) → option_map f (option_map g o) ≡ option_map (λ x. f (g x)) o
-mapped_twice f g None = refl
-mapped_twice f g (Some x) = refl
-
--- the key of a handle is that of the object that has it
-pub keyed : {A : Type 0} (k : Kind) (g : A → Live) (handle : ℕ) (xs : List A) (others : List Live) → of_kind k others ≡ map g xs
-    → key_of handle k others ≡ option_map (λ x. (g x).key) (find (λ x. (g x).handle == handle) xs)
-keyed k g handle xs others is =
-    ap (option_map (λ (l : Live). l.key)) (find_filtered (λ (l : Live). l.handle == handle) (λ (l : Live). same_kind l.kind k) others
-        ∙ ap (find (λ (l : Live). l.handle == handle)) is ∙ find_mapped (λ (l : Live). l.handle == handle) g xs)
-    ∙ mapped_twice (λ (l : Live). l.key) g (find (λ x. (g x).handle == handle) xs)
 
 -- the handles of the objects of a kind rise
 pub rises_kind : {A : Type 0} (k : Kind) (g : A → Live) (xs : List A) (others : List Live) (made : ℕ) → IsRising 0 others made

@@ -1,12 +1,14 @@
 -- When the objects of composition and the store fit: the store has just their handles, and keeps the streams that they name.
-use Rattle.std.specs.Prelude.{◌≡◌, ℕ, Bool, true, false, not, ◌&&◌, ◌||◌, ◌==◌, List, map, filter, IfSome, IsSomeAnd, IsTrue}
+use Rattle.std.specs.Prelude.{◌≡◌, ℕ, Bool, true, false, not, ◌&&◌, ◌||◌, ◌==◌, List, map, filter, find, option_map, Option, Some, None, IfSome, IsSomeAnd, IsTrue}
 use Rattle.std.specs.List.{list_all, AllByRecursion}
+use Rattle.std.proofs.Common.{refl, ap, ◌∙◌}
+use Rattle.wf_words.specs.Found.{find_filtered, find_mapped}
 use Rattle.wf_words.specs.Keyed.{is_in}
 use Rattle.wf_pixel.specs.Choice.{has_sides, is_a8}
 use Rattle.wf_pixel.specs.Place.{size_of}
 use Rattle.wf_life.specs.declared.Kind.{Kind}
 use Rattle.wf_life.specs.declared.Kind.TheVariants as kind
-use Rattle.wf_life.specs.Handles.{Live, IsRising, same_kind}
+use Rattle.wf_life.specs.Handles.{Live, IsRising, key_of, same_kind}
 use Rattle.wf_stream.specs.Streams.{KeptStream, StoreView, buffers_at}
 use Rattle.wf_scene.specs.declared.Layer.{Layer}
 use Rattle.wf_scene.specs.Cached.{handles}
@@ -42,6 +44,18 @@ element_live owner handle = live kind.Element handle owner
 -- the live handles of a kind
 abbrev pub of_kind : Kind → List Live → List Live
 of_kind k others = filter (λ l. same_kind l.kind k) others
+
+mapped_twice : {A B C : Type 0} (f : B → C) (g : A → B) (o : Option A) → option_map f (option_map g o) ≡ option_map (λ x. f (g x)) o
+mapped_twice f g None = refl
+mapped_twice f g (Some x) = refl
+
+-- the key of a handle is that of the object that has it
+pub keyed : {A : Type 0} (k : Kind) (g : A → Live) (handle : ℕ) (xs : List A) (others : List Live) → of_kind k others ≡ map g xs
+    → key_of handle k others ≡ option_map (λ x. (g x).key) (find (λ x. (g x).handle == handle) xs)
+keyed k g handle xs others is =
+    ap (option_map (λ (l : Live). l.key)) (find_filtered (λ (l : Live). l.handle == handle) (λ (l : Live). same_kind l.kind k) others
+        ∙ ap (find (λ (l : Live). l.handle == handle)) is ∙ find_mapped (λ (l : Live). l.handle == handle) g xs)
+    ∙ mapped_twice (λ (l : Live). l.key) g (find (λ x. (g x).handle == handle) xs)
 
 -- those of a context's elements
 abbrev pub elements_of : ℕ → List Live → List Live
