@@ -1,44 +1,12 @@
 -- The layers of a consistent scene fit.
-use Rattle.std.proofs.Common.{
-  ◌≡◌,
-  ℕ,
-  Bool,
-  true,
-  false,
-  not,
-  cond,
-  ◌||◌,
-  ◌==◌,
-  List,
-  [],
-  ◌∷◌,
-  map,
-  find,
-  option_map,
-  is_some,
-  Option,
-  Some,
-  None,
-  IsTrue,
-  IsSomeAnd,
-  Ok,
-  refl,
-  sym,
-  ap,
-  subst,
-  ◌∙◌,
-}
+use Rattle.std.proofs.Common.{◌≡◌, ℕ, Bool, true, false, not, cond, ◌||◌, ◌==◌, List, [], ◌∷◌, map, is_some, Option, Some, None, IsTrue, IsSomeAnd, Ok, refl, sym, ap, subst, ◌∙◌}
 use Rattle.std.specs.List.{list_all, AllByRecursion}
 use Rattle.std.specs.Option.{option_map_or}
-use Rattle.std.proofs.Math.Path.{fun_ext}
 use Rattle.std.proofs.lemmas.Bool.{and_parts, eqb-true}
 use Rattle.wf_words.specs.Keyed.{at_key}
 use Rattle.wf_pixel.specs.declared.Size.{Size}
 use Rattle.wf_pixel.specs.Choice.{is_a8, same_size}
 use Rattle.wf_pixel.specs.Place.{size_of}
-use Rattle.wf_life.specs.declared.Kind.{Kind}
-use Rattle.wf_life.specs.declared.Kind.TheVariants as kind
-use Rattle.wf_life.specs.Handles.{Live, key_of}
 use Rattle.wf_stream.specs.Buffers.{Buffers}
 use Rattle.wf_stream.specs.Streams.{KeptStream, StoreView, buffers_at, stream_at, has_number}
 use Rattle.wf_scene.specs.declared.element.Element.{Element}
@@ -51,12 +19,10 @@ use Rattle.wf_scene.specs.Sight.{Sight}
 use Rattle.wf_model.specs.declared.Source.{Source}
 use Rattle.wf_model.specs.Objects.{CoreState}
 use Rattle.wf_model.specs.Composition.{seen, seen_source, sight_of}
-use Rattle.wf_objects.specs.Fits.{Fits, HandlesFit, LayerFits, Shows, mask_live, of_kind, source_live}
+use Rattle.wf_objects.specs.Fits.{Fits, LayerFits, Shows}
 use Rattle.wf_objects.specs.Sides.{side_of}
-use Rattle.wf_objects.specs.Sights.{seen_key, sight_in}
 use Rattle.wf_core.proofs.Faults.{Keeps, faultless, no_fault}
 use Rattle.wf_words.specs.Each.{each_found}
-use Rattle.wf_objects.proofs.Lookups.{keyed}
 use Rattle.wf_core.proofs.Seeing.{behind}
 use Rattle.wf_words.specs.Options.{from_some}
 

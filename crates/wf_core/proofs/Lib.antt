@@ -1,4 +1,5 @@
 pub mod Seeing
 pub mod Faults
 pub mod Layering
+pub mod Committing
 pub mod Screens

@@ -73,8 +73,10 @@ pub(crate) fn try_commit(
     ensures { Does (λ _. commit device context) objects.old objects.new store.now store.now result }
 {
     let place = objects.context_place(store, device, context)?;
-    let scene = committed(objects.cached(place), store)?;
-    objects.set_committed(store, place, scene);
+    match committed(objects.cached(place), store) {
+        Ok(scene) => objects.set_committed(store, place, scene),
+        Err(refused) => return Err(refused),
+    }
     Ok(0)
 }
 
