@@ -27,9 +27,9 @@ use Rattle.wf_model.specs.Frames.{scene_streams}
 use Rattle.wf_model.specs.Outcome.{refuse_with}
 use Rattle.wf_model.specs.Picture.{Fits as Drawn, Images}
 use Rattle.wf_model.specs.State.{Running, State}
-use Rattle.wf_core.specs.declared.shown.Shown.{Shown}
-use Rattle.wf_core.specs.Fits.{ContextFits, Fits}
-use Rattle.wf_core.specs.Shows.{next_of, next_shown}
+use Rattle.wf_objects.specs.declared.shown.Shown.{Shown}
+use Rattle.wf_objects.specs.Fits.{ContextFits, Fits}
+use Rattle.wf_objects.specs.Shows.{next_of, next_shown}
 use Rattle.wf_machine.specs.declared.frame.Frame.{Frame}
 use Rattle.wf_machine.specs.declared.parts.Parts.TheInside.{Inside}
 use Rattle.wf_machine.specs.declared.port.Port as declared

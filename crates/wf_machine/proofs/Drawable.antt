@@ -21,7 +21,7 @@ use Rattle.wf_stream.specs.Streams.{KeptStream, buffers_at, stream_at}
 use Rattle.wf_scene.specs.declared.Layer.{Layer}
 use Rattle.wf_scene.specs.declared.Scene.{Scene}
 use Rattle.wf_scene.specs.Layers.{holds_rect, is_placed_layer}
-use Rattle.wf_core.specs.Fits.{LayerFits}
+use Rattle.wf_objects.specs.Fits.{LayerFits}
 use Rattle.wf_model.specs.declared.Content.{Content}
 use Rattle.wf_model.specs.State.{Port}
 use Rattle.wf_model.specs.Picture.{Fits, Images, LayerFits as Shows}

@@ -19,7 +19,7 @@ use Rattle.wf_stream.specs.Buffers.{buffer_bytes, fresh}
 use Rattle.wf_stream.specs.Streams.{KeptStream, StoreView, IsNumbered, empty, held, with_screen}
 use Rattle.wf_calls.specs.declared.ports.Modes.{Modes}
 use Rattle.wf_model.specs.Objects.{CoreState, no_objects}
-use Rattle.wf_core.specs.Fits.{Fits}
+use Rattle.wf_objects.specs.Fits.{Fits}
 use Rattle.wf_model.specs.State.{Port, Running, State, initial_port, mode_size, opening, screen}
 use Rattle.wf_machine.specs.Fitting.{AllFit, contents_of, IsScreen, PortFits, PortsFit, StreamFits}
 use Rattle.wf_machine.specs.Inside.{IsSound, state_of}

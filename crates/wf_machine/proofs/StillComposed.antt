@@ -15,7 +15,7 @@ use Rattle.wf_model.specs.declared.Context.{Context}
 use Rattle.wf_model.specs.declared.Source.{Source}
 use Rattle.wf_model.specs.Objects.{CoreState}
 use Rattle.wf_model.specs.Names.{context_names, core_names, layer_names}
-use Rattle.wf_core.specs.Fits.{ContextFits, Fits, HandlesFit, LayerFits, Shows, StreamsFit}
+use Rattle.wf_objects.specs.Fits.{ContextFits, Fits, HandlesFit, LayerFits, Shows, StreamsFit}
 use Rattle.wf_machine.proofs.Mapped.{SeenSame}
 
 -- numbers in lists

@@ -1,4 +1,4 @@
-use Rattle.wf_core.specs.Fits.{Fits}
+use Rattle.wf_objects.specs.Fits.{Fits}
 use Rattle.wf_core.proofs.tests.a_bad_commit_leaves_the_old_scene.Given as goal
 
 -- objects and store fit

@@ -1,4 +1,4 @@
-use Rattle.wf_core.specs.Fits.{Fits}
+use Rattle.wf_objects.specs.Fits.{Fits}
 use Rattle.wf_core.proofs.tests.elements_are_moved.Given as goal
 
 -- objects and store fit

@@ -1,8 +1,8 @@
 use Rattle.std.proofs.Common.{ap, subst, ◌∙◌, sym}
 use Rattle.wf_model.specs.Objects.{CoreState}
 use Rattle.wf_model.specs.State.{State}
-use Rattle.wf_core.specs.Fits.{Fits}
-use Rattle.wf_core.specs.Shows.{next_shown}
+use Rattle.wf_objects.specs.Fits.{Fits}
+use Rattle.wf_objects.specs.Shows.{next_shown}
 use Rattle.wf_machine.proofs.ContextFrames.{next_fits}
 use Rattle.wf_machine.proofs.parts.Parts.begin_next.Goals as goal
 use Rattle.wf_machine.specs.Latching.{AreAtHome}
