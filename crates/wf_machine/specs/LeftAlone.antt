@@ -14,8 +14,11 @@ abbrev pub ends_frame : Call → Bool
 ends_frame c = is_end (part_of c)
   where
     is_end : Part → Bool
+    is_end part.Streams = false
+    is_end part.Buffers = false
+    is_end (part.Composition d) = false
+    is_end part.Begin = false
     is_end part.End = true
-    is_end _ = false
 
 -- the running frame goes on, and each stream that it names is kept, with its read buffer where it was
 pub record IsLeftAlone (f : Running) (h now : State) : Type 0 where
