@@ -3,8 +3,10 @@
 //! last answer counts. A blank line, and one that begins with `#`, says nothing.
 #![tactic(auto)]
 
+mod pixels;
 mod words;
 
+pub use pixels::{color, format, rect, size, told_bytes, transparency, turn};
 use std::alloc::{AllocError, Global};
 use std::process::ExitCode;
 use std::rt::{Env, Files};

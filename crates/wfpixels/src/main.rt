@@ -4,11 +4,8 @@
 use std::alloc::{AllocError, Global};
 use std::io;
 use std::process::ExitCode;
-use wf_cases::{Stage, number, word, words_of};
-use wf_pixel::{
-    Format, Rect, Rgba, Rotation, Size, Transparency, along, lift, mul, over, samp, source_place,
-    turned,
-};
+use wf_cases::{Stage, color, format, number, transparency, turn, word, words_of};
+use wf_pixel::{Format, Rect, Rgba, Size, along, lift, mul, over, samp, source_place, turned};
 
 /// Colours and places have no state.
 #[derive(Drop)]
@@ -67,42 +64,19 @@ fn samples(alloc: Global, w: u32, s: u32) -> Result<String, AllocError> {
     Ok(shown)
 }
 
-/// A colour from four words.
-fn color(words: &[&str], at: usize) -> Rgba {
-    let at = at.min(100);
-    Rgba {
-        r: number(words, at),
-        g: number(words, at + 1),
-        b: number(words, at + 2),
-        a: number(words, at + 3),
-    }
-}
-
 fn shown(alloc: Global, color: Rgba) -> Result<String, AllocError> {
     let Rgba { r, g, b, a } = color;
     format!(in alloc; "{r} {g} {b} {a}")
 }
 
-/// A colour of a format, `lift FORMAT TRANSPARENCY ALPHA MASK R G B A`, where the transparency has letters of a, s and m.
+/// A pixel of a layer, `lift FORMAT TRANSPARENCY ALPHA MASK R G B A`.
 fn lifted(words: &[&str]) -> Rgba {
-    let letters = word(words, 2);
-    let transparency = Transparency {
-        alpha: letters.contains('a'),
-        source: letters.contains('s'),
-        mask: letters.contains('m'),
-    };
-    let format = match word(words, 1) {
-        "rgba" => Format::Rgba8,
-        "pre" => Format::Rgba8Pre,
-        _ => Format::Rgbx8,
-    };
-    lift(
-        color(words, 5),
-        format,
-        transparency,
-        number(words, 3),
-        number(words, 4),
-    )
+    let format = format(words, 1);
+    if format == Format::A8 {
+        return Rgba::default();
+    }
+    let (alpha, mask) = (number(words, 3), number(words, 4));
+    lift(color(words, 5), format, transparency(words, 2), alpha, mask)
 }
 
 /// The distance of a point from the start of a side, `along START SIDE POINT`.
@@ -113,22 +87,13 @@ fn distance(alloc: Global, words: &[&str]) -> Result<String, AllocError> {
     }
 }
 
-fn turn_of(degrees: u32) -> Rotation {
-    match degrees {
-        90 => Rotation::R90,
-        180 => Rotation::R180,
-        270 => Rotation::R270,
-        _ => Rotation::R0,
-    }
-}
-
 /// A size after a turn, `turned DEGREES W H`.
 fn turned_size(alloc: Global, words: &[&str]) -> Result<String, AllocError> {
     let size = Size {
         w: number(words, 2),
         h: number(words, 3),
     };
-    let Size { w, h } = turned(turn_of(number(words, 1)), size);
+    let Size { w, h } = turned(turn(words, 1), size);
     format!(in alloc; "{w} {h}")
 }
 
@@ -148,10 +113,10 @@ fn letters(alloc: Global, words: &[&str]) -> Result<String, AllocError> {
     };
     let dest = Rect { x: -1, y: 7, w, h };
     let flip = word(words, 1) == "flipped";
-    let turn = turn_of(number(words, 2));
+    let degrees = turn(words, 2);
     for y in 6..8 + h as i32 {
         for x in -2..w as i32 {
-            match source_place(src, flip, turn, dest, x, y) {
+            match source_place(src, flip, degrees, dest, x, y) {
                 Some((u, v)) => shown.push(char::from(b"ABCDEF"[(3 * v + u) as usize]))?,
                 None => shown.push('.')?,
             }
