@@ -3,9 +3,11 @@
 //! last answer counts. A blank line, and one that begins with `#`, says nothing.
 #![tactic(auto)]
 
+mod attributes;
 mod pixels;
 mod words;
 
+pub use attributes::{context_attr, element_attr, value};
 pub use pixels::{color, format, rect, size, told_bytes, transparency, turn};
 use std::alloc::{AllocError, Global};
 use std::process::ExitCode;
