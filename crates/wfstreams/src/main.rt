@@ -101,7 +101,7 @@ impl Streams {
         let at: u32 = number(words, 1);
         match word(words, 0) {
             "acquire" => self.acquire(at),
-            "kill" => self.kill(at, kind(words, 2)),
+            "kill" => self.kill(at),
             "mark" => self.mark(at),
             "mark_own" => {
                 self.store.mark_own();
@@ -127,9 +127,9 @@ impl Streams {
         }
     }
 
-    /// Ends the life of a handle.
-    fn kill(&mut self, handle: u32, kind: Kind) -> bool {
-        let found = self.store.find(handle, kind).is_ok();
+    /// Ends the life of a stream's handle.
+    fn kill(&mut self, handle: u32) -> bool {
+        let found = self.store.number(handle).is_ok();
         if found {
             self.store.kill(handle);
         }
