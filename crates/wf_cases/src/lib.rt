@@ -5,10 +5,12 @@
 
 mod attributes;
 mod pixels;
+mod scenes;
 mod words;
 
 pub use attributes::{context_attr, element_attr, value};
 pub use pixels::{color, format, rect, size, told_bytes, transparency, turn};
+pub use scenes::{told_layer, told_scene};
 use std::alloc::{AllocError, Global};
 use std::process::ExitCode;
 use std::rt::{Env, Files};

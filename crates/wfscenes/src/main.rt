@@ -1,13 +1,15 @@
 //! The program `wfscenes`: plays cases of a context's cached scene.
 #![tactic(auto)]
 
-mod layers;
+mod shown;
 
-use layers::Shown;
+use shown::Shown;
 use std::alloc::{AllocError, Global};
 use std::io;
 use std::process::ExitCode;
-use wf_cases::{Stage, context_attr, element_attr, number, value, word, words_of};
+use wf_cases::{
+    Stage, context_attr, element_attr, number, told_layer, told_scene, value, word, words_of,
+};
 use wf_pixel::Size;
 use wf_scene::{Cached, Fault, Refused};
 
@@ -42,7 +44,7 @@ impl Stage for Scenes {
         };
         match call {
             "consistent" => consistent(alloc, cached),
-            "layer" => layers::layer(alloc, cached, number(words, 1)),
+            "layer" => layer(alloc, cached, number(words, 1)),
             "count" => format!(in alloc; "{}", cached.count()),
             "first" => format!(in alloc; "{}", cached.first().unwrap_or(0)),
             _ => told(alloc, answer(cached, words)),
@@ -104,17 +106,18 @@ fn live(cached: &mut Cached, element: u32, words: &[&str]) -> Option<Result<u32,
     }
 }
 
-/// What a commit would take: the size, the turn, the background and the number of layers; or its first fault.
+/// The scene that a commit would take, or its first fault.
 fn consistent(alloc: Global, cached: &Cached) -> Result<String, AllocError> {
-    match cached.consistent(&Shown) {
-        Ok(scene) => {
-            let (size, color) = (scene.size, scene.background);
-            let count = scene.layers.len();
-            format!(in alloc;
-                "{}x{} {:?} {} {} {} {} with {count}",
-                size.w, size.h, scene.turn, color.r, color.g, color.b, color.a
-            )
-        }
+    match cached.consistent(&Shown::new()) {
+        Ok(scene) => told_scene(alloc, &scene),
         Err(Fault { place, rule }) => format!(in alloc; "place {place} rule {rule}"),
+    }
+}
+
+/// A layer of that scene.
+fn layer(alloc: Global, cached: &Cached, place: usize) -> Result<String, AllocError> {
+    match cached.consistent(&Shown::new()) {
+        Ok(scene) => told_layer(alloc, &scene, place),
+        Err(_) => format!(in alloc; "no scene"),
     }
 }
