@@ -13,12 +13,10 @@ pub(crate) struct Shown {
 }
 
 impl Look for Shown {
-    ghost sight = {
-        λ s. record {
-            source = λ handle. if handle == 1 then s.source else None;
-            mask = λ handle. if handle == 2 then s.mask else None
-        }
-    };
+    ghost sight = { λ s. record {
+      source = λ handle. if handle == 1 then s.source else None;
+      mask = λ handle. if handle == 2 then s.mask else None;
+    } };
 
     fn source(&self, handle: u32) -> Option<Seen> {
         if handle == 1 { self.source } else { None }
