@@ -10,7 +10,7 @@ use std::process::ExitCode;
 use wf_calls::{Order, Turn};
 use wf_cases::{Stage, color, number, size, word, words_of};
 use wf_film::{WriteStop, Writer};
-use wf_image::{Canvas, Image, Paint};
+use wf_image::Image;
 use wf_io::MemorySink;
 use wf_pixel::{Format, Rgba, Size};
 
@@ -62,17 +62,23 @@ impl Stage for Films {
     }
 }
 
-/// An image of one colour.
+/// An image of one colour, where the sides are from 1 to 1024.
 fn image_of(alloc: Global, size: Size, color: Rgba) -> Option<Image>
     ensures { IfSome result (λ image. pixel_bytes image.format ≡ 4) }
 {
-    if size.w < 1 || size.w > 1024 || size.h < 1 || size.h > 1024 {
-        return None;
+    let Size { w, h } = size;
+    if 1 <= w && w <= 1024 && 1 <= h && h <= 1024 {
+        let mut image = Image::new(alloc, Size { w, h }, Format::Rgba8).ok()?;
+        for pixel in image.bytes_mut().chunks_exact_mut(4) {
+            pixel[0] = color.r;
+            pixel[1] = color.g;
+            pixel[2] = color.b;
+            pixel[3] = color.a;
+        }
+        Some(image)
+    } else {
+        None
     }
-    let image = Image::new(alloc, size, Format::Rgba8).ok()?;
-    let mut canvas = Canvas { stream: 1, image };
-    canvas.paint(&Paint::Fill { color });
-    Some(canvas.image)
 }
 
 /// Writes a film with one frame, of port 1 at tick 1, or with none.

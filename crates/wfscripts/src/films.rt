@@ -83,7 +83,17 @@ pub(crate) fn told_frame(
     }
 }
 
-/// How many events, bytes and frames a film has, or the sum of its bytes.
+/// Bytes in hexadecimal.
+fn told_hex(alloc: Global, bytes: &[u8]) -> Result<String, AllocError> {
+    let mut told = String::new(alloc);
+    for byte in bytes {
+        let pair = format!(in alloc; "{byte:02x}")?;
+        told.push_str(&pair)?;
+    }
+    Ok(told)
+}
+
+/// How many `events` and `bytes` a film has, the `sum` of its bytes, or all of them in `hex`.
 pub(crate) fn told_film(
     alloc: Global,
     film: &[u8],
@@ -94,6 +104,7 @@ pub(crate) fn told_film(
         "events" => format!(in alloc; "{events}"),
         "bytes" => format!(in alloc; "{}", film.len()),
         "sum" => format!(in alloc; "{}", sum(film)),
+        "hex" => told_hex(alloc, film),
         _ => format!(in alloc; "?"),
     }
 }
