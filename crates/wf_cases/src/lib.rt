@@ -4,11 +4,13 @@
 #![tactic(auto)]
 
 mod attributes;
+mod escapes;
 mod pixels;
 mod scenes;
 mod words;
 
 pub use attributes::{context_attr, element_attr, value};
+pub use escapes::bytes_of;
 pub use pixels::{color, format, rect, size, told_bytes, transparency, turn};
 pub use scenes::{told_layer, told_scene};
 use std::alloc::{AllocError, Global};

@@ -1,13 +1,10 @@
 //! The program `wfreader`: plays cases of the reader of scripts.
 #![tactic(auto)]
 
-mod escapes;
-
-use escapes::bytes_of;
 use std::alloc::{AllocError, Global};
 use std::io;
 use std::process::ExitCode;
-use wf_cases::Stage;
+use wf_cases::{Stage, bytes_of};
 use wf_script::{ScriptFault, parse};
 
 /// The bytes that stand before a line.
