@@ -18,7 +18,7 @@ fn escaped(letter: u8, high: u8, low: u8) -> (u8, usize) {
         b'r' => (b'\r', 1),
         b't' => (b'\t', 1),
         b's' => (b' ', 1),
-        b'x' => (16 * digit(high) + digit(low), 3),
+        b'x' => (digit(high).wrapping_mul(16).wrapping_add(digit(low)), 3),
         _ => (letter, 1),
     }
 }
