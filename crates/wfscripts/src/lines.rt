@@ -30,9 +30,9 @@ struct Said<'a> {
     said: &'a str,
 }
 
-/// A comment up to a `;`.
-fn before_semicolon(comment: &str) -> &str {
-    let (said, _) = comment.split_once(';').unwrap_or((comment, ""));
+/// What is wanted, up to a `:` behind which stands what a person wants to know.
+fn before_colon(said: &str) -> &str {
+    let (said, _) = said.split_once(':').unwrap_or((said, ""));
     said.trim()
 }
 
@@ -72,7 +72,7 @@ impl<'a> Script<'a> {
     /// What a line's comment says, if it says something, and what came.
     fn line<'b>(&mut self, alloc: Global, line: &'b str) -> Result<Option<Said<'b>>, AllocError> {
         let (line, comment) = line.split_once('#').unwrap_or((line, ""));
-        let comment = before_semicolon(comment);
+        let comment = comment.trim();
         let words = words_of(alloc, line)?;
         let came = self.journal.told(alloc, &words)?;
         if word(&words, 1) == "tick" {
@@ -84,7 +84,7 @@ impl<'a> Script<'a> {
             "film:" => self.film(alloc, rest),
             _ if is_code(first) => Ok(Some(Said {
                 came,
-                said: comment,
+                said: before_colon(comment),
             })),
             _ => Ok(None),
         }
@@ -100,6 +100,7 @@ impl<'a> Script<'a> {
             Some(frame) => told_frame(alloc, frame, &words)?,
             None => format!(in alloc; "no frame")?,
         };
+        let said = before_colon(said);
         Ok(Some(Said { came, said }))
     }
 
@@ -108,6 +109,7 @@ impl<'a> Script<'a> {
         let (what, said) = said.split_once(" is ").unwrap_or(("", said));
         let events = self.played.order.turns().len();
         let came = told_film(alloc, self.played.film.bytes(), events, what)?;
+        let said = before_colon(said);
         Ok(Some(Said { came, said }))
     }
 }

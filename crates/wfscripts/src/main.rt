@@ -1,6 +1,7 @@
 //! The program `wfscripts`: plays the scripts that its command line names, and compares what came with what the comments of
-//! their lines say. Behind an event line stand the answers of its events, as `# Ok 3` or `# Ok 0, Ok 0`; a `;` ends them.
-//! A comment `port N: ..` tells of the frame that port N showed at the last tick, and `film: ..` of the whole film.
+//! their lines say. Behind an event line stand the answers of its events, as `# Ok 3` or `# Ok 0, Ok 0`. A comment
+//! `port N: WHAT is ..` tells of the frame that port N showed at the last tick, and `film: WHAT is ..` of the whole film.
+//! A `:` ends what is wanted, and behind it stands what a person wants to know.
 #![tactic(auto)]
 
 mod events;
