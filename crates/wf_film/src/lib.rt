@@ -2,8 +2,6 @@
 #![tactic(auto)]
 
 mod pieces;
-#[cfg(test)]
-mod tests;
 mod writer;
 
 pub use wf_io::WriteStop;

@@ -7,8 +7,6 @@ ghost use Rattle.wf_pixel.specs.Choice.{is_a8};
 
 mod arithmetic;
 mod place;
-#[cfg(test)]
-mod tests;
 
 pub use arithmetic::{lift, mul, over, samp};
 pub use place::{along, source_place, turned, turned_back};

@@ -1,0 +1,22 @@
+//! The words of a call.
+
+use std::alloc::{AllocError, Global};
+use std::str::FromStr;
+
+/// The words of a call.
+pub fn words_of<'a>(alloc: Global, call: &'a str) -> Result<Vec<&'a str>, AllocError> {
+    call.split_whitespace().collect(alloc)
+}
+
+/// A word by its place, or an empty one.
+pub fn word<'a>(words: &[&'a str], at: usize) -> &'a str {
+    words.get(at).copied().unwrap_or("")
+}
+
+/// The number that a word stands for, or 0 where it is none of this type.
+pub fn number<N: FromStr + Default + Drop>(words: &[&str], at: usize) -> N
+where
+    N::Err: Drop,
+{
+    word(words, at).parse::<N>().ok().unwrap_or(N::default())
+}

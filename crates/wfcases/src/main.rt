@@ -1,0 +1,88 @@
+//! The program `wfcases`: plays cases of the machine's calls.
+#![tactic(auto)]
+
+mod calls;
+mod clients;
+mod machines;
+mod rounds;
+
+use clients::Client;
+use std::alloc::{AllocError, Global};
+use std::io;
+use std::process::ExitCode;
+use wf_calls::{Call, Reply};
+use wf_cases::{Stage, number, word, words_of};
+use wf_machine::Machine;
+use wf_stream::Held;
+
+/// A machine, and what its clients hold.
+#[derive(Drop)]
+struct Cases {
+    machine: Option<Machine>,
+    client: Client,
+}
+
+fn main(rt: HostRuntime) -> io::Result<ExitCode> {
+    wf_cases::play::<Cases, HostRuntime>(&rt)
+}
+
+impl Stage for Cases {
+    fn opened(_alloc: Global) -> Cases {
+        Cases {
+            machine: None,
+            client: Client::new(),
+        }
+    }
+
+    fn answer(&mut self, alloc: Global, call: &str) -> Result<String, AllocError> {
+        let words = words_of(alloc, call)?;
+        let words = words.as_slice();
+        if word(words, 0) == "ports" {
+            self.machine = machines::open(alloc, words);
+            self.client = Client::new();
+            return format!(in alloc; "done");
+        }
+        let Some(machine) = &mut self.machine else {
+            return format!(in alloc; "no ports");
+        };
+        match word(words, 0) {
+            "ready" => ready(alloc, machine, words),
+            "held" => held(alloc, machine),
+            "round" => {
+                rounds::play(machine, &mut self.client);
+                held(alloc, machine)
+            }
+            _ => match self.client.call(words) {
+                Some(call) => told(alloc, machine, &mut self.client, call),
+                None => self.client.answer(alloc, words),
+            },
+        }
+    }
+}
+
+/// The answer to a call, whose canvas or Job goes to the client.
+fn told(
+    alloc: Global,
+    machine: &mut Machine,
+    client: &mut Client,
+    call: Call,
+) -> Result<String, AllocError> {
+    let reply = machine.run(0, call);
+    let (code, value) = (reply.code, reply.value);
+    client.take(reply);
+    format!(in alloc; "{code:?} {value}")
+}
+
+/// Whether a call can be answered now.
+fn ready(alloc: Global, machine: &Machine, words: &[&str]) -> Result<String, AllocError> {
+    match calls::call_of(words.get(1..).unwrap_or(&[])) {
+        Some(call) => format!(in alloc; "{}", machine.ready(&call)),
+        None => format!(in alloc; "no such call"),
+    }
+}
+
+/// How many streams are kept, and the bytes of their buffers.
+fn held(alloc: Global, machine: &Machine) -> Result<String, AllocError> {
+    let Held { streams, bytes } = machine.held();
+    format!(in alloc; "{streams} {bytes}")
+}

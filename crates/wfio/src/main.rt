@@ -1,0 +1,133 @@
+//! The program `wfio`: plays cases of reading and writing all bytes, through parts in memory and through adapters.
+#![tactic(auto)]
+
+mod doubles;
+
+use doubles::{Broken, Narrow};
+use std::alloc::{AllocError, Global};
+use std::io;
+use std::process::ExitCode;
+use wf_cases::{Stage, number, word, words_of};
+use wf_io::{
+    MemorySink, MemorySource, ReadStop, Sink, StdSink, StdSource, WriteStop, read_all, write_all,
+};
+
+/// Each case has parts of its own.
+#[derive(Drop)]
+struct Parts;
+
+fn main(rt: HostRuntime) -> io::Result<ExitCode> {
+    wf_cases::play::<Parts, HostRuntime>(&rt)
+}
+
+impl Stage for Parts {
+    fn opened(_alloc: Global) -> Parts {
+        Parts
+    }
+
+    fn answer(&mut self, alloc: Global, call: &str) -> Result<String, AllocError> {
+        let words = words_of(alloc, call)?;
+        let words = words.as_slice();
+        match word(words, 0) {
+            "read" => read(alloc, words),
+            "write" => write(alloc, words),
+            "narrow" => narrow(alloc, words),
+            "adapted" => adapted(alloc),
+            "broken" => broken(alloc, word(words, 1) == "flush"),
+            _ => format!(in alloc; "no such call"),
+        }
+    }
+}
+
+/// The bytes 0, 1, 2 and so on, this many.
+fn numbers(alloc: Global, count: u8) -> Result<Vec<u8>, AllocError> {
+    (0..count).collect(alloc)
+}
+
+/// Reads all of a source, `read COUNT STEP FAILING LIMIT`: how many bytes it has and gives in a call, which call fails, and the
+/// limit.
+fn read(alloc: Global, words: &[&str]) -> Result<String, AllocError> {
+    let step: usize = number(words, 2);
+    if step == 0 {
+        return format!(in alloc; "no step");
+    }
+    let bytes = numbers(alloc, number(words, 1))?;
+    let failing = Vec::from_slice(alloc, &[number(words, 3)])?;
+    let mut source = MemorySource::new(bytes.clone()?, step, failing);
+    let got = read_all(alloc, &mut source, number(words, 4));
+    let faults = source.faults();
+    match got {
+        Ok(read) if read.as_slice() == bytes.as_slice() => format!(in alloc;
+            "all, {faults} faults"
+        ),
+        Ok(_) => format!(in alloc; "other bytes"),
+        Err(ReadStop::TooLong) => format!(in alloc; "too long, {faults} faults"),
+        Err(ReadStop::Fault) => format!(in alloc; "fault, {faults} faults"),
+        Err(ReadStop::NoMemory) => Err(AllocError),
+    }
+}
+
+/// What writing came to, and whether the sink holds just what was written.
+fn told(
+    alloc: Global,
+    written: Result<(), WriteStop>,
+    sink: &MemorySink,
+    bytes: &[u8],
+) -> Result<String, AllocError> {
+    let (held, faults) = (sink.bytes(), sink.faults());
+    if bytes.get(..held.len()) != Some(held) {
+        return format!(in alloc; "other bytes");
+    }
+    let count = held.len();
+    match written {
+        Ok(()) => format!(in alloc; "all, holds {count}, {faults} faults"),
+        Err(stop) => format!(in alloc;
+            "stop after {}, holds {count}, {faults} faults",
+            stop.written
+        ),
+    }
+}
+
+/// Writes all bytes, `write COUNT ROOM FAILING`: how many, the room of the sink, and which call fails.
+fn write(alloc: Global, words: &[&str]) -> Result<String, AllocError> {
+    let bytes = numbers(alloc, number(words, 1))?;
+    let failing = Vec::from_slice(alloc, &[number(words, 3)])?;
+    let Ok(mut sink) = MemorySink::new(alloc, number(words, 2), failing) else {
+        return Err(AllocError);
+    };
+    let written = write_all(&mut sink, &bytes);
+    told(alloc, written, &sink, &bytes)
+}
+
+/// The same through a sink that takes at most two bytes in a call, `narrow COUNT ROOM FAILING`.
+fn narrow(alloc: Global, words: &[&str]) -> Result<String, AllocError> {
+    let bytes = numbers(alloc, number(words, 1))?;
+    let failing = Vec::from_slice(alloc, &[number(words, 3)])?;
+    let Ok(sink) = MemorySink::new(alloc, number(words, 2), failing) else {
+        return Err(AllocError);
+    };
+    let mut narrow = Narrow { sink };
+    let written = write_all(&mut narrow, &bytes);
+    told(alloc, written, &narrow.sink, &bytes)
+}
+
+/// Reads 25 bytes from a slice and writes them into a vector, by the adapters.
+fn adapted(alloc: Global) -> Result<String, AllocError> {
+    let bytes = numbers(alloc, 25)?;
+    let mut source = StdSource::new(bytes.as_slice());
+    let Ok(read) = read_all(alloc, &mut source, 25) else {
+        return format!(in alloc; "not read");
+    };
+    let mut written = Vec::new(alloc);
+    let mut sink = StdSink::new(&mut written);
+    let done = write_all(&mut sink, &read).is_ok();
+    let same = written.as_slice() == bytes.as_slice();
+    format!(in alloc; "{done} {same}")
+}
+
+/// Puts bytes into a writer that takes none, or whose flush fails.
+fn broken(alloc: Global, takes: bool) -> Result<String, AllocError> {
+    let mut sink = StdSink::new(Broken { takes });
+    let put = sink.put(&[1, 2, 3]).is_ok();
+    format!(in alloc; "{put}, {} faults", sink.faults())
+}
