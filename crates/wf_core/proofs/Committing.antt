@@ -37,7 +37,8 @@ module _ (core : CoreState) (store : StoreView) (fits : Fits core store) (place 
       ∙ sym (ap (λ (sight : Sight). fault_as_refusal (consistent sight scene)) (sights core store fits.handles)) ∙ sym is
 
   -- the context with the scene that is taken fits
-  pub scene_fits : (s : Scene) → Ok s ≡ fault_as_refusal (consistent (sight_in store) scene) → IsTrue (list_all is_placed_layer s.layers.items)
+  pub scene_fits : (s : Scene) → Ok s ≡ fault_as_refusal (consistent (sight_in store) scene)
+      → IsTrue (list_all is_placed_layer s.layers.items)
       → ContextFits store.streams (with_committed s c)
   scene_fits s is placed =
       let sound = consistent_fits core store fits c.cached s (without_code (consistent (sight_of (side_of core store)) c.cached)

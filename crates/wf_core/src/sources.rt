@@ -10,7 +10,7 @@ ghost use Rattle.wf_objects.specs.Sides.{KeepsRest};
 
 use crate::answers::answer;
 use crate::composition::Core;
-use crate::streams::{is_a8, seen_by_handle};
+use crate::streams::seen_by_handle;
 use wf_calls::{Code, Refusal, Reply};
 use wf_objects::Objects;
 use wf_pixel::Format;
@@ -20,7 +20,7 @@ use wf_stream::Store;
 fn is_unfit(mask: bool, format: Format) -> bool
     ensures { result ≡ is_unfit mask format }
 {
-    if mask { !is_a8(format) } else { is_a8(format) }
+    if mask { !format.is_a8() } else { format.is_a8() }
 }
 
 pub(crate) fn try_link_new(

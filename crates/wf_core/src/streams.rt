@@ -1,23 +1,11 @@
 //! What streams show.
 
 ghost use Rattle.std.specs.Prelude.{◌≡◌, Some, IfSome};
-ghost use Rattle.wf_pixel.specs.Choice.{is_a8};
 ghost use Rattle.wf_stream.specs.Streams.{stream_at, stream_of};
 ghost use Rattle.wf_model.specs.Composition.{seen_stream};
 
-use wf_pixel::Format;
 use wf_scene::Seen;
 use wf_stream::Store;
-
-/// The format is for masks.
-pub(crate) fn is_a8(format: Format) -> bool
-    ensures { result ≡ is_a8 format }
-{
-    match format {
-        Format::A8 => true,
-        _ => false,
-    }
-}
 
 /// What the stream of a number shows, where it is kept.
 pub(crate) fn seen_by_number(store: &Store, number: u32) -> Option<Seen>

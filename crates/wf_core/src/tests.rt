@@ -4,7 +4,6 @@ ghost use Rattle.std.specs.Prelude.{pos, IfOk, IfSome, IsTrue};
 ghost use Rattle.wf_pixel.specs.Choice.{is_between};
 ghost use Rattle.wf_objects.specs.Fits.{Fits, IsOfPixels};
 
-use crate::streams::is_a8;
 use crate::{Core, NoMemory};
 use std::alloc::Global;
 use std::test::Fail;
@@ -37,7 +36,7 @@ fn screen(store: &Store) -> Option<u32>
     ensures { IfSome result (IsOfPixels store.now.streams) }
 {
     let stream = store.get(1)?;
-    if is_a8(stream.format()) {
+    if stream.format().is_a8() {
         return None;
     }
     Some(1)

@@ -11,7 +11,7 @@ use Rattle.wf_model.specs.Names.{all_names, core_names, display_names, frame_nam
 use Rattle.wf_model.specs.State.{State}
 use Rattle.wf_machine.specs.declared.parts.Parts.TheInside.{Inside}
 use Rattle.wf_machine.specs.Inside.{state_of}
-use Rattle.wf_machine.specs.Marking.{Marks}
+use Rattle.wf_objects.specs.Marks.{Marks}
 use Rattle.wf_machine.proofs.Begun.{AllFound, all_found}
 use Rattle.wf_machine.proofs.Dropping.{among}
 

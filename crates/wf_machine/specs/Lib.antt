@@ -1,6 +1,5 @@
 -- The machine: what a call may answer and what it leaves, and how the machine is kept.
 pub mod Object
-pub mod Marking
 pub mod Latching
 pub mod Ports
 pub mod Fitting

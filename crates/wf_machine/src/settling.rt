@@ -4,23 +4,15 @@ ghost use Rattle.std.specs.Prelude.{◌≡◌, ◌≤◌, [], ◌∷◌, length,
 ghost use Rattle.std.specs.List.{range_with_len};
 ghost use Rattle.wf_model.specs.Names.{frame_names, settle, settle_if, target_names};
 ghost use Rattle.wf_machine.specs.Ports.{running_of};
-ghost use Rattle.wf_machine.specs.Marking.{Marks};
+ghost use Rattle.wf_objects.specs.Marks.{Marks};
 
 use crate::frame::Frame;
 use crate::parts::Parts;
 use crate::port::Port;
 use wf_calls::JobKind;
 use wf_model::Content;
+use wf_objects::mark_kept;
 use wf_stream::Store;
-
-/// Marks the stream of a number, if it is kept.
-fn mark_kept(store: &mut Store, number: u32)
-    ensures { Marks store.old store.new (number ∷ []) }
-{
-    if store.get(number).is_some() {
-        store.mark(number);
-    }
-}
 
 /// Marks the screens of the ports.
 fn mark_screens(store: &mut Store, ports: &[Port])

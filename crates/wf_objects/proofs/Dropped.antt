@@ -178,12 +178,14 @@ then_lost a b c first second = record {
 module _ (core : CoreState) (store : StoreView) (fits : Fits core store) (h : ℕ) where
   -- a handle of a kind that dies
   died : (k : Kind) → IsUnder h k store.others → KindChanged k store store.made (without h store.others)
-  died k u = record { rising = rising_without h 0 store.made store.others fits.handles.rising; other = other_kind core store fits.handles h k u }
+  died k u = record { rising = rising_without h 0 store.made store.others fits.handles.rising;
+      other = other_kind core store fits.handles h k u }
 
   -- one that is of no element
   still_housed : (k : Kind) (u : IsUnder h k store.others) → same_kind k kind.Element ≡ false
       → Housed core.contexts (without h store.others)
-  still_housed k u other = record { elements = elements_stay core store fits.handles h k u other; owned = owned_stay core store fits.handles h k u }
+  still_housed k u other = record { elements = elements_stay core store fits.handles h k u other;
+      owned = owned_stay core store fits.handles h k u }
 
   pub link_under : (mask : Bool) → list_any (λ s. s.handle == h) (links mask core) ≡ true → IsUnder h (link_kind mask) store.others
   link_under mask any = object_under (link_kind mask) (link_live mask) h store.made (links mask core) store.others fits.handles.rising

@@ -63,7 +63,8 @@ pub standing : (view core : CoreState) (place : ℕ) (x y : Context) → view �
     → x ≡ slice_index_or view.contexts place x → y ≡ x → slice_get core.contexts place ≡ Some y
 standing view core place x y is less read same =
     slice_get_read core.contexts (length core.contexts) place x refl less (read
-    ∙ ap (λ (cs : List Context). slice_index_or cs place x) (ap (λ (k : CoreState). k.contexts) is)) ∙ ap (λ (c : Context). Some c) (sym same)
+    ∙ ap (λ (cs : List Context). slice_index_or cs place x) (ap (λ (k : CoreState). k.contexts) is))
+        ∙ ap (λ (c : Context). Some c) (sym same)
 
 -- a handle is 0 or that of an element, by the place that was found
 pub any_element : (d h : ℕ) (w : CoreSide) (o : Option ℕ) → (h == 0) ≡ false

@@ -114,7 +114,8 @@ pub links_with : (mask : Bool) (xs : List Source) (core : CoreState) → links m
 links_with false xs core = refl
 links_with true xs core = refl
 
-pub with_twice : (mask : Bool) (xs ys : List Source) (core : CoreState) → with_links mask ys (with_links mask xs core) ≡ with_links mask ys core
+pub with_twice : (mask : Bool) (xs ys : List Source) (core : CoreState)
+    → with_links mask ys (with_links mask xs core) ≡ with_links mask ys core
 with_twice false xs ys core = refl
 with_twice true xs ys core = refl
 

@@ -1,5 +1,6 @@
 -- Changes of the context at a place: each does what the plain change does.
-use Rattle.std.proofs.Common.{◌≡◌, ℕ, zero, suc, Bool, true, ◌||◌, not, ℤ, List, [], ◌∷◌, map, set, slice_get, Some, OnErr, Result, Ok, Err, refl, sym, ap, subst, ◌∙◌}
+use Rattle.std.proofs.Common.{◌≡◌, ℕ, zero, suc, Bool, true, ◌||◌, not, ℤ, List, [], ◌∷◌, map, set, slice_get, Some, OnErr, Result, Ok,
+    Err, refl, sym, ap, subst, ◌∙◌}
 use Rattle.std.specs.List.{list_all}
 use Rattle.wf_words.specs.Each.{each_at, each_set}
 use Rattle.wf_words.specs.Keyed.{is_in}
@@ -80,7 +81,8 @@ module _ (core : CoreState) (store : StoreView) (fits : Fits core store) (place 
         fits = fit;
       }
 
-  pub activates : (active : Bool) → Does (in_place place (changed (with_active active))) core (placed (record c { active = active })) store store
+  pub activates : (active : Bool)
+      → Does (in_place place (changed (with_active active))) core (placed (record c { active = active })) store store
       (Ok 0)
   activates active =
       let fit = each_at (ContextFits store.streams) core.contexts place c fits.streams.contexts at in

@@ -123,7 +123,8 @@ refuses plain core store r fits is =
     record { case = is; refused = refl; untouched = refl; kept = record { streams = refl; numbered = refl; others = refl }; fits = fits }
 
 -- what does as another call does what that one does
-pub as_other : (plain other : Bool → CoreSide → Outcome CoreSide) (core left : CoreState) (store now : StoreView) (result : Result ℕ Refusal)
+pub as_other : (plain other : Bool → CoreSide → Outcome CoreSide) (core left : CoreState) (store now : StoreView)
+    (result : Result ℕ Refusal)
     → ((m : Bool) → plain m (side_of core store) ≡ other m (side_of core store)) → Does other core left store now result
     → Does plain core left store now result
 as_other plain other core left store now result same does =
@@ -158,7 +159,8 @@ module _ (place : ℕ) (after : Step) (core left : CoreState) (store now : Store
       → Does (λ m w. device d w >>= (λ _. element_context d e w >>= (λ c. after c.handle m c w))) core left store now result
   in_owner d e at =
       let w = side_of core store in
-      as_other (λ m w. device d w >>= (λ _. element_context d e w >>= (λ c. after c.handle m c w))) (in_place place after) core left store now
+      as_other (λ m w. device d w >>= (λ _. element_context d e w >>= (λ c. after c.handle m c w))) (in_place place after) core left store
+          now
       result
       (λ m. (let go : Context → Outcome CoreSide = λ c. after c.handle m c w in
       joined (device d w) (λ _. element_context d e w) go ∙ ap (λ (r : Result Context Refusal). r >>= go) (sym at))) does
@@ -173,7 +175,8 @@ reads place core store call scene r fits c at same is = rw is (of_answer (call s
     told : ℕ → Outcome CoreSide
     told n = Ok (side_of core store, n)
 
-    here : (m : Result ℕ Refused) → call scene ≡ m → (b : Bool) → in_place place (scene_read call) b (side_of core store) ≡ (by_scene m >>= told)
+    here : (m : Result ℕ Refused) → call scene ≡ m → (b : Bool)
+        → in_place place (scene_read call) b (side_of core store) ≡ (by_scene m >>= told)
     here m answered b = rw (at, same, answered) refl
 
     of_answer : (m : Result ℕ Refused) → call scene ≡ m → Does (in_place place (scene_read call)) core core store store (by_scene m)

@@ -25,7 +25,8 @@ ghost use Rattle.wf_stream.specs.Streams.{is_stream};
 ghost use Rattle.wf_model.specs.Core.{is_element_or_0};
 ghost use Rattle.wf_objects.specs.Fits.{Fits};
 ghost use Rattle.wf_objects.specs.Links.{links};
-ghost use Rattle.wf_objects.specs.Owners.{of_device, of_element, live_device, owned_context, owned_link, owning_context, at_place, LivesAt, StandsAt};
+ghost use Rattle.wf_objects.specs.Owners.{of_device, of_element, live_device, owned_context, owned_link, owning_context, at_place,
+    LivesAt, StandsAt};
 ghost use Rattle.wf_objects.specs.Sides.{side_of};
 
 use crate::links::is_of_device;

@@ -15,5 +15,6 @@ mod rows;
 mod shown;
 
 pub use editing::by_scene;
+pub use marking::mark_kept;
 pub use objects::Objects;
 pub use shown::Shown;

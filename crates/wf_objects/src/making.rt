@@ -46,12 +46,7 @@ fn blank_scene(size: Size) -> Scene
     Scene {
         size,
         turn: Rotation::R0,
-        background: Rgba {
-            r: 0,
-            g: 0,
-            b: 0,
-            a: 255,
-        },
+        background: Rgba::BLACK,
         layers: ArrayVec::new(),
     }
 }

@@ -12,8 +12,8 @@ use wf_scene::Layer;
 use wf_stream::Store;
 
 /// Marks the stream of a number, where it is kept.
-fn mark_kept(store: &mut Store, number: u32)
-    ensures { Marks (number ∷ []) store.old store.new }
+pub fn mark_kept(store: &mut Store, number: u32)
+    ensures { Marks store.old store.new (number ∷ []) }
 {
     if store.get(number).is_some() {
         store.mark(number);
@@ -22,7 +22,7 @@ fn mark_kept(store: &mut Store, number: u32)
 
 /// Marks what a layer shows, and its mask.
 fn mark_layer(store: &mut Store, layer: Layer)
-    ensures { Marks (layer_names layer) store.old store.new }
+    ensures { Marks store.old store.new (layer_names layer) }
 {
     mark_kept(store, layer.stream);
     mark_kept(store, layer.mask);
@@ -30,7 +30,7 @@ fn mark_layer(store: &mut Store, layer: Layer)
 
 /// Marks what layers show, and their masks.
 fn mark_layers(store: &mut Store, layers: &[Layer])
-    ensures { Marks (flat_map layer_names layers.now) store.old store.new }
+    ensures { Marks store.old store.new (flat_map layer_names layers.now) }
 {
     for layer in layers {
         mark_layer(store, *layer);
@@ -39,7 +39,7 @@ fn mark_layers(store: &mut Store, layers: &[Layer])
 
 /// Marks the streams of sources or masks.
 fn mark_sources(store: &mut Store, sources: &[Link])
-    ensures { Marks (map (λ s. s.stream) sources.now) store.old store.new }
+    ensures { Marks store.old store.new (map (λ s. s.stream) sources.now) }
 {
     for source in sources {
         mark_kept(store, source.stream);
@@ -48,7 +48,7 @@ fn mark_sources(store: &mut Store, sources: &[Link])
 
 /// Marks the target of a context, and what its committed scene shows.
 fn mark_context(store: &mut Store, context: &Context)
-    ensures { Marks (context_names context.now) store.old store.new }
+    ensures { Marks store.old store.new (context_names context.now) }
 {
     mark_kept(store, context.target);
     mark_layers(store, context.committed.layers.as_slice());
@@ -56,7 +56,7 @@ fn mark_context(store: &mut Store, context: &Context)
 
 /// Marks what contexts name.
 fn mark_contexts(store: &mut Store, contexts: &[Context])
-    ensures { Marks (flat_map context_names contexts.now) store.old store.new }
+    ensures { Marks store.old store.new (flat_map context_names contexts.now) }
 {
     for context in contexts {
         mark_context(store, context);

@@ -58,12 +58,7 @@ impl Cached {
             size: target,
             on_screen,
             turn: Rotation::R0,
-            background: Rgba {
-                r: 0,
-                g: 0,
-                b: 0,
-                a: 255,
-            },
+            background: Rgba::BLACK,
             elements,
             order: ArrayVec::new(),
         })

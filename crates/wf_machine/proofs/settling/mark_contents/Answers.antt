@@ -1,7 +1,7 @@
 use Rattle.std.proofs.Common.{◌∷◌, [], List, ℕ, map, take, sym, ap, subst, ◌∙◌}
 use Rattle.std.proofs.lemmas.List.{map-append, take_all, take_more}
 use Rattle.wf_model.specs.declared.Content.{Content}
-use Rattle.wf_machine.specs.Marking.{Marks}
+use Rattle.wf_objects.specs.Marks.{Marks}
 use Rattle.wf_machine.proofs.Markings.{more_marked, none_marked}
 use Rattle.wf_machine.proofs.settling.mark_contents.Goals as goal
 

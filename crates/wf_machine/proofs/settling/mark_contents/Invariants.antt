@@ -1,6 +1,6 @@
 use Rattle.std.proofs.Common.{map, take}
 use Rattle.wf_model.specs.declared.Content.{Content}
-use Rattle.wf_machine.specs.Marking.{Marks}
+use Rattle.wf_objects.specs.Marks.{Marks}
 use Rattle.wf_machine.proofs.settling.mark_contents.Given as goal
 
 -- the streams of the contents so far are marked

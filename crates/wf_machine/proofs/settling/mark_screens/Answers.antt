@@ -1,6 +1,6 @@
 use Rattle.std.proofs.Common.{◌≡◌, ◌+◌, ◌∷◌, [], ◌++◌, List, ℕ, sym, ap, subst, ◌∙◌, arith}
 use Rattle.std.specs.List.{range_with_len}
-use Rattle.wf_machine.specs.Marking.{Marks}
+use Rattle.wf_objects.specs.Marks.{Marks}
 use Rattle.wf_machine.proofs.Markings.{more_marked, none_marked, range_more}
 use Rattle.wf_machine.proofs.settling.mark_screens.Goals as goal
 

@@ -5,4 +5,4 @@ use Rattle.wf_objects.proofs.marking.mark_contexts.Given as goal
 
 -- what was passed is marked
 abbrev pub invariant-loop-context : goal.invariant-loop-context
-invariant-loop-context l = Marks (flat_map context_names (take l.context-index l.contexts)) l.initial.store l.store
+invariant-loop-context l = Marks l.initial.store l.store (flat_map context_names (take l.context-index l.contexts))

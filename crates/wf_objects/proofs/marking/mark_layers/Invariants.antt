@@ -5,4 +5,4 @@ use Rattle.wf_objects.proofs.marking.mark_layers.Given as goal
 
 -- what was passed is marked
 abbrev pub invariant-loop-layer : goal.invariant-loop-layer
-invariant-loop-layer l = Marks (flat_map layer_names (take l.layer-index l.layers)) l.initial.store l.store
+invariant-loop-layer l = Marks l.initial.store l.store (flat_map layer_names (take l.layer-index l.layers))

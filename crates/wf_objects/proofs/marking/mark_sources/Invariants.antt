@@ -4,4 +4,4 @@ use Rattle.wf_objects.proofs.marking.mark_sources.Given as goal
 
 -- what was passed is marked
 abbrev pub invariant-loop-source : goal.invariant-loop-source
-invariant-loop-source l = Marks (map (λ s. s.stream) (take l.source-index l.sources)) l.initial.store l.store
+invariant-loop-source l = Marks l.initial.store l.store (map (λ s. s.stream) (take l.source-index l.sources))

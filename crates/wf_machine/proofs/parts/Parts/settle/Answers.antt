@@ -7,7 +7,7 @@ use Rattle.wf_model.specs.Names.{core_names, display_names, kept, own_names, set
 use Rattle.wf_model.specs.State.{State}
 use Rattle.wf_machine.specs.declared.parts.Parts.TheInside.{Inside}
 use Rattle.wf_machine.specs.Inside.{state_of}
-use Rattle.wf_machine.specs.Marking.{Marks}
+use Rattle.wf_objects.specs.Marks.{Marks}
 use Rattle.wf_machine.specs.Ports.{port_of}
 use Rattle.wf_machine.proofs.Dropping.{sound_settled}
 use Rattle.wf_machine.proofs.Markings.{all_marked, own_marks, rest_marked}

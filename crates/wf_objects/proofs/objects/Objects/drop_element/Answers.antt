@@ -25,7 +25,8 @@ forget-requires c =
 
 -- the context at the place
 at : (c : After-forget) → slice_get c.args.self.now.contexts c.args.place ≡ Some (context_of c.behind-self.inside)
-at c = standing _ c.args.self.now c.args.place _ (context_of c.behind-self.inside) c.self.view_is c.requires.within c.index_mut.ensures.value
+at c = standing _ c.args.self.now c.args.place _ (context_of c.behind-self.inside) c.self.view_is c.requires.within
+    c.index_mut.ensures.value
     c.behind-self.view_is
 
 under : (c : After-forget)

@@ -18,7 +18,8 @@ at c = standing _ c.loop-element.self c.args.place _ (context_of c.behind-self.i
 
 -- it is the one that loses its elements
 handle : (c : After-first) → (context_of c.behind-self.inside).handle ≡ c.args.context
-handle c = let s = c.loop-element.invariant.here in let same : (context_of c.behind-self.inside) ≡ s.context = let both = sym (at c) ∙ s.at in cc in
+handle c = let s = c.loop-element.invariant.here in
+    let same : (context_of c.behind-self.inside) ≡ s.context = let both = sym (at c) ∙ s.at in cc in
     ap (λ (x : Context). x.handle) same ∙ s.handle_is
 
 pub drop_element-requires-clause-lives : goal.drop_element-requires-clause-lives
@@ -30,7 +31,8 @@ drop_element-requires-clause-lives c =
 
 -- what is left of the objects
 left : (c : After-drop_element) (there : slice_get c.loop-element.self.contexts c.args.place ≡ Some (context_of c.behind-self.inside))
-    → c.drop_element.new.self ≡ change_context (context_of c.behind-self.inside).handle (with_cached (forget c.in-Some.element (context_of c.behind-self.inside).cached))
+    → c.drop_element.new.self ≡ change_context (context_of c.behind-self.inside).handle
+        (with_cached (forget c.in-Some.element (context_of c.behind-self.inside).cached))
     c.loop-element.self
 left c there = rw there at c.drop_element.ensures.dropped
 
@@ -38,7 +40,8 @@ pub loop-element-smaller : goal.loop-element-smaller
 loop-element-smaller c =
     let l = c.loop-element in
     let k = (goal.at.loop-element-smaller c).After-first in
-    fewer_elements l.self l.store l.invariant.fits c.args.context c.args.place (context_of c.behind-self.inside) (at k) (handle k) c.in-Some.element
+    fewer_elements l.self l.store l.invariant.fits c.args.context c.args.place (context_of c.behind-self.inside) (at k) (handle k)
+        c.in-Some.element
     c.drop_element.new.self (left (goal.at.loop-element-smaller c).After-drop_element (at k))
     (sym c.in-Some.is ∙ c.first.ensures.first)
 
@@ -50,9 +53,11 @@ loop-element-preserved c =
     record {
       fits = c.drop_element.ensures.fits;
       loses = then_lost c.args.store.now l.store c.drop_element.new.store l.invariant.loses c.drop_element.ensures.loses;
-      rest = others_stay l.self l.store l.invariant.fits c.args.context c.args.place (context_of c.behind-self.inside) (at k) (handle k) c.in-Some.element
+      rest = others_stay l.self l.store l.invariant.fits c.args.context c.args.place (context_of c.behind-self.inside) (at k) (handle k)
+          c.in-Some.element
           c.drop_element.new.self is ∙ l.invariant.rest;
-      here = still_stands l.self l.store l.invariant.fits c.args.context c.args.place (context_of c.behind-self.inside) (at k) (handle k) c.in-Some.element
+      here = still_stands l.self l.store l.invariant.fits c.args.context c.args.place (context_of c.behind-self.inside) (at k) (handle k)
+          c.in-Some.element
           c.drop_element.new.self is l.invariant.here.within;
     }
 
