@@ -1,11 +1,51 @@
 -- The first fault of a cached scene: its place and its rule are small; and where there is none every element keeps all rules.
-use Rattle.std.proofs.Common.{◌≡◌, ℕ, ◌+◌, ◌<◌, ◌≤◌, Bool, true, false, not, List, [], ◌∷◌, length, position, slice_get, option_map, Option, Some, None, Ok, Err, refl, sym, ap, arith}
+use Rattle.std.proofs.Common.{
+  ◌≡◌,
+  ℕ,
+  ◌+◌,
+  ◌<◌,
+  ◌≤◌,
+  Bool,
+  true,
+  false,
+  not,
+  List,
+  [],
+  ◌∷◌,
+  length,
+  position,
+  slice_get,
+  option_map,
+  Option,
+  Some,
+  None,
+  Ok,
+  Err,
+  refl,
+  sym,
+  ap,
+  arith,
+}
 use Rattle.std.specs.List.{AllByRecursion, cons_option}
 use Rattle.wf_scene.specs.declared.look.Fault.{Fault}
 use Rattle.wf_scene.specs.declared.element.Element.{Element}
 use Rattle.wf_scene.specs.declared.Scene.{Scene}
 use Rattle.wf_scene.specs.Cached.{CachedScene, IsOrderly, element_at}
-use Rattle.wf_scene.specs.Consistent.{broken_rule, consistent, elements_of, fault, fault_from, faults_from, has_destination, has_source, inserted_elements, is_covered, is_inside, scene_of, unless}
+use Rattle.wf_scene.specs.Consistent.{
+  broken_rule,
+  consistent,
+  elements_of,
+  fault,
+  fault_from,
+  faults_from,
+  has_destination,
+  has_source,
+  inserted_elements,
+  is_covered,
+  is_inside,
+  scene_of,
+  unless,
+}
 use Rattle.wf_scene.specs.Sight.{Sight}
 
 -- of four rules the first that is broken, counted from 1
@@ -45,31 +85,38 @@ module _ (sight : Sight) where
   faultless place (e ∷ es) is = by_rule (faultless (place + 1) es) (broken_rule sight e) refl is
     where
       by_rule : (fault_from sight (place + 1) es ≡ None → AllByRecursion Keeps es) → (o : Option ℕ) → broken_rule sight e ≡ o
-          → slice_get (cons_option (option_map (λ rule. record { place = place; rule = rule }) o) (faults_from sight (place + 1) es)) 0 ≡ None → AllByRecursion Keeps (e ∷ es)
+          → slice_get (cons_option (option_map (λ rule. record { place = place; rule = rule }) o) (faults_from sight (place + 1) es)) 0
+          ≡ None → AllByRecursion Keeps (e ∷ es)
       by_rule later None at none = (keeps_all e at, later none)
       by_rule later (Some r) at none = absurd cc
 
   -- a fault that is found is at one of the places, by one of the rules
-  pub bounded : (place : ℕ) (es : List Element) (f : Fault) → fault_from sight place es ≡ Some f → (f.place < place + length es) × (f.rule ≤ 4)
+  pub bounded : (place : ℕ) (es : List Element) (f : Fault) → fault_from sight place es ≡ Some f → (f.place < place + length es)
+      × (f.rule ≤ 4)
   bounded place [] f is = absurd cc
   bounded place (e ∷ es) f is = by_rule (bounded (place + 1) es f) (broken_rule sight e) refl is
     where
-      by_rule : (fault_from sight (place + 1) es ≡ Some f → (f.place < place + 1 + length es) × (f.rule ≤ 4)) → (o : Option ℕ) → broken_rule sight e ≡ o
-          → slice_get (cons_option (option_map (λ rule. record { place = place; rule = rule }) o) (faults_from sight (place + 1) es)) 0 ≡ Some f → (f.place < place + length (e ∷ es)) × (f.rule ≤ 4)
+      by_rule : (fault_from sight (place + 1) es ≡ Some f → (f.place < place + 1 + length es) × (f.rule ≤ 4)) → (o : Option ℕ)
+          → broken_rule sight e ≡ o
+          → slice_get (cons_option (option_map (λ rule. record { place = place; rule = rule }) o) (faults_from sight (place + 1) es)) 0
+          ≡ Some f → (f.place < place + length (e ∷ es)) × (f.rule ≤ 4)
       by_rule later None at found = (let bounds = later found in (omega (arith, bounds.0), bounds.1))
       by_rule later (Some r) at found =
           let told : Fault = record { place = place; rule = r } in
           let same : told ≡ f = cc in
           let here : place ≡ f.place = ap (λ (x : Fault). x.place) same in
-          let rule : r ≡ f.rule = ap (λ (x : Fault). x.rule) same in
-          (omega (arith, here), omega (arith, rule, few_rules (has_source sight e) (is_inside sight e) (has_destination e) (is_covered sight e) r at))
+          let rule : r ≡ f.rule = ap (λ (x : Fault). x.rule) same in (
+            omega (arith, here),
+            omega (arith, rule, few_rules (has_source sight e) (is_inside sight e) (has_destination e) (is_covered sight e) r at),
+          )
 
 -- at most as many elements as handles
 as_many : (order : List ℕ) (elements : List Element) → length (elements_of order elements) ≤ length order
 as_many [] elements = omega arith
 as_many (h ∷ order) elements = by_element (as_many order elements) (element_at h elements)
   where
-    by_element : length (elements_of order elements) ≤ length order → (o : Option Element) → length (cons_option o (elements_of order elements)) ≤ length (h ∷ order)
+    by_element : length (elements_of order elements) ≤ length order → (o : Option Element)
+        → length (cons_option o (elements_of order elements)) ≤ length (h ∷ order)
     by_element later None = omega (arith, later)
     by_element later (Some e) = omega (arith, later)
 

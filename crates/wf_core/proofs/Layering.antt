@@ -1,16 +1,12 @@
--- What a store tells of sources and masks, and that the layers of a consistent scene fit.
-use Rattle.std.proofs.Common.{◌≡◌, ℕ, Bool, true, false, not, cond, ◌||◌, ◌==◌, List, [], ◌∷◌, map, find, option_map, is_some, Option, Some, None, IsTrue, IsSomeAnd, Ok, refl, sym, ap, subst, ◌∙◌}
+-- The layers of a consistent scene fit.
+use Rattle.std.proofs.Common.{◌≡◌, ℕ, Bool, true, false, not, cond, ◌||◌, ◌==◌, List, [], ◌∷◌, map, is_some, Option, Some, None, IsTrue, IsSomeAnd, Ok, refl, sym, ap, subst, ◌∙◌}
 use Rattle.std.specs.List.{list_all, AllByRecursion}
 use Rattle.std.specs.Option.{option_map_or}
-use Rattle.std.proofs.Math.Path.{fun_ext}
 use Rattle.std.proofs.lemmas.Bool.{and_parts, eqb-true}
 use Rattle.wf_words.specs.Keyed.{at_key}
 use Rattle.wf_pixel.specs.declared.Size.{Size}
 use Rattle.wf_pixel.specs.Choice.{is_a8, same_size}
 use Rattle.wf_pixel.specs.Place.{size_of}
-use Rattle.wf_life.specs.declared.Kind.{Kind}
-use Rattle.wf_life.specs.declared.Kind.TheVariants as kind
-use Rattle.wf_life.specs.Handles.{Live, key_of}
 use Rattle.wf_stream.specs.Buffers.{Buffers}
 use Rattle.wf_stream.specs.Streams.{KeptStream, StoreView, buffers_at, stream_at, has_number}
 use Rattle.wf_scene.specs.declared.element.Element.{Element}
@@ -23,44 +19,21 @@ use Rattle.wf_scene.specs.Sight.{Sight}
 use Rattle.wf_model.specs.declared.Source.{Source}
 use Rattle.wf_model.specs.Objects.{CoreState}
 use Rattle.wf_model.specs.Composition.{seen, seen_source, sight_of}
-use Rattle.wf_core.specs.Fits.{Fits, HandlesFit, LayerFits, Shows, mask_live, of_kind, source_live}
-use Rattle.wf_core.specs.Sides.{side_of}
-use Rattle.wf_core.specs.Sights.{seen_key, sight_in}
+use Rattle.wf_objects.specs.Fits.{Fits, LayerFits, Shows}
+use Rattle.wf_objects.specs.Sides.{side_of}
 use Rattle.wf_core.proofs.Faults.{Keeps, faultless, no_fault}
 use Rattle.wf_words.specs.Each.{each_found}
-use Rattle.wf_core.proofs.Lookups.{keyed}
 use Rattle.wf_core.proofs.Seeing.{behind}
 use Rattle.wf_words.specs.Options.{from_some}
 
--- what is seen behind the keys of a kind is what is seen of the objects
-seen_same : (k : Kind) (g : Source → Live) (sources : List Source) (store : StoreView) → ((s : Source) → (g s).handle ≡ s.handle) → of_kind k store.others ≡ map g sources
-    → ((o : Option Source) → seen_key store.streams (option_map (λ s. (g s).key) o) ≡ seen_source store.streams o)
-    → ((h : ℕ) → find (λ s. (g s).handle == h) sources ≡ at_key (λ s. s.handle) h sources)
-    → (h : ℕ) → seen_key store.streams (key_of h k store.others) ≡ seen sources store.streams h
-seen_same k g sources store handle is told found h =
-    ap (seen_key store.streams) (keyed k g h sources store.others is) ∙ ap (λ (o : Option Source). seen_key store.streams (option_map (λ s. (g s).key) o)) (found h) ∙ told (at_key (λ s. s.handle) h sources)
-
--- the store tells what the objects show
-pub sights : (core : CoreState) (store : StoreView) → HandlesFit core store → sight_in store ≡ sight_of (side_of core store)
-sights core store fits =
-    let both : (ℕ → Option Seen) → (ℕ → Option Seen) → Sight = λ source mask. record { source = source; mask = mask } in
-    ap (λ (f : ℕ → Option Seen). both f (λ h. seen_key store.streams (key_of h kind.Mask store.others))) (fun_ext (seen_same kind.Source source_live core.sources store (λ s. refl) fits.sources of_source (λ h. refl)))
-    ∙ ap (both (seen core.sources store.streams)) (fun_ext (seen_same kind.Mask mask_live core.masks store (λ s. refl) fits.masks of_mask (λ h. refl)))
-  where
-    of_source : (o : Option Source) → seen_key store.streams (option_map (λ s. (source_live s).key) o) ≡ seen_source store.streams o
-    of_source None = refl
-    of_source (Some s) = refl
-
-    of_mask : (o : Option Source) → seen_key store.streams (option_map (λ s. (mask_live s).key) o) ≡ seen_source store.streams o
-    of_mask None = refl
-    of_mask (Some s) = refl
-
 -- what is seen of a source or a mask is kept, with its size, and is for what the source or the mask is for
-seen_shape : (mask : Bool) (streams : List KeptStream) (sources : List Source) (h : ℕ) (s : Seen) → AllByRecursion (Shows mask streams) sources → seen sources streams h ≡ Some s
+seen_shape : (mask : Bool) (streams : List KeptStream) (sources : List Source) (h : ℕ) (s : Seen)
+    → AllByRecursion (Shows mask streams) sources → seen sources streams h ≡ Some s
     → IsSomeAnd (buffers_at s.stream streams) (λ b. (is_a8 b.format ≡ mask) × (b.size ≡ s.size))
 seen_shape mask streams sources h s shows is = of_object (at_key (λ (x : Source). x.handle) h sources) refl is
   where
-    of_object : (o : Option Source) → at_key (λ (x : Source). x.handle) h sources ≡ o → seen_source streams o ≡ Some s → IsSomeAnd (buffers_at s.stream streams) (λ b. (is_a8 b.format ≡ mask) × (b.size ≡ s.size))
+    of_object : (o : Option Source) → at_key (λ (x : Source). x.handle) h sources ≡ o → seen_source streams o ≡ Some s
+        → IsSomeAnd (buffers_at s.stream streams) (λ b. (is_a8 b.format ≡ mask) × (b.size ≡ s.size))
     of_object None at told = absurd cc
     of_object (Some x) at told =
         let k = behind (stream_at x.stream streams) s told in
@@ -80,20 +53,26 @@ module _ (core : CoreState) (store : StoreView) (fits : Fits core store) where
   sight = sight_of (side_of core store)
 
   -- the source of an element that keeps all rules
-  source_fits : (e : Element) (o : Option Seen) → sight.source e.source ≡ o → is_some o ≡ true → option_map_or (λ (s : Seen). holds_rect s.size e.style.src) o false ≡ true
+  source_fits : (e : Element) (o : Option Seen) → sight.source e.source ≡ o → is_some o ≡ true
+      → option_map_or (λ (s : Seen). holds_rect s.size e.style.src) o false ≡ true
       → IsSomeAnd (buffers_at (stream_of o) store.streams) (λ b. (is_a8 b.format ≡ false) × IsTrue (holds_rect b.size e.style.src))
   source_fits e None at some inside = absurd cc
   source_fits e (Some s) at some inside =
-      from_some (λ (b : Buffers). (is_a8 b.format ≡ false) × (b.size ≡ s.size)) (λ (b : Buffers). (is_a8 b.format ≡ false) × IsTrue (holds_rect b.size e.style.src)) (buffers_at s.stream store.streams)
-      (seen_shape false store.streams core.sources e.source s fits.streams.sources at) (λ b is. (is.0, ap (λ (z : Size). holds_rect z e.style.src) is.1 ∙ inside))
+      from_some (λ (b : Buffers). (is_a8 b.format ≡ false) × (b.size ≡ s.size)) (λ (b : Buffers). (is_a8 b.format ≡ false)
+      × IsTrue (holds_rect b.size e.style.src)) (buffers_at s.stream store.streams)
+      (seen_shape false store.streams core.sources e.source s fits.streams.sources at)
+      (λ b is. (is.0, ap (λ (z : Size). holds_rect z e.style.src) is.1 ∙ inside))
 
   -- its mask
-  mask_fits : (e : Element) (o : Option Seen) → sight.mask e.mask ≡ o → option_map_or (λ (m : Seen). same_size m.size (size_of e.style.dest)) o false ≡ true
+  mask_fits : (e : Element) (o : Option Seen) → sight.mask e.mask ≡ o
+      → option_map_or (λ (m : Seen). same_size m.size (size_of e.style.dest)) o false ≡ true
       → IsSomeAnd (buffers_at (stream_of o) store.streams) (λ b. (is_a8 b.format ≡ true) × (b.size ≡ size_of e.style.dest))
   mask_fits e None at covered = absurd cc
   mask_fits e (Some m) at covered =
-      from_some (λ (b : Buffers). (is_a8 b.format ≡ true) × (b.size ≡ m.size)) (λ (b : Buffers). (is_a8 b.format ≡ true) × (b.size ≡ size_of e.style.dest)) (buffers_at m.stream store.streams)
-      (seen_shape true store.streams core.masks e.mask m fits.streams.masks at) (λ b is. (is.0, is.1 ∙ same_sides m.size (size_of e.style.dest) covered))
+      from_some (λ (b : Buffers). (is_a8 b.format ≡ true) × (b.size ≡ m.size)) (λ (b : Buffers). (is_a8 b.format ≡ true)
+      × (b.size ≡ size_of e.style.dest)) (buffers_at m.stream store.streams)
+      (seen_shape true store.streams core.masks e.mask m fits.streams.masks at)
+      (λ b is. (is.0, is.1 ∙ same_sides m.size (size_of e.style.dest) covered))
 
   layer_fits : (e : Element) → Keeps sight e → IsTrue (is_placed_layer (layer_of sight e)) → LayerFits store.streams (layer_of sight e)
   layer_fits e keeps placed =
@@ -105,19 +84,27 @@ module _ (core : CoreState) (store : StoreView) (fits : Fits core store) where
         unmasked = λ bare. ap (λ b. cond b (stream_of (sight.mask e.mask)) 0) bare;
       }
     where
-      masked : (b : Bool) → b ≡ true → (not b || option_map_or (λ (m : Seen). same_size m.size (size_of e.style.dest)) (sight.mask e.mask) false) ≡ true
-          → IsSomeAnd (buffers_at (cond b (stream_of (sight.mask e.mask)) 0) store.streams) (λ x. (is_a8 x.format ≡ true) × (x.size ≡ size_of e.style.dest))
+      masked : (b : Bool) → b ≡ true
+          → (not b || option_map_or (λ (m : Seen). same_size m.size (size_of e.style.dest)) (sight.mask e.mask) false) ≡ true
+          → IsSomeAnd (buffers_at (cond b (stream_of (sight.mask e.mask)) 0) store.streams) (λ x. (is_a8 x.format ≡ true)
+          × (x.size ≡ size_of e.style.dest))
       masked true is covered = mask_fits e (sight.mask e.mask) refl covered
       masked false is covered = absurd cc
 
-  layers_fit : (es : List Element) → AllByRecursion (Keeps sight) es → list_all is_placed_layer (map (layer_of sight) es) ≡ true → AllByRecursion (LayerFits store.streams) (map (layer_of sight) es)
+  layers_fit : (es : List Element) → AllByRecursion (Keeps sight) es → list_all is_placed_layer (map (layer_of sight) es) ≡ true
+      → AllByRecursion (LayerFits store.streams) (map (layer_of sight) es)
   layers_fit [] keep placed = tt
   layers_fit (e ∷ es) keep placed =
       let parts = and_parts (is_placed_layer (layer_of sight e)) (list_all is_placed_layer (map (layer_of sight) es)) placed in
       (layer_fits e keep.0 parts.0, layers_fit es keep.1 parts.1)
 
   -- the scene that a commit takes has the size of the cached one, and its layers fit
-  pub consistent_fits : (c : CachedScene) (s : Scene) → consistent sight c ≡ Ok s → IsTrue (list_all is_placed_layer s.layers.items) → (s.size ≡ c.size) × AllByRecursion (LayerFits store.streams) s.layers.items
+  pub consistent_fits : (c : CachedScene) (s : Scene) → consistent sight c ≡ Ok s → IsTrue (list_all is_placed_layer s.layers.items)
+      → (s.size ≡ c.size) × AllByRecursion (LayerFits store.streams) s.layers.items
   consistent_fits c s is placed =
-      let ok = no_fault sight c s is in
-      (ap (λ (x : Scene). x.size) ok.1, subst (λ (x : Scene). AllByRecursion (LayerFits store.streams) x.layers.items) (sym ok.1) (layers_fit (inserted_elements c) (faultless sight 1 (inserted_elements c) ok.0) (subst (λ (x : Scene). list_all is_placed_layer x.layers.items ≡ true) ok.1 placed)))
+      let ok = no_fault sight c s is in (
+        ap (λ (x : Scene). x.size) ok.1,
+        subst (λ (x : Scene). AllByRecursion (LayerFits store.streams) x.layers.items) (sym ok.1)
+            (layers_fit (inserted_elements c) (faultless sight 1 (inserted_elements c) ok.0)
+            (subst (λ (x : Scene). list_all is_placed_layer x.layers.items ≡ true) ok.1 placed)),
+      )

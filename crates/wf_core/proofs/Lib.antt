@@ -1,17 +1,5 @@
-pub mod Fitting
-pub mod Lookups
-pub mod Owners
-pub mod Scenes
 pub mod Seeing
-pub mod Makings
-pub mod ElementCalls
-pub mod Keeping
 pub mod Faults
 pub mod Layering
 pub mod Committing
 pub mod Screens
-pub mod Activating
-pub mod Leaving
-pub mod Dropping
-pub mod Destroying
-pub mod Remainders

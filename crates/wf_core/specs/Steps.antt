@@ -10,8 +10,8 @@ use Rattle.wf_calls.specs.declared.reply.Reply.{Reply}
 use Rattle.wf_model.specs.Composition.{CoreSide, core_answer}
 use Rattle.wf_model.specs.Objects.{CoreState}
 use Rattle.wf_model.specs.Outcome.{Outcome}
-use Rattle.wf_core.specs.Fits.{Fits, IsOfPixels}
-use Rattle.wf_core.specs.Sides.{side_of}
+use Rattle.wf_objects.specs.Fits.{Fits, IsOfPixels}
+use Rattle.wf_objects.specs.Sides.{side_of}
 
 -- nothing of the store changed
 abbrev pub KeepsAll : StoreView → StoreView → Type 0
@@ -19,8 +19,10 @@ KeepsAll old new = new ≡ old
 
 -- a call that names a device: it leaves and answers what the plain call does, where want of memory is told by the answer;
 -- so much of the store is kept; objects and store fit again; and nothing comes with the reply
-pub record Steps (device : ℕ) (plain : Bool → CoreSide → Outcome CoreSide) (Keeps : StoreView → StoreView → Type 0) (core left : CoreState) (store now : StoreView) (reply : Reply) : Type 0 where
-  pub step : core_answer device (side_of core store) (plain (is_out_of_memory reply.code) (side_of core store)) ≡ (side_of left now, told reply)
+pub record Steps (device : ℕ) (plain : Bool → CoreSide → Outcome CoreSide) (Keeps : StoreView → StoreView
+    → Type 0) (core left : CoreState) (store now : StoreView) (reply : Reply) : Type 0 where
+  pub step : core_answer device (side_of core store) (plain (is_out_of_memory reply.code) (side_of core store))
+      ≡ (side_of left now, told reply)
   pub kept : Keeps store now
   pub fits : Fits left now
   pub bare : reply ≡ bare (told reply)

@@ -6,17 +6,17 @@ ghost use Rattle.wf_life.specs.Handles.{key_of};
 ghost use Rattle.wf_stream.specs.Streams.{is_stream};
 ghost use Rattle.wf_scene.specs.Consistent.{consistent};
 ghost use Rattle.wf_scene.specs.Layers.{is_placed_layer};
-ghost use Rattle.wf_model.specs.Composition.{core_answer};
 ghost use Rattle.wf_model.specs.Core.{commit, fault_as_refusal};
-ghost use Rattle.wf_core.specs.Sides.{side_of, done_by};
-ghost use Rattle.wf_core.specs.Sights.{seen_key, sight_in};
+ghost use Rattle.wf_objects.specs.Does.{Does};
+ghost use Rattle.wf_objects.specs.Sights.{seen_key, sight_in};
 ghost use Rattle.wf_core.specs.Steps.{KeepsAll, Steps};
-ghost use Rattle.wf_core.specs.Fits.{Fits};
+ghost use Rattle.wf_objects.specs.Fits.{Fits};
 
+use crate::answers::answer;
 use crate::composition::Core;
-use crate::finding::key_of;
 use crate::streams::seen_by_number;
 use wf_calls::{Code, Refusal, Reply};
+use wf_objects::Objects;
 use wf_scene::{Cached, Fault, Look, Scene, Seen};
 use wf_stream::{Kind, Store};
 
@@ -43,9 +43,9 @@ fn seen_by_key(store: &Store, handle: u32, kind: Kind) -> Option<Seen>
     requires { is_stream kind ≡ false }
     ensures { result ≡ seen_key store.now.streams (key_of handle kind store.now.others) }
 {
-    match key_of(store, handle, kind) {
-        Some(number) => seen_by_number(store, number),
-        None => None,
+    match store.find(handle, kind) {
+        Ok(number) => seen_by_number(store, number),
+        Err(_) => None,
     }
 }
 
@@ -63,21 +63,24 @@ fn committed(cached: &Cached, store: &Store) -> Result<Scene, Refusal>
     }
 }
 
-impl Core {
-    pub(crate) fn try_commit(&mut self, store: &Store, device: u32, context: u32) -> Result<u32, Refusal>
-        requires { Fits self.old store.now }
-        ensures case { commit device context (side_of self.old store.now) ≡ done_by result (side_of self.new store.now) }
-        ensures refused { OnErr result (self.new ≡ self.old) }
-        ensures fits { Fits self.new store.now }
-    {
-        let place = self.context_place(store, device, context)?;
-        match committed(&self.contexts[place].cached, store) {
-            Ok(scene) => self.contexts[place].committed = scene,
-            Err(refused) => return Err(refused),
-        }
-        Ok(0)
+pub(crate) fn try_commit(
+    objects: &mut Objects,
+    store: &Store,
+    device: u32,
+    context: u32,
+) -> Result<u32, Refusal>
+    requires { Fits objects.old store.now }
+    ensures { Does (λ _. commit device context) objects.old objects.new store.now store.now result }
+{
+    let place = objects.context_place(store, device, context)?;
+    match committed(objects.cached(place), store) {
+        Ok(scene) => objects.set_committed(store, place, scene),
+        Err(refused) => return Err(refused),
     }
+    Ok(0)
+}
 
+impl Core {
     /// Makes the cached scene of a context the committed one, as a whole, or changes nothing. Inconsistency has the value
     /// place * 16 + rule: the place of the first bad element, from 1 at the bottom, and the first rule that it breaks. It
     /// takes no memory.
@@ -85,7 +88,7 @@ impl Core {
         requires { Fits self.old store.old }
         ensures { Steps device (λ _. commit device context) KeepsAll self.old self.new store.old store.new result }
     {
-        let done = self.try_commit(store, device, context);
-        Reply::bare(self.answer(store, device, done))
+        let done = try_commit(&mut self.objects, store, device, context);
+        Reply::bare(answer(&mut self.objects, store, device, done))
     }
 }

@@ -1,31 +1,26 @@
 //! The objects of composition.
 
-ghost use Rattle.std.specs.Prelude.{◌≡◌, IfOk};
+ghost use Rattle.std.specs.Prelude.{◌≡◌, ℕ, ◌||◌, [], IfOk, IsSome};
+ghost use Rattle.wf_words.specs.Keyed.{at_key, is_in};
+ghost use Rattle.wf_stream.specs.Streams.{StoreView, stream_at};
+ghost use Rattle.wf_model.specs.Composition.{change_register, recorded};
+ghost use Rattle.wf_model.specs.Names.{core_names};
 ghost use Rattle.wf_model.specs.Objects.{no_objects};
+ghost use Rattle.wf_objects.specs.Fits.{Fits};
+ghost use Rattle.wf_objects.specs.Shows.{next_shown, shown_context};
 
 use std::alloc::Global;
 use std::marker::Model;
-use wf_model::{Context, Device, Source};
+use wf_calls::Code;
+use wf_objects::{Objects, Shown};
+use wf_stream::Store;
 use wf_words::NoMemory;
-
-/// How many devices live at most.
-pub(crate) const MOST_DEVICES: usize = 8;
-
-/// How many contexts live at most.
-pub(crate) const MOST_CONTEXTS: usize = 16;
-
-/// How many sources and masks live at most, those of the display included.
-pub(crate) const MOST_SOURCES: usize = 256;
 
 /// The objects of composition: devices, contexts, sources and masks, each by rising handle. A context has its elements in
 /// its cached scene. All room is taken when they are made.
 #[derive(Drop)]
 pub struct Core {
-    pub(crate) alloc: Global,
-    pub(crate) devices: Vec<Device>,
-    pub(crate) contexts: Vec<Context>,
-    pub(crate) sources: Vec<Source>,
-    pub(crate) masks: Vec<Source>,
+    pub(crate) objects: Objects,
 }
 
 impl Model for Core {
@@ -33,11 +28,7 @@ impl Model for Core {
 
     ghost Value = { CoreState };
 
-    ghost use Rattle.wf_core.specs.Inside.{core_inside, IsRoomy};
-
-    ghost view = { core_inside };
-
-    ghost invariant = { IsRoomy };
+    ghost view = { λ c. c.objects };
 }
 
 impl Core {
@@ -46,11 +37,40 @@ impl Core {
         ensures { IfOk result (λ made. made ≡ no_objects) }
     {
         Ok(Core {
-            alloc,
-            devices: Vec::with_capacity(alloc, MOST_DEVICES)?,
-            contexts: Vec::with_capacity(alloc, MOST_CONTEXTS)?,
-            sources: Vec::with_capacity(alloc, MOST_SOURCES)?,
-            masks: Vec::with_capacity(alloc, MOST_SOURCES)?,
+            objects: Objects::new(alloc)?,
         })
+    }
+
+    /// What a context shows. BadDevice is no live device, BadHandle no context of it.
+    pub fn context(&self, device: u32, context: u32) -> Result<Shown, Code>
+        ensures { result ≡ shown_context device context self.now }
+    {
+        self.objects.context(device, context)
+    }
+
+    /// The active context with the least handle above another, of any device, and what it shows.
+    pub fn next(&self, after: u32) -> Option<(u32, Shown)>
+        ensures { result ≡ next_shown after self.now }
+    {
+        self.objects.next(after)
+    }
+
+    /// Offers a code to the register of a live device, which takes it where it is empty.
+    pub fn record(&mut self, device: u32, code: Code)
+        requires { IsSome (at_key (λ x. x.handle) device self.old.devices) }
+        ensures recorded { self.new ≡ change_register device (recorded code) self.old }
+        ensures fits { (store : StoreView) → Fits self.old store → Fits self.new store }
+    {
+        self.objects.record(device, code);
+    }
+
+    /// Marks the streams that the objects name: the live sources and masks, and the live contexts by their targets and by
+    /// the layers of their committed scenes.
+    pub fn mark(&self, store: &mut Store)
+        ensures marked { (n : ℕ) → IsSome (stream_at n store.old.streams)
+            → is_in n store.new.marked ≡ (is_in n store.old.marked || is_in n (core_names self.now)) }
+        ensures rest { record store.new { marked = [] } ≡ record store.old { marked = [] } }
+    {
+        self.objects.mark(store);
     }
 }

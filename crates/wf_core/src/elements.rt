@@ -1,157 +1,158 @@
 //! Elements: their attributes and their order.
 
-ghost use Rattle.std.specs.Prelude.{◌≡◌, OnErr};
-ghost use Rattle.wf_calls.specs.Codes.{is_out_of_memory};
-ghost use Rattle.wf_model.specs.Composition.{core_answer};
-ghost use Rattle.wf_model.specs.Core.{element_above, element_below, element_get, element_insert, element_new, element_remove, element_set, is_element_or_0};
-ghost use Rattle.wf_core.specs.Sides.{KeepsRest, side_of, done_by, lacks_memory};
+ghost use Rattle.wf_model.specs.Core.{
+  element_above,
+  element_below,
+  element_destroy,
+  element_get,
+  element_insert,
+  element_new,
+  element_remove,
+  element_set,
+};
 ghost use Rattle.wf_core.specs.Steps.{KeepsAll, Steps};
-ghost use Rattle.wf_core.specs.Fits.{Fits};
+ghost use Rattle.wf_objects.specs.Does.{Does};
+ghost use Rattle.wf_objects.specs.Fits.{Fits};
+ghost use Rattle.wf_objects.specs.Sides.{KeepsRest};
 
+use crate::answers::answer;
 use crate::composition::Core;
-use crate::contexts::{by_scene, scene_refusal};
-use crate::making::mint;
 use wf_calls::{Code, Refusal, Reply};
+use wf_objects::{Objects, by_scene};
 use wf_scene::ElementAttr;
-use wf_stream::{Kind, Store};
+use wf_stream::Store;
 
-/// How many elements live in a context at most.
-const MOST_ELEMENTS: u32 = 64;
+pub(crate) fn try_element_new(
+    objects: &mut Objects,
+    store: &mut Store,
+    device: u32,
+    context: u32,
+) -> Result<u32, Refusal>
+    requires { Fits objects.old store.old }
+    ensures { Does (λ m. element_new device context m) objects.old objects.new store.old store.new result }
+{
+    let place = objects.context_place(store, device, context)?;
+    objects.add_element(store, place)
+}
+
+pub(crate) fn try_element_destroy(
+    objects: &mut Objects,
+    store: &mut Store,
+    device: u32,
+    element: u32,
+) -> Result<u32, Refusal>
+    requires { Fits objects.old store.old }
+    ensures { Does (λ _. element_destroy device element) objects.old objects.new store.old store.new result }
+{
+    let place = objects.element_place(store, device, element)?;
+    objects.drop_element(store, place, element);
+    Ok(0)
+}
+
+pub(crate) fn try_element_get(
+    objects: &Objects,
+    store: &Store,
+    device: u32,
+    element: u32,
+    attr: ElementAttr,
+    index: i64,
+) -> Result<u32, Refusal>
+    requires { Fits objects.now store.now }
+    ensures { Does (λ _. element_get device element attr index) objects.now objects.now store.now store.now result }
+{
+    let place = objects.element_place(store, device, element)?;
+    by_scene(objects.cached(place).get(element, attr, index))
+}
+
+pub(crate) fn try_element_set(
+    objects: &mut Objects,
+    store: &Store,
+    device: u32,
+    element: u32,
+    attr: ElementAttr,
+    value: [i64; 4],
+) -> Result<u32, Refusal>
+    requires { Fits objects.old store.now }
+    ensures { Does (λ _. element_set device element attr value) objects.old objects.new store.now store.now result }
+{
+    let place = objects.element_place(store, device, element)?;
+    objects.set_element(store, device, place, element, attr, value)
+}
+
+pub(crate) fn try_element_insert(
+    objects: &mut Objects,
+    store: &Store,
+    device: u32,
+    element: u32,
+    below: u32,
+) -> Result<u32, Refusal>
+    requires { Fits objects.old store.now }
+    ensures { Does (λ _. element_insert device element below) objects.old objects.new store.now store.now result }
+{
+    let place = objects.element_place(store, device, element)?;
+    if !objects.is_element_or_0(store, device, below) {
+        return Err(Refusal::of(Code::BadHandle));
+    }
+    objects.insert_element(store, place, element, below)
+}
+
+pub(crate) fn try_element_remove(
+    objects: &mut Objects,
+    store: &Store,
+    device: u32,
+    element: u32,
+) -> Result<u32, Refusal>
+    requires { Fits objects.old store.now }
+    ensures { Does (λ _. element_remove device element) objects.old objects.new store.now store.now result }
+{
+    let place = objects.element_place(store, device, element)?;
+    objects.remove_element(store, place, element)
+}
+
+pub(crate) fn try_element_above(
+    objects: &Objects,
+    store: &Store,
+    device: u32,
+    element: u32,
+) -> Result<u32, Refusal>
+    requires { Fits objects.now store.now }
+    ensures { Does (λ _. element_above device element) objects.now objects.now store.now store.now result }
+{
+    let place = objects.element_place(store, device, element)?;
+    by_scene(objects.cached(place).above(element))
+}
+
+pub(crate) fn try_element_below(
+    objects: &Objects,
+    store: &Store,
+    device: u32,
+    element: u32,
+) -> Result<u32, Refusal>
+    requires { Fits objects.now store.now }
+    ensures { Does (λ _. element_below device element) objects.now objects.now store.now store.now result }
+{
+    let place = objects.element_place(store, device, element)?;
+    by_scene(objects.cached(place).below(element))
+}
 
 impl Core {
-    pub(crate) fn try_element_new(
-        &mut self,
-        store: &mut Store,
-        device: u32,
-        context: u32,
-    ) -> Result<u32, Refusal>
-        requires { Fits self.old store.old }
-        ensures case { element_new device context (lacks_memory result) (side_of self.old store.old) ≡ done_by result (side_of self.new store.new) }
-        ensures refused { OnErr result (self.new ≡ self.old) }
-        ensures unmade { OnErr result (store.new ≡ store.old) }
-        ensures kept { KeepsRest store.old store.new }
-        ensures fits { Fits self.new store.new }
-    {
-        let place = self.context_place(store, device, context)?;
-        if self.contexts[place].cached.count() >= MOST_ELEMENTS {
-            return Err(Refusal::of(Code::Limit));
-        }
-        let handle = mint(store, Kind::Element, context)?;
-        self.contexts[place].cached.add(handle);
-        Ok(handle)
-    }
-
-    pub(crate) fn try_element_get(
-        &self,
-        store: &Store,
-        device: u32,
-        element: u32,
-        attr: ElementAttr,
-        index: i64,
-    ) -> Result<u32, Refusal>
-        requires { Fits self.now store.now }
-        ensures { element_get device element attr index (side_of self.now store.now) ≡ done_by result (side_of self.now store.now) }
-    {
-        let place = self.element_place(store, device, element)?;
-        by_scene(self.contexts[place].cached.get(element, attr, index))
-    }
-
-    pub(crate) fn try_element_set(
-        &mut self,
-        store: &Store,
-        device: u32,
-        element: u32,
-        attr: ElementAttr,
-        value: [i64; 4],
-    ) -> Result<u32, Refusal>
-        requires { Fits self.old store.now }
-        ensures case { element_set device element attr value (side_of self.old store.now) ≡ done_by result (side_of self.new store.now) }
-        ensures refused { OnErr result (self.new ≡ self.old) }
-        ensures fits { Fits self.new store.now }
-    {
-        let place = self.element_place(store, device, element)?;
-        let owner = self.contexts[place].handle;
-        if let Err(refused) = self.check_link(store, device, owner, attr, value) {
-            return Err(refused);
-        }
-        if let Err(refused) = self.contexts[place].cached.set(element, attr, value) {
-            return Err(scene_refusal(refused));
-        }
-        Ok(0)
-    }
-
-    /// A handle is 0 or that of a live element of the device.
-    fn is_element_or_0(&self, store: &Store, device: u32, handle: u32) -> bool
-        requires { Fits self.now store.now }
-        ensures { result ≡ is_element_or_0 device handle (side_of self.now store.now) }
-    {
-        handle == 0 || self.element_in_device(store, device, handle).is_some()
-    }
-
-    pub(crate) fn try_element_insert(
-        &mut self,
-        store: &Store,
-        device: u32,
-        element: u32,
-        below: u32,
-    ) -> Result<u32, Refusal>
-        requires { Fits self.old store.now }
-        ensures case { element_insert device element below (side_of self.old store.now) ≡ done_by result (side_of self.new store.now) }
-        ensures refused { OnErr result (self.new ≡ self.old) }
-        ensures fits { Fits self.new store.now }
-    {
-        let place = self.element_place(store, device, element)?;
-        if !self.is_element_or_0(store, device, below) {
-            return Err(Refusal::of(Code::BadHandle));
-        }
-        if let Err(refused) = self.contexts[place].cached.insert(element, below) {
-            return Err(scene_refusal(refused));
-        }
-        Ok(0)
-    }
-
-    pub(crate) fn try_element_remove(
-        &mut self,
-        store: &Store,
-        device: u32,
-        element: u32,
-    ) -> Result<u32, Refusal>
-        requires { Fits self.old store.now }
-        ensures case { element_remove device element (side_of self.old store.now) ≡ done_by result (side_of self.new store.now) }
-        ensures refused { OnErr result (self.new ≡ self.old) }
-        ensures fits { Fits self.new store.now }
-    {
-        let place = self.element_place(store, device, element)?;
-        if let Err(refused) = self.contexts[place].cached.remove(element) {
-            return Err(scene_refusal(refused));
-        }
-        Ok(0)
-    }
-
-    pub(crate) fn try_element_above(&self, store: &Store, device: u32, element: u32) -> Result<u32, Refusal>
-        requires { Fits self.now store.now }
-        ensures { element_above device element (side_of self.now store.now) ≡ done_by result (side_of self.now store.now) }
-    {
-        let place = self.element_place(store, device, element)?;
-        by_scene(self.contexts[place].cached.above(element))
-    }
-
-    pub(crate) fn try_element_below(&self, store: &Store, device: u32, element: u32) -> Result<u32, Refusal>
-        requires { Fits self.now store.now }
-        ensures { element_below device element (side_of self.now store.now) ≡ done_by result (side_of self.now store.now) }
-    {
-        let place = self.element_place(store, device, element)?;
-        by_scene(self.contexts[place].cached.below(element))
-    }
-
     /// Makes an element of a context, whose handle it answers. Limit is a 65th element of the context, or that all handles
     /// were given.
     pub fn element_new(&mut self, store: &mut Store, device: u32, context: u32) -> Reply
         requires { Fits self.old store.old }
         ensures { Steps device (λ m. element_new device context m) KeepsRest self.old self.new store.old store.new result }
     {
-        let done = self.try_element_new(store, device, context);
-        Reply::bare(self.answer(store, device, done))
+        let done = try_element_new(&mut self.objects, store, device, context);
+        Reply::bare(answer(&mut self.objects, store, device, done))
+    }
+
+    /// Destroys an element, which leaves the order too. BadHandle is no element of the device.
+    pub fn element_destroy(&mut self, store: &mut Store, device: u32, element: u32) -> Reply
+        requires { Fits self.old store.old }
+        ensures { Steps device (λ _. element_destroy device element) KeepsRest self.old self.new store.old store.new result }
+    {
+        let done = try_element_destroy(&mut self.objects, store, device, element);
+        Reply::bare(answer(&mut self.objects, store, device, done))
     }
 
     /// Sets an attribute of an element. BadHandle is a source or a mask that is neither 0 nor one of the device;
@@ -167,8 +168,8 @@ impl Core {
         requires { Fits self.old store.old }
         ensures { Steps device (λ _. element_set device element attr value) KeepsAll self.old self.new store.old store.new result }
     {
-        let done = self.try_element_set(store, device, element, attr, value);
-        Reply::bare(self.answer(store, device, done))
+        let done = try_element_set(&mut self.objects, store, device, element, attr, value);
+        Reply::bare(answer(&mut self.objects, store, device, done))
     }
 
     /// One number of an attribute of an element, by its index from 0. A negative one is answered in two's complement.
@@ -183,8 +184,8 @@ impl Core {
         requires { Fits self.old store.old }
         ensures { Steps device (λ _. element_get device element attr index) KeepsAll self.old self.new store.old store.new result }
     {
-        let done = self.try_element_get(store, device, element, attr, index);
-        Reply::bare(self.answer(store, device, done))
+        let done = try_element_get(&self.objects, store, device, element, attr, index);
+        Reply::bare(answer(&mut self.objects, store, device, done))
     }
 
     /// Puts or moves an element directly above another, or to the bottom where that is 0. BadHandle is no element of the
@@ -199,8 +200,8 @@ impl Core {
         requires { Fits self.old store.old }
         ensures { Steps device (λ _. element_insert device element below) KeepsAll self.old self.new store.old store.new result }
     {
-        let done = self.try_element_insert(store, device, element, below);
-        Reply::bare(self.answer(store, device, done))
+        let done = try_element_insert(&mut self.objects, store, device, element, below);
+        Reply::bare(answer(&mut self.objects, store, device, done))
     }
 
     /// Takes an inserted element out of the order. It lives on.
@@ -208,8 +209,8 @@ impl Core {
         requires { Fits self.old store.old }
         ensures { Steps device (λ _. element_remove device element) KeepsAll self.old self.new store.old store.new result }
     {
-        let done = self.try_element_remove(store, device, element);
-        Reply::bare(self.answer(store, device, done))
+        let done = try_element_remove(&mut self.objects, store, device, element);
+        Reply::bare(answer(&mut self.objects, store, device, done))
     }
 
     /// The element directly above an inserted one, or 0.
@@ -217,8 +218,8 @@ impl Core {
         requires { Fits self.old store.old }
         ensures { Steps device (λ _. element_above device element) KeepsAll self.old self.new store.old store.new result }
     {
-        let done = self.try_element_above(store, device, element);
-        Reply::bare(self.answer(store, device, done))
+        let done = try_element_above(&self.objects, store, device, element);
+        Reply::bare(answer(&mut self.objects, store, device, done))
     }
 
     /// The element directly below an inserted one, or 0.
@@ -226,7 +227,7 @@ impl Core {
         requires { Fits self.old store.old }
         ensures { Steps device (λ _. element_below device element) KeepsAll self.old self.new store.old store.new result }
     {
-        let done = self.try_element_below(store, device, element);
-        Reply::bare(self.answer(store, device, done))
+        let done = try_element_below(&self.objects, store, device, element);
+        Reply::bare(answer(&mut self.objects, store, device, done))
     }
 }

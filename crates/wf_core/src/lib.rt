@@ -6,22 +6,14 @@ mod answers;
 mod commits;
 mod composition;
 mod contexts;
-mod destruction;
 mod devices;
 mod elements;
-mod emptying;
-mod finding;
-mod links;
-mod making;
-mod marking;
-mod registers;
 mod running;
-mod shown;
 mod sources;
 mod streams;
 #[cfg(test)]
 mod tests;
 
 pub use composition::Core;
-pub use shown::Shown;
+pub use wf_objects::Shown;
 pub use wf_words::NoMemory;

@@ -1,104 +1,73 @@
 //! Sources and masks.
 
-ghost use Rattle.std.specs.Prelude.{◌≡◌, OnErr};
-ghost use Rattle.wf_calls.specs.Codes.{is_out_of_memory};
-ghost use Rattle.wf_model.specs.Composition.{core_answer};
-ghost use Rattle.wf_model.specs.Core.{mask_new, source_new, sources_full};
-ghost use Rattle.wf_core.specs.Sides.{KeepsRest, side_of, done_by, lacks_memory};
-ghost use Rattle.wf_core.specs.Steps.{KeepsAll, Steps};
-ghost use Rattle.wf_core.specs.Fits.{Fits};
+ghost use Rattle.std.specs.Prelude.{◌≡◌};
+ghost use Rattle.wf_model.specs.Core.{mask_destroy, mask_new, source_destroy, source_new};
+ghost use Rattle.wf_core.specs.Links.{is_unfit, link_destroy, link_new};
+ghost use Rattle.wf_core.specs.Steps.{Steps};
+ghost use Rattle.wf_objects.specs.Does.{Does};
+ghost use Rattle.wf_objects.specs.Fits.{Fits};
+ghost use Rattle.wf_objects.specs.Sides.{KeepsRest};
 
-use crate::composition::{Core, MOST_SOURCES};
-use crate::making::mint;
+use crate::answers::answer;
+use crate::composition::Core;
 use crate::streams::{is_a8, seen_by_handle};
 use wf_calls::{Code, Refusal, Reply};
-use wf_model::Source;
-use wf_stream::{Kind, Store};
+use wf_objects::Objects;
+use wf_pixel::Format;
+use wf_stream::Store;
+
+/// A format is not for a source, or not for a mask.
+fn is_unfit(mask: bool, format: Format) -> bool
+    ensures { result ≡ is_unfit mask format }
+{
+    if mask { !is_a8(format) } else { is_a8(format) }
+}
+
+pub(crate) fn try_link_new(
+    objects: &mut Objects,
+    store: &mut Store,
+    mask: bool,
+    device: u32,
+    context: u32,
+    stream: u32,
+) -> Result<u32, Refusal>
+    requires { Fits objects.old store.old }
+    ensures { Does (link_new mask device context stream) objects.old objects.new store.old store.new result }
+{
+    objects.context_place(store, device, context)?;
+    let Some(seen) = seen_by_handle(store, stream) else {
+        return Err(Refusal::of(Code::BadHandle));
+    };
+    if is_unfit(mask, seen.format) {
+        return Err(Refusal::of(Code::Unsupported));
+    }
+    objects.add_link(store, mask, context, seen.stream)
+}
+
+pub(crate) fn try_link_destroy(
+    objects: &mut Objects,
+    store: &mut Store,
+    mask: bool,
+    device: u32,
+    link: u32,
+) -> Result<u32, Refusal>
+    requires { Fits objects.old store.old }
+    ensures { Does (λ _. link_destroy mask device link) objects.old objects.new store.old store.new result }
+{
+    objects.check_link_owned(store, mask, device, link)?;
+    objects.drop_link(store, mask, link);
+    Ok(0)
+}
 
 impl Core {
-    /// As many sources and masks live as may, those of the display included.
-    fn sources_full(&self, store: &Store) -> bool
-        ensures { result ≡ sources_full (side_of self.now store.now) }
-    {
-        let here = self.sources.len() + self.masks.len();
-        let there = store.live(Kind::DisplaySource) as usize;
-        here >= MOST_SOURCES || here + there >= MOST_SOURCES
-    }
-
-    pub(crate) fn try_source_new(
-        &mut self,
-        store: &mut Store,
-        device: u32,
-        context: u32,
-        stream: u32,
-    ) -> Result<u32, Refusal>
-        requires { Fits self.old store.old }
-        ensures case { source_new device context stream (lacks_memory result) (side_of self.old store.old) ≡ done_by result (side_of self.new store.new) }
-        ensures refused { OnErr result (self.new ≡ self.old) }
-        ensures unmade { OnErr result (store.new ≡ store.old) }
-        ensures kept { KeepsRest store.old store.new }
-        ensures fits { Fits self.new store.new }
-    {
-        self.context_place(store, device, context)?;
-        let Some(seen) = seen_by_handle(store, stream) else {
-            return Err(Refusal::of(Code::BadHandle));
-        };
-        if is_a8(seen.format) {
-            return Err(Refusal::of(Code::Unsupported));
-        }
-        if self.sources_full(store) {
-            return Err(Refusal::of(Code::Limit));
-        }
-        let handle = mint(store, Kind::Source, seen.stream)?;
-        self.sources.push_reserved(Source {
-            handle,
-            context,
-            stream: seen.stream,
-        });
-        Ok(handle)
-    }
-
-    pub(crate) fn try_mask_new(
-        &mut self,
-        store: &mut Store,
-        device: u32,
-        context: u32,
-        stream: u32,
-    ) -> Result<u32, Refusal>
-        requires { Fits self.old store.old }
-        ensures case { mask_new device context stream (lacks_memory result) (side_of self.old store.old) ≡ done_by result (side_of self.new store.new) }
-        ensures refused { OnErr result (self.new ≡ self.old) }
-        ensures unmade { OnErr result (store.new ≡ store.old) }
-        ensures kept { KeepsRest store.old store.new }
-        ensures fits { Fits self.new store.new }
-    {
-        self.context_place(store, device, context)?;
-        let Some(seen) = seen_by_handle(store, stream) else {
-            return Err(Refusal::of(Code::BadHandle));
-        };
-        if !is_a8(seen.format) {
-            return Err(Refusal::of(Code::Unsupported));
-        }
-        if self.sources_full(store) {
-            return Err(Refusal::of(Code::Limit));
-        }
-        let handle = mint(store, Kind::Mask, seen.stream)?;
-        self.masks.push_reserved(Source {
-            handle,
-            context,
-            stream: seen.stream,
-        });
-        Ok(handle)
-    }
-
     /// Makes a source of a context, whose handle it answers. BadHandle is no context of the device or no live stream;
     /// Unsupported a stream for masks; Limit a 257th source or mask, or that all handles were given.
     pub fn source_new(&mut self, store: &mut Store, device: u32, context: u32, stream: u32) -> Reply
         requires { Fits self.old store.old }
         ensures { Steps device (λ m. source_new device context stream m) KeepsRest self.old self.new store.old store.new result }
     {
-        let done = self.try_source_new(store, device, context, stream);
-        Reply::bare(self.answer(store, device, done))
+        let done = try_link_new(&mut self.objects, store, false, device, context, stream);
+        Reply::bare(answer(&mut self.objects, store, device, done))
     }
 
     /// Makes a mask of a context, whose handle it answers. It is refused as a source is, but that Unsupported is a stream
@@ -107,7 +76,27 @@ impl Core {
         requires { Fits self.old store.old }
         ensures { Steps device (λ m. mask_new device context stream m) KeepsRest self.old self.new store.old store.new result }
     {
-        let done = self.try_mask_new(store, device, context, stream);
-        Reply::bare(self.answer(store, device, done))
+        let done = try_link_new(&mut self.objects, store, true, device, context, stream);
+        Reply::bare(answer(&mut self.objects, store, device, done))
+    }
+
+    /// Destroys a source. BadHandle is no source of the device. Its stream is still kept, and a committed scene may show
+    /// it.
+    pub fn source_destroy(&mut self, store: &mut Store, device: u32, source: u32) -> Reply
+        requires { Fits self.old store.old }
+        ensures { Steps device (λ _. source_destroy device source) KeepsRest self.old self.new store.old store.new result }
+    {
+        let done = try_link_destroy(&mut self.objects, store, false, device, source);
+        Reply::bare(answer(&mut self.objects, store, device, done))
+    }
+
+    /// Destroys a mask. BadHandle is no mask of the device. Its stream is still kept, and a committed scene may show
+    /// through it.
+    pub fn mask_destroy(&mut self, store: &mut Store, device: u32, mask: u32) -> Reply
+        requires { Fits self.old store.old }
+        ensures { Steps device (λ _. mask_destroy device mask) KeepsRest self.old self.new store.old store.new result }
+    {
+        let done = try_link_destroy(&mut self.objects, store, true, device, mask);
+        Reply::bare(answer(&mut self.objects, store, device, done))
     }
 }

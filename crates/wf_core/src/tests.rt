@@ -2,7 +2,7 @@
 
 ghost use Rattle.std.specs.Prelude.{pos, IfOk, IfSome, IsTrue};
 ghost use Rattle.wf_pixel.specs.Choice.{is_between};
-ghost use Rattle.wf_core.specs.Fits.{Fits, IsOfPixels};
+ghost use Rattle.wf_objects.specs.Fits.{Fits, IsOfPixels};
 
 use crate::streams::is_a8;
 use crate::{Core, NoMemory};

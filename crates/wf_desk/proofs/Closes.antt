@@ -19,7 +19,8 @@ use Rattle.wf_desk.proofs.Whole.{any_read, read_all, each_pass, whole}
 
 module _ {O C R E : Type 0} (after : O → ℕ → C → R → O) (may : O → ℕ → C → R → Type 0) (entry : ℕ → R → E) (key : Key O) where
   -- all clients are with the seat id, which has not the object, so none has it
-  none_out : (s : State (Slot O E) (View O C R)) (r : Kept after may entry key s) (id : ℕ) (v : View O C R) → get_elem? s.views id ≡ some v → v.stage ≡ Idle
+  none_out : (s : State (Slot O E) (View O C R)) (r : Kept after may entry key s) (id : ℕ) (v : View O C R) → get_elem? s.views id ≡ some v
+      → v.stage ≡ Idle
       → Covers v.hands (length key.quotas.items) → NoneHas s.views
   none_out s r id v at idle all j u e has =
       let d = (r.each j u e).holder has in let of_j = (r.each j u e).hands 0 d.0 d.1 in let count = r.count in let lt = of_j.2 in
@@ -28,7 +29,8 @@ module _ {O C R E : Type 0} (after : O → ℕ → C → R → O) (may : O → �
       subst HasObject (ap (λ (x : View O C R). x.stage) (some-injective u v (sym e ∙ (ap (get_elem? s.views) same ∙ at))) ∙ idle) has
 
   -- the slot has an object, and that with its journal ends the history behind the seat's hands
-  pub closes : (id : ℕ) (v : View O C R) (ws : List ℕ) (xs : List (Slot O E)) → Final (Seen (Kept after may entry key) id v) ws xs → v.stage ≡ Idle
+  pub closes : (id : ℕ) (v : View O C R) (ws : List ℕ) (xs : List (Slot O E)) → Final (Seen (Kept after may entry key) id v) ws xs
+      → v.stage ≡ Idle
       → Covers v.hands (length key.quotas.items)
       → (h : Home O E) × (get_elem? xs 0 ≡ some (Some h)) × Ends after may entry key v.hands h.object h.journal.items
   closes id v ws xs f idle all =
@@ -50,18 +52,22 @@ module _ {O C R E : Type 0} (after : O → ℕ → C → R → O) (may : O → �
   home_or d None = d
 
   -- what is taken from the slot is that object
-  pub taken : (hands : List (Hand C R)) (xs : List (Slot O E)) (h h' : Home O E) (x : Slot O E) → get_elem? xs 0 ≡ some (Some h) → get_elem? xs 0 ≡ some x → x ≡ Some h'
+  pub taken : (hands : List (Hand C R)) (xs : List (Slot O E)) (h h' : Home O E) (x : Slot O E) → get_elem? xs 0 ≡ some (Some h)
+      → get_elem? xs 0 ≡ some x → x ≡ Some h'
       → Ends after may entry key hands h.object h.journal.items → Ends after may entry key hands h'.object h'.journal.items
   unfolding home_or
   taken hands xs h h' x a b e ends =
-      subst (λ (y : Home O E). Ends after may entry key hands y.object y.journal.items) (ap (home_or h) (some-injective (Some h) (Some h') (sym a ∙ (b ∙ ap some e)))) ends
+      subst (λ (y : Home O E). Ends after may entry key hands y.object y.journal.items)
+          (ap (home_or h) (some-injective (Some h) (Some h') (sym a ∙ (b ∙ ap some e)))) ends
 
   -- the slot is not empty
-  pub not_empty : (xs : List (Slot O E)) (h : Home O E) (x : Slot O E) → get_elem? xs 0 ≡ some (Some h) → get_elem? xs 0 ≡ some x → x ≡ None → ⊥
+  pub not_empty : (xs : List (Slot O E)) (h : Home O E) (x : Slot O E) → get_elem? xs 0 ≡ some (Some h) → get_elem? xs 0 ≡ some x → x ≡ None
+      → ⊥
   not_empty xs h x a b e = none-some h (some-injective None (Some h) (ap some (sym e) ∙ (sym b ∙ a)))
 
   -- what ends the history behind the hands of all passes closes the desk
-  pub closing : (desk : TableId) (ks : List (Known O C R)) (object : O) (journal : List E) → AreAll desk (length key.quotas.items) ks → AllOwn ks
+  pub closing : (desk : TableId) (ks : List (Known O C R)) (object : O) (journal : List E) → AreAll desk (length key.quotas.items) ks
+      → AllOwn ks
       → Ends after may entry key (hands_of ks) object journal
       → IsClosing after may entry record { id = desk; opening = key.opening.value; quotas = key.quotas.items } ks object journal
   closing desk ks object journal all own ends = let each = each_pass ks ends.history ends.known in record {

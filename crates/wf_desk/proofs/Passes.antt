@@ -24,13 +24,15 @@ module _ {O : Type 0} where
   some_same a b e = ap (some_or a) e
 
   -- what holds of the key that a seat knows holds of the opening object
-  pub of_opening : (P : O → Type 0) (q : Option (Key O)) → ((k : Key O) → q ≡ Some k → P k.opening.value) → (o : O) → opening_of q ≡ Some o → P o
+  pub of_opening : (P : O → Type 0) (q : Option (Key O)) → ((k : Key O) → q ≡ Some k → P k.opening.value) → (o : O) → opening_of q ≡ Some o
+      → P o
   of_opening P None h o e = absurd (none-some o e)
   of_opening P (Some k) h o e = subst P (some_same k.opening.value o e) (h k refl)
 
 module _ {O C R E : Type 0} (after : O → ℕ → C → R → O) (may : O → ℕ → C → R → Type 0) where
   -- what the one hand of a pass's seat says of a history that has all the client's events
-  all_mine : (seat : Seat (Slot O E) (View O C R)) (client left place : ℕ) → Sits after may seat client left place → (history : List (Event C R))
+  all_mine : (seat : Seat (Slot O E) (View O C R)) (client left place : ℕ) → Sits after may seat client left place
+      → (history : List (Event C R))
       → AllMine history seat.me.0.hands → events_of client history ≡ events_of client seat.me.0.seen
   all_mine seat client left place s history all =
       let d = s.hand in let here = all 0 d.0 (ap (λ (l : List (Hand C R)). get_elem? l 0) d.1) in
@@ -61,12 +63,14 @@ module _ {O C R E : Type 0} (after : O → ℕ → C → R → O) (may : O → �
       legal = λ o f. of_opening (λ (x : O). IsLegal after may x seat'.me.0.seen) seat.me.0.key
           (λ k named. subst (λ (y : Sat O C R E). IsLegal after may k.opening.value y.0.seen) (sym m.is) (m.legal k named))
           o (sym (ap (λ (y : Sat O C R E). opening_of y.0.key) m.is) ∙ f);
-      last = λ _. subst (λ (z : List (Event C R) × ℕ). IsLastAt client z.0 z.1) (λ i. (ap (λ (y : Sat O C R E). y.0.seen) (sym m.is) i, sym m.at_is i))
+      last = λ _. subst (λ (z : List (Event C R) × ℕ). IsLastAt client z.0 z.1)
+          (λ i. (ap (λ (y : Sat O C R E). y.0.seen) (sym m.is) i, sym m.at_is i))
           (last_here client m.before (event client call reply) refl);
     }
 
     -- the pass saw its event
-    pub made_after : 0 < left → seat'.table_id ≡ seat.table_id → Made after may Holds (known seat client left place) call reply (known seat' client (left - 1) at)
+    pub made_after : 0 < left → seat'.table_id ≡ seat.table_id
+        → Made after may Holds (known seat client left place) call reply (known seat' client (left - 1) at)
     made_after some_left same_table = record {
       desk = same_table;
       client = refl;
@@ -82,11 +86,14 @@ module _ {O C R E : Type 0} (after : O → ℕ → C → R → O) (may : O → �
     }
 
   -- a pass that was told of more of the history
-  pub sits_told : (seat seat' : Seat (Slot O E) (View O C R)) (client left place : ℕ) → Sits after may seat client left place → (w : View O C R) (history : List (Event C R))
-      → seat'.me ≡ (at_stage (noting seat.me.0 w) seat.me.0.stage history, []) → IsPrefix seat.me.0.seen history → AllMine history seat.me.0.hands
+  pub sits_told : (seat seat' : Seat (Slot O E) (View O C R)) (client left place : ℕ) → Sits after may seat client left place
+      → (w : View O C R) (history : List (Event C R))
+      → seat'.me ≡ (at_stage (noting seat.me.0 w) seat.me.0.stage history, []) → IsPrefix seat.me.0.seen history
+          → AllMine history seat.me.0.hands
       → ((k : Key O) → seat.me.0.key ≡ Some k → IsLegal after may k.opening.value history) → Sits after may seat' client left place
   sits_told seat seat' client left place s w history is longer all legal =
-      subst (λ (m : Sat O C R E). Sits after may record { marker = seat'.marker; table_id = seat'.table_id; id = seat'.id; me = m } client left place) (sym is)
+      subst (λ (m : Sat O C R E). Sits after may record { marker = seat'.marker; table_id = seat'.table_id; id = seat'.id;
+          me = m } client left place) (sym is)
       (let d = s.hand in let same = all_mine seat client left place s history all in
       record {
         key = s.key;
@@ -96,7 +103,8 @@ module _ {O C R E : Type 0} (after : O → ℕ → C → R → O) (may : O → �
         left_is = s.left_is;
         plain = s.plain;
         legal = of_opening (λ (x : O). IsLegal after may x history) seat.me.0.key legal;
-        last = λ some. last_stays client seat.me.0.seen history place longer same (s.last (subst (λ (l : List (Event C R)). 0 < length l) same some));
+        last = λ some. last_stays client seat.me.0.seen history place longer same
+            (s.last (subst (λ (l : List (Event C R)). 0 < length l) same some));
       })
 
   -- all but what it has seen stays with such a pass
@@ -114,16 +122,21 @@ module _ {O C R E : Type 0} (after : O → ℕ → C → R → O) (may : O → �
   }
 
   -- a pass whose seat stays
-  pub sits_same : (seat seat' : Seat (Slot O E) (View O C R)) (client left place : ℕ) → Sits after may seat client left place → seat'.me ≡ seat.me → Sits after may seat' client left place
+  pub sits_same : (seat seat' : Seat (Slot O E) (View O C R)) (client left place : ℕ) → Sits after may seat client left place
+      → seat'.me ≡ seat.me → Sits after may seat' client left place
   sits_same seat seat' client left place s same =
-      subst (λ (m : Sat O C R E). Sits after may record { marker = seat'.marker; table_id = seat'.table_id; id = seat'.id; me = m } client left place) (sym same)
-      record { key = s.key; idle = s.idle; free = s.free; hand = s.hand; left_is = s.left_is; plain = s.plain; legal = s.legal; last = s.last }
+      subst (λ (m : Sat O C R E). Sits after may record { marker = seat'.marker; table_id = seat'.table_id; id = seat'.id;
+          me = m } client left place) (sym same)
+      record { key = s.key; idle = s.idle; free = s.free; hand = s.hand; left_is = s.left_is; plain = s.plain; legal = s.legal;
+          last = s.last }
 
   -- a new pass
-  pub sits_fresh : (seat : Seat (Slot O E) (View O C R)) (v : View O C R) (key : Key O) (client left : ℕ) → seat.me ≡ (pass_of v, []) → v.key ≡ Some key
+  pub sits_fresh : (seat : Seat (Slot O E) (View O C R)) (v : View O C R) (key : Key O) (client left : ℕ) → seat.me ≡ (pass_of v, [])
+      → v.key ≡ Some key
       → v.next ≡ client → head_of v.quotas ≡ left → Sits after may seat client left 0
   sits_fresh seat v key client left is named next quota =
-      subst (λ (m : Sat O C R E). Sits after may record { marker = seat.marker; table_id = seat.table_id; id = seat.id; me = m } client left 0) (sym is)
+      subst (λ (m : Sat O C R E). Sits after may record { marker = seat.marker; table_id = seat.table_id; id = seat.id;
+          me = m } client left 0) (sym is)
       record {
         key = (key, named);
         idle = refl;
@@ -136,6 +149,7 @@ module _ {O C R E : Type 0} (after : O → ℕ → C → R → O) (may : O → �
       }
 
   -- what every pass keeps
-  pub sits_own : (seat : Seat (Slot O E) (View O C R)) (client left place : ℕ) → Sits after may seat client left place → IsOwn after may (known seat client left place)
+  pub sits_own : (seat : Seat (Slot O E) (View O C R)) (client left place : ℕ) → Sits after may seat client left place
+      → IsOwn after may (known seat client left place)
   sits_own seat client left place s = let k = s.key in let is = ap opening_of k.1 in
       record { object = k.0.opening.value; opening = is; legal = s.legal k.0.opening.value is; mine = refl; last = s.last }

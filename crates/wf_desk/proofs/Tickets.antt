@@ -1,5 +1,6 @@
 -- The steps on the two words of tickets keep the rule: a ticket is drawn, the object is taken out, a ticket is spent.
-use Rattle.std.proofs.Common.{◌≡◌, ◌≢◌, ℕ, ◌+◌, ◌%◌, ◌<◌, ◌≤◌, eqb, Bool, List, [], ◌∷◌, length, get_or, set, sum, sym, refl, ap, ◌∙◌, subst, arith, Some, cond, eq-eqb, ne_eqb}
+use Rattle.std.proofs.Common.{◌≡◌, ◌≢◌, ℕ, ◌+◌, ◌%◌, ◌<◌, ◌≤◌, eqb, Bool, List, [], ◌∷◌, length, get_or, set, sum, sym, refl, ap, ◌∙◌,
+    subst, arith, Some, cond, eq-eqb, ne_eqb}
 use mathlib.Core.Logic.{dite}
 use mathlib.Core.Option.{some, none, some-injective}
 use native.Mathlib.Decide.{ℕ_discrete}
@@ -38,7 +39,8 @@ module _ {A : Type 0} where
   one_has drawn spent drawer history seen id j (Has n) own other k h = other (sym k.2 ∙ (ap drawer k.0 ∙ own))
 
   -- where a seat stands when another has spent its ticket
-  spent_stands : (drawn spent id : ℕ) (drawer : ℕ → ℕ) (history seen : List A) (j : ℕ) (stage : Stage) → drawer spent ≡ id → j ≢ id → (HasObject stage → ⊥)
+  spent_stands : (drawn spent id : ℕ) (drawer : ℕ → ℕ) (history seen : List A) (j : ℕ) (stage : Stage) → drawer spent ≡ id → j ≢ id
+      → (HasObject stage → ⊥)
       → Stands drawn spent drawer history j seen stage → Stands drawn (spent + 1) drawer history j seen stage
   spent_stands drawn spent id drawer history seen j Idle own other not k = tt
   spent_stands drawn spent id drawer history seen j (Waits n) own other not k =
@@ -99,7 +101,8 @@ module _ {O C R E : Type 0} (after : O → ℕ → C → R → O) (may : O → �
       ))
 
   -- where the ticket of a waiting seat is the next, none has the object
-  none_has : (s : State S V) (r : Rule s) (id n : ℕ) (v : V) → get_elem? s.views id ≡ some v → v.stage ≡ Waits n → r.spent ≡ n → NoneHas s.views
+  none_has : (s : State S V) (r : Rule s) (id n : ℕ) (v : V) → get_elem? s.views id ≡ some v → v.stage ≡ Waits n → r.spent ≡ n
+      → NoneHas s.views
   none_has s r id n v at is turn j u e has = go u.stage (r.each j u e).stands refl has
     where
       own : r.drawer n ≡ id
@@ -110,14 +113,16 @@ module _ {O C R E : Type 0} (after : O → ℕ → C → R → O) (may : O → �
       go (Waits m) k f h = h
       go (Has m) k f h =
           let same : j ≡ id = sym k.2 ∙ (ap r.drawer (k.0 ∙ turn) ∙ own) in
-          subst HasObject (ap (λ (x : V). x.stage) (some-injective u v (sym e ∙ (ap (get_elem? s.views) same ∙ at))) ∙ is) (subst HasObject (sym f) tt)
+          subst HasObject (ap (λ (x : V). x.stage) (some-injective u v (sym e ∙ (ap (get_elem? s.views) same ∙ at))) ∙ is)
+              (subst HasObject (sym f) tt)
 
   -- a load of the tickets spent by a waiting seat, which takes the object out where its own is the next
   pub serves : (slots id : ℕ) (me : M) (n : ℕ) (d : Hand C R) → me.0.hands ≡ d ∷ [] → me.0.stage ≡ Waits n → me.1 ≡ []
       → Allows Rule slots id me 2 (λ x. x) (took after may entry (step slots 2 0 0 none) me)
   serves slots id me n d one waits empty s r wide at _ =
       let x : ℕ = get_or s.words 2 0 in let is : x ≡ r.spent = ap (λ (ws : List ℕ). get_or ws 2 0) r.words in let k = r.each id me.0 at in
-      let stands : Stands r.drawn r.spent r.drawer r.history id me.0.seen (Waits n) = subst (Stands r.drawn r.spent r.drawer r.history id me.0.seen) waits k.stands in
+      let stands : Stands r.drawn r.spent r.drawer r.history id me.0.seen (Waits n) =
+          subst (Stands r.drawn r.spent r.drawer r.history id me.0.seen) waits k.stands in
       let not : HasObject me.0.stage → ⊥ = λ h. subst HasObject waits h in
       dite (ℕ_discrete x n)
       (λ hit. let w : V = at_stage me.0 (Has x) r.history in let free = none_has s r id n me.0 at waits (sym is ∙ hit) in
@@ -126,7 +131,8 @@ module _ {O C R E : Type 0} (after : O → ℕ → C → R → O) (may : O → �
         takes 0 (Some home.0),
         home.1,
         moves after may entry key s r id me.0 at w refl (set s.words 2 x) (set s.homes 0 none) r.drawn r.spent r.drawer
-            (ap (λ (ws : List ℕ). set ws 2 (get_or ws 2 0)) r.words) r.order (let one : ticket_count me.0.stage ≡ 1 = ap ticket_count waits in omega arith) r.small
+            (ap (λ (ws : List ℕ). set ws 2 (get_or ws 2 0)) r.words) r.order
+                (let one : ticket_count me.0.stage ≡ 1 = ap ticket_count waits in omega arith) r.small
             record {
               key_is = k.key_is;
               stands = (is, omega arith, ap r.drawer hit ∙ stands.2, refl);
@@ -170,7 +176,8 @@ module _ {O C R E : Type 0} (after : O → ℕ → C → R → O) (may : O → �
 
   -- the seat that has the object spends its ticket and gives the slot home, with the object in it
   rests : (slots id n : ℕ) (v : V) (h : Home O E) (q : Key O) → v.stage ≡ Has n → slots ≡ 1 → v.key ≡ Some q → Fits after entry q v.seen h
-      → Allows Rule slots id (v, (0, Some h) ∷ []) 2 (λ x. (x + 1) % 18446744073709551616) (rested (step slots 2 1 0 none) (v, (0, Some h) ∷ []))
+      → Allows Rule slots id (v, (0, Some h) ∷ []) 2 (λ x. (x + 1) % 18446744073709551616)
+          (rested (step slots 2 1 0 none) (v, (0, Some h) ∷ []))
   rests slots id n v h q has one_slot named fits s r wide at _ =
       let x : ℕ = get_or s.words 2 0 in let is : x ≡ r.spent = ap (λ (ws : List ℕ). get_or ws 2 0) r.words in
       let k = r.each id v at in let st = holds_at id n v has s r at in
@@ -179,11 +186,14 @@ module _ {O C R E : Type 0} (after : O → ℕ → C → R → O) (may : O → �
         w,
         gives,
         tt,
-        moves after may entry key s r id v at w refl (set s.words 2 ((x + 1) % 18446744073709551616)) (set s.homes 0 (some (Some h))) r.drawn (r.spent + 1) r.drawer
-            (ap (λ (ws : List ℕ). set ws 2 ((x + 1) % 18446744073709551616)) r.words ∙ ap (λ (y : ℕ). length r.history ∷ r.drawn ∷ y ∷ []) up) (omega arith)
+        moves after may entry key s r id v at w refl (set s.words 2 ((x + 1) % 18446744073709551616)) (set s.homes 0 (some (Some h)))
+            r.drawn (r.spent + 1) r.drawer
+            (ap (λ (ws : List ℕ). set ws 2 ((x + 1) % 18446744073709551616)) r.words
+                ∙ ap (λ (y : ℕ). length r.history ∷ r.drawn ∷ y ∷ []) up) (omega arith)
             (let one : ticket_count v.stage ≡ 1 = ap ticket_count has in omega arith) small
             record { key_is = k.key_is; stands = tt; seen = k.seen; told = k.told; hands = k.hands; holder = λ h. absurd h; root = k.root }
-            (λ j u other e st'. spent_stands r.drawn r.spent id r.drawer r.history u.seen j u.stage own other (one_has r.drawn r.spent r.drawer r.history u.seen id j u.stage own other st') st')
+            (λ j u other e st'. spent_stands r.drawn r.spent id r.drawer r.history u.seen j u.stage own other
+                (one_has r.drawn r.spent r.drawer r.history u.seen id j u.stage own other st') st')
             (λ _. (h, set_here s.homes 0 (some (Some h)) (omega arith), fits_key (k.key_is q named) r.history st.3)),
         refl,
       )
@@ -192,9 +202,11 @@ module _ {O C R E : Type 0} (after : O → ℕ → C → R → O) (may : O → �
       fits_key e l f = subst (λ (z : Key O × Log). Fits after entry z.0 z.1 h) (λ i. (e i, f i)) fits
 
   -- the same, for a seat of which it is known what it holds
-  pub leaves : (slots id n : ℕ) (me : M) (h : Home O E) (q : Key O) → me.0.key ≡ Some q → slots ≡ 1 → me.0.stage ≡ Has n → me.1 ≡ (0, Some h) ∷ []
+  pub leaves : (slots id n : ℕ) (me : M) (h : Home O E) (q : Key O) → me.0.key ≡ Some q → slots ≡ 1 → me.0.stage ≡ Has n
+      → me.1 ≡ (0, Some h) ∷ []
       → Fits after entry q me.0.seen h
       → Allows Rule slots id me 2 (λ x. (x + 1) % 18446744073709551616) (rested (step slots 2 1 0 none) me)
   leaves slots id n me h q named one has holds fits =
-      subst (λ (l : List (ℕ × S)). Allows Rule slots id (me.0, l) 2 (λ x. (x + 1) % 18446744073709551616) (rested (step slots 2 1 0 none) (me.0, l))) (sym holds)
+      subst (λ (l : List (ℕ × S)). Allows Rule slots id (me.0, l) 2 (λ x. (x + 1) % 18446744073709551616)
+          (rested (step slots 2 1 0 none) (me.0, l))) (sym holds)
       (rests slots id n me.0 h q has one named fits)

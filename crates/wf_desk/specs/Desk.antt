@@ -23,7 +23,8 @@ module _ {O C R : Type 0} where
   AreInOrder desk client [] = ⊤
   AreInOrder desk client (k ∷ ks) = (k.desk ≡ desk) × (k.client ≡ client) × AreInOrder desk (client + 1) ks
 
-  pub AreInOrder-all : (desk : TableId) (first : ℕ) (ks : List (Known O C R)) → AreInOrder desk first ks → All (λ (k : Known O C R). k.desk ≡ desk) ks
+  pub AreInOrder-all : (desk : TableId) (first : ℕ) (ks : List (Known O C R)) → AreInOrder desk first ks
+      → All (λ (k : Known O C R). k.desk ≡ desk) ks
   AreInOrder-all desk first [] order i d lt = absurd (omega arith)
   AreInOrder-all desk first (k ∷ ks) order zero d lt = order.0
   AreInOrder-all desk first (k ∷ ks) order (suc i) d lt = AreInOrder-all desk (first + 1) ks order.2 i d (omega arith)
@@ -37,19 +38,23 @@ module _ {O C R : Type 0} where
       let h = each_in_order desk (first + 1) ks order.2 i (omega arith) in let own = h.2 in (h.0, h.1, omega arith)
 
   -- passes in the order of their clients, as many as there are clients, are all
-  pub AreAll-in_order : (desk : TableId) (count : ℕ) (ks : List (Known O C R)) → length ks ≡ count → AreInOrder desk 0 ks → AreAll desk count ks
+  pub AreAll-in_order : (desk : TableId) (count : ℕ) (ks : List (Known O C R)) → length ks ≡ count → AreInOrder desk 0 ks
+      → AreAll desk count ks
   AreAll-in_order desk count ks counted order = record {
     of_desk = AreInOrder-all desk 0 ks order;
-    each = λ client lt. let at = each_in_order desk 0 ks order client (omega arith) in let own = at.2 in (client, at.0, omega arith, at.1, omega arith);
+    each = λ client lt. let at = each_in_order desk 0 ks order client (omega arith) in let own = at.2 in
+        (client, at.0, omega arith, at.1, omega arith);
   }
 
 -- a new desk has a pass for each quota, in order
 module _ {O : Type 0} (C R : Type 0) where
-  pub length-fresh : (desk : TableId) (opening : O) (client : ℕ) (quotas : List ℕ) → length (fresh {O = O} {C = C} {R = R} desk opening client quotas) ≡ length quotas
+  pub length-fresh : (desk : TableId) (opening : O) (client : ℕ) (quotas : List ℕ)
+      → length (fresh {O = O} {C = C} {R = R} desk opening client quotas) ≡ length quotas
   length-fresh desk opening client [] = refl
   length-fresh desk opening client (quota ∷ quotas) = let h = length-fresh desk opening (client + 1) quotas in omega arith
 
-  pub AreInOrder-fresh : (desk : TableId) (opening : O) (client : ℕ) (quotas : List ℕ) → AreInOrder desk client (fresh {O = O} {C = C} {R = R} desk opening client quotas)
+  pub AreInOrder-fresh : (desk : TableId) (opening : O) (client : ℕ) (quotas : List ℕ)
+      → AreInOrder desk client (fresh {O = O} {C = C} {R = R} desk opening client quotas)
   AreInOrder-fresh desk opening client [] = tt
   AreInOrder-fresh desk opening client (quota ∷ quotas) = (refl, refl, AreInOrder-fresh desk opening (client + 1) quotas)
 

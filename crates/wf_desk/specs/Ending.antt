@@ -33,11 +33,13 @@ module _ {O C R : Type 0} where
 module _ {C R : Type 0} where
   -- the history behind the hands
   abbrev pub AllKnown : List (Hand C R) → List (Event C R) → Type 0
-  AllKnown hands history = (i : ℕ) (hand : Hand C R) → get_elem? hands i ≡ some hand → (hand.mine ≡ events_of hand.client history) × IsPrefix hand.seen history
+  AllKnown hands history = (i : ℕ) (hand : Hand C R) → get_elem? hands i ≡ some hand → (hand.mine ≡ events_of hand.client history)
+      × IsPrefix hand.seen history
 
   -- each client up to a count has a hand
   abbrev pub Covers : List (Hand C R) → ℕ → Type 0
-  Covers hands count = (client : ℕ) → client < count → (i : ℕ) × (hand : Hand C R) × (get_elem? hands i ≡ some hand) × (hand.client ≡ client)
+  Covers hands count = (client : ℕ) → client < count → (i : ℕ) × (hand : Hand C R) × (get_elem? hands i ≡ some hand)
+      × (hand.client ≡ client)
 
 module _ {O C R E : Type 0} (after : O → ℕ → C → R → O) (may : O → ℕ → C → R → Type 0) (entry : ℕ → R → E) where
   -- one history is behind the hands; the object is its replay, and the journal has its entries

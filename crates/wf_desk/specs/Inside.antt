@@ -28,7 +28,8 @@ module _ {O C R E : Type 0} where
   }
 
   -- between two calls of its pass a seat waits for nothing and has nothing
-  pub record Sits (after : O → ℕ → C → R → O) (may : O → ℕ → C → R → Type 0) (seat : Seat (Slot O E) (View O C R)) (client left place : ℕ) : Type 0 where
+  pub record Sits (after : O → ℕ → C → R → O) (may : O → ℕ → C → R
+      → Type 0) (seat : Seat (Slot O E) (View O C R)) (client left place : ℕ) : Type 0 where
     pub key : (k : Key O) × (seat.me.0.key ≡ Some k)
     pub idle : seat.me.0.stage ≡ Idle
     pub free : seat.me.1 ≡ []

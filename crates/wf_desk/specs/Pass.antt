@@ -44,4 +44,5 @@ module _ {O C R : Type 0} where
   abbrev pub fresh : TableId → O → ℕ → List ℕ → List (Known O C R)
   fresh desk opening client [] = []
   fresh desk opening client (quota ∷ quotas) =
-      record { desk = desk; client = client; opening = Some opening; left = quota; seen = []; mine = []; place = 0 } ∷ fresh desk opening (client + 1) quotas
+      record { desk = desk; client = client; opening = Some opening; left = quota; seen = []; mine = []; place = 0 }
+          ∷ fresh desk opening (client + 1) quotas

@@ -46,7 +46,8 @@ module _ {C R : Type 0} where
 module _ {O C R : Type 0} where
   -- the first seat
   abbrev pub starting : Key O → View O C R
-  starting key = record { key = Some key; stage = Idle; seen = []; told = []; hands = []; left = 0; quotas = key.quotas.items; next = 0; root = true }
+  starting key = record { key = Some key; stage = Idle; seen = []; told = []; hands = []; left = 0; quotas = key.quotas.items; next = 0;
+      root = true }
 
   abbrev pub at_stage : View O C R → Stage → List (Event C R) → View O C R
   at_stage view stage seen = record view { stage = stage; seen = seen }
@@ -63,7 +64,8 @@ module _ {O C R : Type 0} where
   blank = record { key = None; stage = Idle; seen = []; told = []; hands = []; left = 0; quotas = []; next = 0; root = false }
 
   abbrev pub pass_of : View O C R → View O C R
-  pass_of view = record blank { key = view.key; hands = record { client = view.next; mine = []; seen = [] } ∷ []; left = head_of view.quotas }
+  pass_of view = record blank { key = view.key; hands = record { client = view.next; mine = []; seen = [] } ∷ [];
+      left = head_of view.quotas }
 
   -- a seat of no client, which carries what a seat has seen
   abbrev pub note_of : View O C R → View O C R
@@ -85,7 +87,8 @@ module _ {O C R E : Type 0} where
 
   -- the event: its place is the length of what was seen
   abbrev pub grew : List (Event C R) → Step (Slot O E) → Sat O C R E → ℕ → Sat O C R E → Type 0
-  grew events st m found m' = (e : Event C R) → events ≡ e ∷ [] → (found ≡ length m.0.seen) × (found < 4294967296) × (m' ≡ (grown m.0 e, m.1))
+  grew events st m found m' = (e : Event C R) → events ≡ e ∷ [] → (found ≡ length m.0.seen) × (found < 4294967296)
+      × (m' ≡ (grown m.0 e, m.1))
 
   -- the ticket is spent, and the object is home
   abbrev pub rested : Step (Slot O E) → Sat O C R E → ℕ → Sat O C R E → Type 0

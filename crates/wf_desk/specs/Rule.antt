@@ -58,7 +58,8 @@ module _ {O C R : Type 0} where
   queue (view ∷ views) = ticket_count view.stage + queue views
 
   -- What a seat knows is true. The first seat alone deals out the clients, and knows which is the next.
-  pub record Knows (key : Key O) (drawn spent : ℕ) (drawer : ℕ → ℕ) (history : List (Event C R)) (seats : ℕ → ℕ) (next seat : ℕ) (view : View O C R) : Type 0 where
+  pub record Knows (key : Key O) (drawn spent : ℕ) (drawer : ℕ → ℕ) (history : List (Event C R)) (seats : ℕ
+      → ℕ) (next seat : ℕ) (view : View O C R) : Type 0 where
     pub key_is : (k : Key O) → view.key ≡ Some k → k ≡ key
     pub stands : Stands drawn spent drawer history seat view.seen view.stage
     pub seen : IsPrefix view.seen history
@@ -74,7 +75,8 @@ module _ {O C R E : Type 0} (after : O → ℕ → C → R → O) (entry : ℕ �
   -- the object and its journal after a history, with room in the journal for all calls
   abbrev pub Fits : Key O → List (Event C R) → Home O E → Type 0
   Fits key history home =
-      (home.object ≡ replay after key.opening.value history) × (home.journal.items ≡ entries entry history) × (sum key.quotas.items ≤ vec_capacity home.journal)
+      (home.object ≡ replay after key.opening.value history) × (home.journal.items ≡ entries entry history)
+          × (sum key.quotas.items ≤ vec_capacity home.journal)
 
 module _ {O C R E : Type 0} (after : O → ℕ → C → R → O) (may : O → ℕ → C → R → Type 0) (entry : ℕ → R → E) where
   pub record Kept (key : Key O) (s : State (Slot O E) (View O C R)) : Type 0 where
@@ -95,5 +97,6 @@ module _ {O C R E : Type 0} (after : O → ℕ → C → R → O) (may : O → �
     pub room : length history + weights s.views ≤ sum key.quotas.items
     pub count : next ≤ length key.quotas.items
     pub unborn : (client : ℕ) → next ≤ client → events_of client history ≡ []
-    pub each : (seat : ℕ) (view : View O C R) → get_elem? s.views seat ≡ some view → Knows key drawn spent drawer history seats next seat view
+    pub each : (seat : ℕ) (view : View O C R) → get_elem? s.views seat ≡ some view
+        → Knows key drawn spent drawer history seats next seat view
     pub home : NoneHas s.views → (home : Home O E) × (get_elem? s.homes 0 ≡ some (some (Some home))) × Fits after entry key history home

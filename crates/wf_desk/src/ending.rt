@@ -42,7 +42,8 @@ impl<O: Object> Board<O> {
     fn observer(&self, pass: &mut Pass<O>) -> Place<O>
         requires { pass.old.desk ≡ self.now.table.shared.table_id }
         ensures pass { pass.new ≡ pass.old }
-        ensures place { (result.table_id ≡ self.now.table.shared.table_id) × (result.me.0.stage ≡ Idle) × (result.me.1 ≡ []) × (result.me.0.hands ≡ []) }
+        ensures place { (result.table_id ≡ self.now.table.shared.table_id) × (result.me.0.stage ≡ Idle) × (result.me.1 ≡ [])
+            × (result.me.0.hands ≡ []) }
     {
         self.table.shared.split_seat::<Show>(&mut pass.seat)
     }

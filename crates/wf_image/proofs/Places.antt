@@ -1,5 +1,6 @@
 -- Places that are not empty.
-use Rattle.std.proofs.Common.{◌≡◌, ℕ, suc, ◌+◌, ◌<◌, arith, Bool, true, List, [], ◌∷◌, ◌++◌, length, get_or, take, drop, refl, sym, ap, ◌∙◌, cond}
+use Rattle.std.proofs.Common.{◌≡◌, ℕ, suc, ◌+◌, ◌<◌, arith, Bool, true, List, [], ◌∷◌, ◌++◌, length, get_or, take, drop, refl, sym, ap,
+    ◌∙◌, cond}
 use Rattle.std.specs.Prelude.{Option, Some, None, find, option_to_list}
 use Rattle.std.specs.Option.{option_or}
 use Rattle.std.proofs.Math.Seq.{take-suc, drop-cons}
@@ -25,7 +26,8 @@ module _ {X : Type 0} where
   length-somes (Some x ∷ places) all = ap (λ n. suc n) (length-somes places all)
 
   -- one place more that a search has passed
-  pub find_past : (p : X → Bool) (places : List (Option X)) (i : ℕ) (o : Option X) → i < length places → o ≡ get_or places i o → find p (somes (take i places)) ≡ None → find p (somes (o ∷ [])) ≡ None
+  pub find_past : (p : X → Bool) (places : List (Option X)) (i : ℕ) (o : Option X) → i < length places → o ≡ get_or places i o
+      → find p (somes (take i places)) ≡ None → find p (somes (o ∷ [])) ≡ None
       → find p (somes (take (i + 1) places)) ≡ None
   find_past p places i o within at_i before here =
       let more : i + 1 ≡ suc i = omega arith in
@@ -38,7 +40,8 @@ module _ {X : Type 0} where
       ∙ here
 
   -- the value where a search stops
-  pub find_here : (p : X → Bool) (places : List (Option X)) (i : ℕ) (o : Option X) (x : X) → i < length places → o ≡ get_or places i o → find p (somes (take i places)) ≡ None → o ≡ Some x → p x ≡ true
+  pub find_here : (p : X → Bool) (places : List (Option X)) (i : ℕ) (o : Option X) (x : X) → i < length places → o ≡ get_or places i o
+      → find p (somes (take i places)) ≡ None → o ≡ Some x → p x ≡ true
       → find p (somes places) ≡ Some x
   find_here p places i o x within at_i before here passes =
       ap (λ l. find p (somes l)) (sym (take-append-drop i places))

@@ -1,6 +1,7 @@
 //! Paints on the bytes of an image, row by row, and in each row only the span that the paint names.
 
-ghost use Rattle.std.specs.Prelude.{◌≡◌, ℕ, ◌+◌, ◌*◌, ◌<◌, ◌≤◌, ◌++◌, ◌&&◌, pos, length, take, drop, is_some, unwrap_or, nat_le, nat_lt, IsTrue, Some, slice_get};
+ghost use Rattle.std.specs.Prelude.{◌≡◌, ℕ, ◌+◌, ◌*◌, ◌<◌, ◌≤◌, ◌++◌, ◌&&◌, pos, length, take, drop, is_some, unwrap_or, nat_le, nat_lt,
+    IsTrue, Some, slice_get};
 ghost use Rattle.std.specs.Int.{int_max, int_min};
 ghost use Rattle.wf_pixel.specs.Along.{along};
 ghost use Rattle.wf_pixel.specs.Choice.{has_sides, is_coordinate};
@@ -30,7 +31,8 @@ fn paint_row_at(bytes: &mut [u8], at: usize, size: Size, format: Format, p: &Pai
     requires y { y < 1024 }
     requires within { at + size.w * pixel_bytes format ≤ length bytes.old }
     requires paint { IsTrue (is_paint p.now) }
-    ensures { bytes.new ≡ take at bytes.old ++ painted_row size format (take (size.w * pixel_bytes format) (drop at bytes.old)) p.now y ++ drop (at + size.w * pixel_bytes format) bytes.old }
+    ensures { bytes.new ≡ take at bytes.old ++ painted_row size format (take (size.w * pixel_bytes format) (drop at bytes.old)) p.now y
+        ++ drop (at + size.w * pixel_bytes format) bytes.old }
 {
     let stride = size.w as usize * bytes_of_pixel(format);
     paint_row(&mut bytes[at..at + stride], size, format, p, y);
@@ -91,7 +93,8 @@ fn span_of_rectangle(area: Rect, width: u32, y: u32) -> (u32, u32)
     requires row { y < 1024 }
     ensures order { result.0 ≤ result.1 }
     ensures within { result.1 ≤ width }
-    ensures named { (x : ℕ) → x < width → (is_some (along area.x area.w (pos x)) && is_some (along area.y area.h (pos y))) ≡ (nat_le result.0 x && nat_lt x result.1) }
+    ensures named { (x : ℕ) → x < width → (is_some (along area.x area.w (pos x)) && is_some (along area.y area.h (pos y)))
+        ≡ (nat_le result.0 x && nat_lt x result.1) }
 {
     let rows = span_of_side(area.y, area.h, 1024);
     if contains(rows, y) {

@@ -11,7 +11,8 @@ module _ {S : Type 0} (took : S → List ℕ → Type 0) where
       subst (took c) (append_assoc before xs ys) (second (before ++ xs) (first before t))
 
   -- a stop within the first of two lists
-  pub stops_early : (a b : S) (start : ℕ) (xs ys : List ℕ) (written : ℕ) → PutsPart took a b start xs written → PutsPart took a b start (xs ++ ys) written
+  pub stops_early : (a b : S) (start : ℕ) (xs ys : List ℕ) (written : ℕ) → PutsPart took a b start xs written
+      → PutsPart took a b start (xs ++ ys) written
   stops_early a b start xs ys written part = record {
     least = part.least;
     short = omega (arith, length-append xs ys, part.short);
@@ -19,7 +20,8 @@ module _ {S : Type 0} (took : S → List ℕ → Type 0) where
   }
 
   -- a stop within the second of two lists, which begins at `middle`
-  pub stops_late : (a b c : S) (start middle : ℕ) (xs ys : List ℕ) (written : ℕ) → Puts took a b xs → middle ≡ start + length xs → PutsPart took b c middle ys written → PutsPart took a c start (xs ++ ys) written
+  pub stops_late : (a b c : S) (start middle : ℕ) (xs ys : List ℕ) (written : ℕ) → Puts took a b xs → middle ≡ start + length xs
+      → PutsPart took b c middle ys written → PutsPart took a c start (xs ++ ys) written
   stops_late a b c start middle xs ys written first at part =
       let n : ℕ = written - middle in
       let past : written - start ≡ length xs + n = omega (arith, part.least, at) in

@@ -17,7 +17,8 @@ reverse_aux-map f [] ys = refl
 reverse_aux-map f (x ∷ xs) ys = reverse_aux-map f xs (x ∷ ys)
 
 -- the pixels of the layers with their images at hand are the picture's
-pub bound_pixel_is : (scene : Scene) (contents : Images) (x y : ℕ) → bound_pixel scene (map (bound contents) scene.layers.items) x y ≡ picture_pixel scene contents x y
+pub bound_pixel_is : (scene : Scene) (contents : Images) (x y : ℕ)
+    → bound_pixel scene (map (bound contents) scene.layers.items) x y ≡ picture_pixel scene contents x y
 bound_pixel_is scene contents x y =
     let p = turned_back scene.turn (turned scene.turn scene.size) x y in
     let shown : Bound → Option Rgba = λ b. bound_texel b (pos p.0) (pos p.1) in
@@ -25,5 +26,6 @@ bound_pixel_is scene contents x y =
     ∙ ap (λ (texels : List (Option Rgba)). stacked texels scene.background) (map-map shown (bound contents) (reverse scene.layers.items))
 
 -- layers that fit the contents can show their images
-pub are_showable : (contents : Images) (layers : List Layer) → All (LayerFits contents) layers → All IsShowable (map (bound contents) layers)
+pub are_showable : (contents : Images) (layers : List Layer) → All (LayerFits contents) layers
+    → All IsShowable (map (bound contents) layers)
 are_showable contents layers fit = All-map IsShowable (bound contents) layers fit

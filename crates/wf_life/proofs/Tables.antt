@@ -1,5 +1,6 @@
 -- The map of the handle table against the list of live objects, and the counts.
-use Rattle.std.proofs.Common.{◌≡◌, ℕ, ◌+◌, ◌-◌, ◌<◌, ◌≤◌, true, false, cond, ◌==◌, not, List, [], ◌∷◌, ◌++◌, map, length, Option, None, Some, is_some, refl, ap, ◌∙◌, arith, slice_set, slice_index, eq-eqb}
+use Rattle.std.proofs.Common.{◌≡◌, ℕ, ◌+◌, ◌-◌, ◌<◌, ◌≤◌, true, false, cond, ◌==◌, not, List, [], ◌∷◌, ◌++◌, map, length, Option, None,
+    Some, is_some, refl, ap, ◌∙◌, arith, slice_set, slice_index, eq-eqb}
 use Rattle.std.specs.Ordering.{nat_cmp}
 use Rattle.std.specs.BTreeMap.{insert_entry, is_at}
 use Rattle.std.specs.Map.{lookup, remove_entry}
@@ -21,7 +22,8 @@ rising_room low high [] rising = omega arith
 rising_room low high (l ∷ live) rising = omega (arith, rising_room l.handle high live rising.1)
 
 -- a handle above all others comes last
-pub insert_last : (low high n : ℕ) (o : Object) (es : List (ℕ × Object)) → IsRising low (map live_of es) high → high < n → insert_entry nat_cmp es n o ≡ es ++ (n, o) ∷ []
+pub insert_last : (low high n : ℕ) (o : Object) (es : List (ℕ × Object)) → IsRising low (map live_of es) high → high < n
+    → insert_entry nat_cmp es n o ≡ es ++ (n, o) ∷ []
 insert_last low high n o [] rising above = refl
 insert_last low high n o (e ∷ es) rising above =
     let later = insert_last e.0 high n o es rising.1 above in
@@ -29,12 +31,14 @@ insert_last low high n o (e ∷ es) rising above =
     grind (arith, nat_tests, later, room)
 
 -- the list after the map took the next handle
-pub live_made : (made : ℕ) (o : Object) (es after : List (ℕ × Object)) → IsRising 0 (map live_of es) made → after ≡ insert_entry nat_cmp es (made + 1) o → map live_of after ≡ map live_of es ++ live_of (made + 1, o) ∷ []
+pub live_made : (made : ℕ) (o : Object) (es after : List (ℕ × Object)) → IsRising 0 (map live_of es) made
+    → after ≡ insert_entry nat_cmp es (made + 1) o → map live_of after ≡ map live_of es ++ live_of (made + 1, o) ∷ []
 live_made made o es after rising is =
     ap (map live_of) (is ∙ insert_last 0 made (made + 1) o es rising (omega arith)) ∙ map-append live_of es ((made + 1, o) ∷ [])
 
 -- the list keeps rising with a new last one
-pub rising_push : (low high : ℕ) (live : List Live) (l : Live) → IsRising low live high → high < l.handle → IsRising low (live ++ l ∷ []) l.handle
+pub rising_push : (low high : ℕ) (live : List Live) (l : Live) → IsRising low live high → high < l.handle
+    → IsRising low (live ++ l ∷ []) l.handle
 rising_push low high [] l rising above = (omega arith, omega arith)
 rising_push low high (x ∷ live) l rising above = (rising.0, rising_push x.handle high live l rising.1 above)
 
@@ -46,7 +50,8 @@ without_above low high h (l ∷ live) rising up =
     grind (arith, nat_tests, later)
 
 -- the map without a key is the list without the handle
-pub remove_without : (low high h : ℕ) (es : List (ℕ × Object)) → IsRising low (map live_of es) high → map live_of (remove_entry (is_at (nat_cmp h)) es) ≡ without h (map live_of es)
+pub remove_without : (low high h : ℕ) (es : List (ℕ × Object)) → IsRising low (map live_of es) high
+    → map live_of (remove_entry (is_at (nat_cmp h)) es) ≡ without h (map live_of es)
 remove_without low high h [] rising = refl
 remove_without low high h (e ∷ es) rising =
     let later = remove_without e.0 high h es rising.1 in
@@ -63,7 +68,8 @@ pub rising_without : (low high h : ℕ) (live : List Live) → IsRising low live
 rising_without low high h [] rising = rising
 rising_without low high h (l ∷ live) rising =
     let later = rising_without l.handle high h live rising.1 in
-    elim (l.handle == h) as (λ b. IsRising low (cond (not b) (l ∷ without h live) (without h live)) high) [ true ↦ rising_lower low l.handle high (without h live) later (omega arith) | false ↦ (rising.0, later) ]
+    elim (l.handle == h) as (λ b. IsRising low (cond (not b) (l ∷ without h live) (without h live)) high) [ true ↦ rising_lower low l.handle
+        high (without h live) later (omega arith) | false ↦ (rising.0, later) ]
 
 -- no handle above all is live
 pub is_live_above : (low high h : ℕ) (live : List Live) → IsRising low live high → high < h → is_live h live ≡ false
@@ -93,7 +99,8 @@ key_of_below low high h k (l ∷ live) rising under =
     grind (arith, nat_tests, later)
 
 -- the key behind a handle of a kind, by the map
-pub key_of_lookup : (low high h : ℕ) (k : Kind) (es : List (ℕ × Object)) → IsRising low (map live_of es) high → key_of h k (map live_of es) ≡ found_key k (lookup (is_at (nat_cmp h)) es)
+pub key_of_lookup : (low high h : ℕ) (k : Kind) (es : List (ℕ × Object)) → IsRising low (map live_of es) high
+    → key_of h k (map live_of es) ≡ found_key k (lookup (is_at (nat_cmp h)) es)
 key_of_lookup low high h k [] rising = refl
 key_of_lookup low high h k (e ∷ es) rising =
     let later = key_of_lookup e.0 high h k es rising.1 in
@@ -109,7 +116,8 @@ pub count_push : (k : Kind) (live : List Live) (l : Live) → live_count k (live
 count_push k live l = omega (arith, sum_by-append (one_if k) live (l ∷ []))
 
 -- and the object that is taken out counts no more
-pub count_without : (h : ℕ) (k : Kind) (o : Object) (es : List (ℕ × Object)) → lookup (is_at (nat_cmp h)) es ≡ Some o → live_count k (map live_of (remove_entry (is_at (nat_cmp h)) es)) + cond (same_kind o.kind k) 1 0 ≡ live_count k (map live_of es)
+pub count_without : (h : ℕ) (k : Kind) (o : Object) (es : List (ℕ × Object)) → lookup (is_at (nat_cmp h)) es ≡ Some o
+    → live_count k (map live_of (remove_entry (is_at (nat_cmp h)) es)) + cond (same_kind o.kind k) 1 0 ≡ live_count k (map live_of es)
 count_without h k o [] found = cc
 count_without h k o (e ∷ es) found =
     let later = λ (found_later : lookup (is_at (nat_cmp h)) es ≡ Some o). count_without h k o es found_later in
@@ -149,7 +157,8 @@ same_test kind.DisplaySource kind.DisplaySource = refl
 same_test _ _ = refl
 
 -- a kind has no more live objects than were made
-pub tally_fits : (counts : List ℕ) (made : ℕ) (live : List Live) (k : Kind) → IsRising 0 live made → IsTally counts live → slice_index counts (place_of k) ≤ made
+pub tally_fits : (counts : List ℕ) (made : ℕ) (live : List Live) (k : Kind) → IsRising 0 live made → IsTally counts live
+    → slice_index counts (place_of k) ≤ made
 tally_fits counts made live k rising tally =
     omega (arith, tally k, count_by-le-length (λ l. same_kind l.kind k) live, rising_room 0 made live rising)
 
@@ -157,14 +166,16 @@ pub same_kind_self : (k : Kind) → same_kind k k ≡ true
 same_kind_self k = same_place k k ∙ eq-eqb (place_of k) (place_of k) refl
 
 -- the counts after one of a kind was set
-count_set : (counts : List ℕ) (a k : Kind) (n : ℕ) → length counts ≡ 7 → slice_index (slice_set counts (place_of a) n) (place_of k) ≡ cond (same_kind a k) n (slice_index counts (place_of k))
+count_set : (counts : List ℕ) (a k : Kind) (n : ℕ) → length counts ≡ 7
+    → slice_index (slice_set counts (place_of a) n) (place_of k) ≡ cond (same_kind a k) n (slice_index counts (place_of k))
 count_set counts a k n seven =
     let same = same_place a k in
     let below = place_below a in
     grind (arith, common_steps, nat_tests, same, below)
 
 -- the counts go up with the object of a kind that was made
-pub tally_more : (counts : List ℕ) (live : List Live) (l : Live) → length counts ≡ 7 → IsTally counts live → IsTally (slice_set counts (place_of l.kind) (slice_index counts (place_of l.kind) + 1)) (live ++ l ∷ [])
+pub tally_more : (counts : List ℕ) (live : List Live) (l : Live) → length counts ≡ 7 → IsTally counts live
+    → IsTally (slice_set counts (place_of l.kind) (slice_index counts (place_of l.kind) + 1)) (live ++ l ∷ [])
 tally_more counts live l seven tally k =
     let set = count_set counts l.kind k (slice_index counts (place_of l.kind) + 1) seven in
     let pushed = count_push k live l in
@@ -173,7 +184,10 @@ tally_more counts live l seven tally k =
     grind (arith, nat_tests, set, pushed, was, same)
 
 -- the counts go down with the object of a kind whose life ended
-pub tally_less : (counts : List ℕ) (h : ℕ) (o : Object) (es : List (ℕ × Object)) → length counts ≡ 7 → lookup (is_at (nat_cmp h)) es ≡ Some o → IsTally counts (map live_of es) → IsTally (slice_set counts (place_of o.kind) (slice_index counts (place_of o.kind) - 1)) (map live_of (remove_entry (is_at (nat_cmp h)) es))
+pub tally_less : (counts : List ℕ) (h : ℕ) (o : Object) (es : List (ℕ × Object)) → length counts ≡ 7
+    → lookup (is_at (nat_cmp h)) es ≡ Some o → IsTally counts (map live_of es)
+    → IsTally (slice_set counts (place_of o.kind) (slice_index counts (place_of o.kind) - 1))
+    (map live_of (remove_entry (is_at (nat_cmp h)) es))
 tally_less counts h o es seven found tally k =
     let set = count_set counts o.kind k (slice_index counts (place_of o.kind) - 1) seven in
     let taken = count_without h k o es found in

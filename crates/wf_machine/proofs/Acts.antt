@@ -28,8 +28,8 @@ use Rattle.wf_calls.specs.declared.reply.Answer.{Answer}
 use Rattle.wf_model.specs.State.{Running, State}
 use Rattle.wf_model.specs.Step.{act}
 use Rattle.wf_model.specs.Streams.{acquire_step, canvas_back, is_out_at_client}
-use Rattle.wf_core.specs.Fits.{Fits}
-use Rattle.wf_core.specs.Sides.{KeepsRest, beside, side_of}
+use Rattle.wf_objects.specs.Fits.{Fits}
+use Rattle.wf_objects.specs.Sides.{KeepsRest, beside, side_of}
 use Rattle.wf_core.specs.Steps.{Steps}
 use Rattle.wf_machine.specs.declared.parts.Parts.TheInside.{Inside}
 use Rattle.wf_machine.specs.Inside.{IsSound, state_of}

@@ -19,19 +19,23 @@ use Rattle.wf_machine.specs.Latching.{IsOutFrom}
 use Rattle.wf_machine.proofs.Changes.{of_handle}
 
 -- the stream of a live handle, by its number too
-pub found : (handle number high : ℕ) (streams : List KeptStream) → IsNumbered 0 streams high → Some number ≡ number_of handle streams → (s : KeptStream) × (stream_of handle streams ≡ Some s) × (stream_at number streams ≡ Some s)
+pub found : (handle number high : ℕ) (streams : List KeptStream) → IsNumbered 0 streams high → Some number ≡ number_of handle streams
+    → (s : KeptStream) × (stream_of handle streams ≡ Some s) × (stream_at number streams ≡ Some s)
 found handle number high streams rising is = of_stream (stream_of handle streams) refl is
   where
-    of_stream : (o : Option KeptStream) → stream_of handle streams ≡ o → Some number ≡ option_map (λ (s : KeptStream). s.number) o → (s : KeptStream) × (stream_of handle streams ≡ Some s) × (stream_at number streams ≡ Some s)
+    of_stream : (o : Option KeptStream) → stream_of handle streams ≡ o → Some number ≡ option_map (λ (s : KeptStream). s.number) o
+        → (s : KeptStream) × (stream_of handle streams ≡ Some s) × (stream_at number streams ≡ Some s)
     of_stream None at same = absurd cc
-    of_stream (Some s) at same = (let here : s.number ≡ number = cc in (s, at, ap (λ (n : ℕ). stream_at n streams) (sym here) ∙ of_handle 0 high handle streams s rising at))
+    of_stream (Some s) at same = (let here : s.number ≡ number = cc in
+        (s, at, ap (λ (n : ℕ). stream_at n streams) (sym here) ∙ of_handle 0 high handle streams s rising at))
 
 module _ (handle : ℕ) (h : State) where
   -- no stream lives under the handle
   pub no_stream : number_of handle h.streams ≡ None → acquire_step h (acquirable handle h) ≡ (h, bare (refused (refusal code.BadHandle)))
   no_stream none = of_stream (stream_of handle h.streams) refl none
     where
-      of_stream : (o : Option KeptStream) → stream_of handle h.streams ≡ o → option_map (λ (s : KeptStream). s.number) o ≡ None → acquire_step h (acquirable handle h) ≡ (h, bare (refused (refusal code.BadHandle)))
+      of_stream : (o : Option KeptStream) → stream_of handle h.streams ≡ o → option_map (λ (s : KeptStream). s.number) o ≡ None
+          → acquire_step h (acquirable handle h) ≡ (h, bare (refused (refusal code.BadHandle)))
       of_stream None at same = rw at refl
       of_stream (Some s) at same = absurd cc
 
@@ -39,23 +43,29 @@ module _ (handle : ℕ) (h : State) where
     pub busy : s.buffers.out ≡ true → acquire_step h (acquirable handle h) ≡ (h, bare (refused (refusal code.Busy)))
     busy out = rw (at, out) refl
 
-    pub no_buffer : s.buffers.out ≡ false → is_blocked s.buffers ≡ true → acquire_step h (acquirable handle h) ≡ (h, bare (refused (refusal code.NoBuffer)))
+    pub no_buffer : s.buffers.out ≡ false → is_blocked s.buffers ≡ true
+        → acquire_step h (acquirable handle h) ≡ (h, bare (refused (refusal code.NoBuffer)))
     no_buffer home blocked = rw (at, blocked, home) refl
 
-    pub given : s.buffers.out ≡ false → is_blocked s.buffers ≡ false → acquire_step h (acquirable handle h) ≡ (with_stream s.number acquired h, record { code = code.Ok; value = 0; payload = payload.Canvas (canvas_of s) })
+    pub given : s.buffers.out ≡ false → is_blocked s.buffers ≡ false
+        → acquire_step h (acquirable handle h) ≡ (with_stream s.number acquired h,
+        record { code = code.Ok; value = 0; payload = payload.Canvas (canvas_of s) })
     given home free = rw (at, free, home) refl
 
 -- a canvas that is out at a client comes back to its stream
-pub comes_back : (canvas : Canvas) (f : Buffers → Buffers) (h : State) → is_out_at_client canvas h ≡ true → canvas_back canvas f h ≡ (with_stream canvas.stream f h, bare (done 0))
+pub comes_back : (canvas : Canvas) (f : Buffers → Buffers) (h : State) → is_out_at_client canvas h ≡ true
+    → canvas_back canvas f h ≡ (with_stream canvas.stream f h, bare (done 0))
 comes_back canvas f h out = rw out refl
 
-pub stays_out : (canvas : Canvas) (f : Buffers → Buffers) (h : State) → is_out_at_client canvas h ≡ false → canvas_back canvas f h ≡ (h, record { code = code.BadHandle; value = 0; payload = payload.Canvas canvas })
+pub stays_out : (canvas : Canvas) (f : Buffers → Buffers) (h : State) → is_out_at_client canvas h ≡ false
+    → canvas_back canvas f h ≡ (h, record { code = code.BadHandle; value = 0; payload = payload.Canvas canvas })
 stays_out canvas f h home = rw home refl
 
 pub size_is : (s t : Size) → same_size s t ≡ true → s ≡ t
 size_is s t same =
     let parts = and_parts _ _ same in
-    ap (λ (w : ℕ). record { w = w; h = s.h }) (eqb-true s.w t.w parts.0) ∙ ap (λ (h : ℕ). record { w = t.w; h = h }) (eqb-true s.h t.h parts.1)
+    ap (λ (w : ℕ). record { w = w; h = s.h }) (eqb-true s.w t.w parts.0)
+        ∙ ap (λ (h : ℕ). record { w = t.w; h = h }) (eqb-true s.h t.h parts.1)
 
 pub format_is : (f g : Format) → same_format f g ≡ true → f ≡ g
 format_is Rgba8 Rgba8 same = refl
@@ -77,7 +87,9 @@ format_is A8 Rgbx8 same = absurd cc
 
 -- a canvas that is out at a client is not the running frame's
 pub out_apart : (canvas : Canvas) (h : State) → is_out_at_client canvas h ≡ true → is_target canvas.stream h.frame ≡ false
-out_apart canvas h out = elim (is_target canvas.stream h.frame) as (λ b. (not b && is_out_of canvas (stream_at canvas.stream h.streams)) ≡ true → b ≡ false) [ true ↦ λ no. absurd cc | false ↦ λ yes. refl ] out
+out_apart canvas h out = elim (is_target canvas.stream h.frame)
+    as (λ b. (not b && is_out_of canvas (stream_at canvas.stream h.streams)) ≡ true
+    → b ≡ false) [ true ↦ λ no. absurd cc | false ↦ λ yes. refl ] out
 
 -- the stream of a canvas that is out at a client has it out
 pub out_from : (canvas : Canvas) (h : State) → is_out_at_client canvas h ≡ true → IsOutFrom h.streams canvas
@@ -86,8 +98,13 @@ out_from canvas h out = of_stream (stream_at canvas.stream h.streams) refl
     of_stream : (o : Option KeptStream) → stream_at canvas.stream h.streams ≡ o → IsOutFrom h.streams canvas
     of_stream None at = rw at tt
     of_stream (Some s) at =
-        let whole : (not (is_target canvas.stream h.frame) && (s.buffers.out && same_size canvas.image.size s.buffers.size && same_format canvas.image.format s.buffers.format)) ≡ true = rw at at out in
-        let is = (and_parts (not (is_target canvas.stream h.frame)) (s.buffers.out && same_size canvas.image.size s.buffers.size && same_format canvas.image.format s.buffers.format) whole).1 in
-        let outer = and_parts (s.buffers.out && same_size canvas.image.size s.buffers.size) (same_format canvas.image.format s.buffers.format) is in
+        let whole : (not (is_target canvas.stream h.frame)
+            && (s.buffers.out && same_size canvas.image.size s.buffers.size && same_format canvas.image.format s.buffers.format))
+            ≡ true = rw at at out in
+        let is = (and_parts (not (is_target canvas.stream h.frame)) (s.buffers.out && same_size canvas.image.size s.buffers.size
+            && same_format canvas.image.format s.buffers.format) whole).1 in
+        let outer = and_parts (s.buffers.out && same_size canvas.image.size s.buffers.size)
+            (same_format canvas.image.format s.buffers.format) is in
         let inner = and_parts s.buffers.out (same_size canvas.image.size s.buffers.size) outer.0 in
-        rw at (inner.0, record { size_is = size_is canvas.image.size s.buffers.size inner.1; format_is = format_is canvas.image.format s.buffers.format outer.1 })
+        rw at (inner.0, record { size_is = size_is canvas.image.size s.buffers.size inner.1;
+            format_is = format_is canvas.image.format s.buffers.format outer.1 })

@@ -1,5 +1,6 @@
 -- A context's frame that begins.
-use Rattle.std.proofs.Common.{◌≡◌, ℕ, ◌+◌, ◌-◌, ◌^◌, ◌<◌, Bool, true, false, cond, ◌==◌, List, [], ◌∷◌, map, Option, Some, None, refl, sym, Ok}
+use Rattle.std.proofs.Common.{◌≡◌, ℕ, ◌+◌, ◌-◌, ◌^◌, ◌<◌, Bool, true, false, cond, ◌==◌, List, [], ◌∷◌, map, Option, Some, None, refl, sym,
+    Ok}
 use Rattle.std.proofs.Common.{ap, subst, ◌∙◌}
 use Rattle.std.specs.Prelude.{find}
 use Rattle.std.specs.List.{AllByRecursion}
@@ -20,14 +21,15 @@ use Rattle.wf_calls.specs.declared.call.JobKind.TheVariants as kind
 use Rattle.wf_calls.specs.declared.reply.Payload.TheVariants as payload
 use Rattle.wf_calls.specs.declared.reply.Reply.{Reply}
 use Rattle.wf_model.specs.declared.Context.{Context}
-use Rattle.wf_model.specs.Frames.{begin_context, begin_next, content_shape, is_running, latch, latched_among, newest_images, next_context, target_ready, is_short, all_begun}
+use Rattle.wf_model.specs.Frames.{begin_context, begin_next, content_shape, is_running, latch, latched_among, newest_images, next_context,
+    target_ready, is_short, all_begun}
 use Rattle.wf_model.specs.Frames.{scene_streams}
 use Rattle.wf_model.specs.Outcome.{refuse_with}
 use Rattle.wf_model.specs.Picture.{Fits as Drawn, Images}
 use Rattle.wf_model.specs.State.{Running, State}
-use Rattle.wf_core.specs.declared.shown.Shown.{Shown}
-use Rattle.wf_core.specs.Fits.{ContextFits, Fits}
-use Rattle.wf_core.specs.Shows.{next_of, next_shown}
+use Rattle.wf_objects.specs.declared.shown.Shown.{Shown}
+use Rattle.wf_objects.specs.Fits.{ContextFits, Fits}
+use Rattle.wf_objects.specs.Shows.{next_of, next_shown}
 use Rattle.wf_machine.specs.declared.frame.Frame.{Frame}
 use Rattle.wf_machine.specs.declared.parts.Parts.TheInside.{Inside}
 use Rattle.wf_machine.specs.declared.port.Port as declared

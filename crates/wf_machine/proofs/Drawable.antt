@@ -1,5 +1,6 @@
 -- A scene whose layers fit the streams has a picture with the images that were taken of them.
-use Rattle.std.proofs.Common.{◌≡◌, ◌≢◌, ℕ, ◌<◌, Bool, true, false, cond, ◌==◌, ◌&&◌, List, [], ◌∷◌, Option, Some, None, refl, sym, ap, subst, ◌∙◌, arith, IsTrue, T}
+use Rattle.std.proofs.Common.{◌≡◌, ◌≢◌, ℕ, ◌<◌, Bool, true, false, cond, ◌==◌, ◌&&◌, List, [], ◌∷◌, Option, Some, None, refl, sym, ap,
+    subst, ◌∙◌, arith, IsTrue, T}
 use lib.Signed.{le_z_yes}
 use Rattle.std.specs.Prelude.{nat_le, nat_lt, ℤ, pos, negsuc, ◌≤ℤ◌, ◌+ℤ◌, int_le}
 use Rattle.std.specs.List.{All, AllByRecursion}
@@ -20,7 +21,7 @@ use Rattle.wf_stream.specs.Streams.{KeptStream, buffers_at, stream_at}
 use Rattle.wf_scene.specs.declared.Layer.{Layer}
 use Rattle.wf_scene.specs.declared.Scene.{Scene}
 use Rattle.wf_scene.specs.Layers.{holds_rect, is_placed_layer}
-use Rattle.wf_core.specs.Fits.{LayerFits}
+use Rattle.wf_objects.specs.Fits.{LayerFits}
 use Rattle.wf_model.specs.declared.Content.{Content}
 use Rattle.wf_model.specs.State.{Port}
 use Rattle.wf_model.specs.Picture.{Fits, Images, LayerFits as Shows}
@@ -107,17 +108,22 @@ is_mask Rgba8Pre is = absurd cc
 is_mask Rgbx8 is = absurd cc
 
 -- the sides of a stream that is kept
-pub sides_at : (ports : List Port) (cs : List Content) (n : ℕ) (ss : List KeptStream) → AllFit ports cs ss → IfSome (buffers_at n ss) (λ b. has_sides b.size ≡ true)
+pub sides_at : (ports : List Port) (cs : List Content) (n : ℕ) (ss : List KeptStream) → AllFit ports cs ss
+    → IfSome (buffers_at n ss) (λ b. has_sides b.size ≡ true)
 sides_at ports cs n [] fit = tt
 sides_at ports cs n (s ∷ ss) fit =
-    elim (s.number == n) as (λ b. IfSome (option_map (λ (t : KeptStream). t.buffers) (cond b (Some s) (stream_at n ss))) (λ c. has_sides c.size ≡ true)) [ true ↦ fit.0.sides | false ↦ sides_at ports cs n ss fit.1 ]
+    elim (s.number == n) as (λ b. IfSome (option_map (λ (t : KeptStream). t.buffers) (cond b (Some s) (stream_at n ss)))
+        (λ c. has_sides c.size ≡ true)) [ true ↦ fit.0.sides | false ↦ sides_at ports cs n ss fit.1 ]
 
-module _ (ports : List Port) (cs : List Content) (ss : List KeptStream) (contents : Images) (fit : AllFit ports cs ss) (shaped : AreShapedAs ss contents) where
+module _ (ports : List Port) (cs : List Content) (ss : List KeptStream) (contents : Images) (fit : AllFit ports cs ss)
+    (shaped : AreShapedAs ss contents) where
   -- an image of a stream has its shape
-  shape_of : (n : ℕ) (i : Bitmap) (P : Buffers → Type 0) → image_of n contents ≡ Some i → IsSomeAnd (buffers_at n ss) P → (b : Buffers) × (HasShape b.size b.format i) × (P b)
+  shape_of : (n : ℕ) (i : Bitmap) (P : Buffers → Type 0) → image_of n contents ≡ Some i → IsSomeAnd (buffers_at n ss) P → (b : Buffers)
+      × (HasShape b.size b.format i) × (P b)
   shape_of n i P is holds = of_buffers (buffers_at n ss) (shaped_at n i ss contents shaped is) holds
     where
-      of_buffers : (o : Option Buffers) → IsSomeAnd o (λ b. HasShape b.size b.format i) → IsSomeAnd o P → (b : Buffers) × (HasShape b.size b.format i) × (P b)
+      of_buffers : (o : Option Buffers) → IsSomeAnd o (λ b. HasShape b.size b.format i) → IsSomeAnd o P → (b : Buffers)
+          × (HasShape b.size b.format i) × (P b)
       of_buffers None shape holds = absurd shape
       of_buffers (Some b) shape holds = (b, shape, holds)
 
@@ -125,7 +131,9 @@ module _ (ports : List Port) (cs : List Content) (ss : List KeptStream) (content
   src_of : (l : Layer) → LayerFits ss l → (size : Size) × (has_sides size ≡ true) × (holds_rect size l.src ≡ true)
   src_of l fits = of_buffers (buffers_at l.stream ss) (sides_at ports cs l.stream ss fit) fits.source
     where
-      of_buffers : (o : Option Buffers) → IfSome o (λ b. has_sides b.size ≡ true) → IsSomeAnd o (λ b. (is_a8 b.format ≡ false) × (holds_rect b.size l.src ≡ true)) → (size : Size) × (has_sides size ≡ true) × (holds_rect size l.src ≡ true)
+      of_buffers : (o : Option Buffers) → IfSome o (λ b. has_sides b.size ≡ true)
+          → IsSomeAnd o (λ b. (is_a8 b.format ≡ false) × (holds_rect b.size l.src ≡ true)) → (size : Size) × (has_sides size ≡ true)
+          × (holds_rect size l.src ≡ true)
       of_buffers None sides holds = absurd holds
       of_buffers (Some b) sides holds = (b.size, sides, holds.1)
 
@@ -145,9 +153,11 @@ module _ (ports : List Port) (cs : List Content) (ss : List KeptStream) (content
       of_source None is = tt
       of_source (Some i) is =
           let b = shape_of l.stream i _ is fits.source in
-          ((λ mask. (let no : is_a8 i.format ≡ false = ap is_a8 b.1.format_is ∙ b.2.0 in absurd (let yes : is_a8 A8 ≡ false = subst (λ (f : Format). is_a8 f ≡ false) mask no in cc))), rw b.1.size_is b.2.1)
+          ((λ mask. (let no : is_a8 i.format ≡ false = ap is_a8 b.1.format_is ∙ b.2.0 in
+              absurd (let yes : is_a8 A8 ≡ false = subst (λ (f : Format). is_a8 f ≡ false) mask no in cc))), rw b.1.size_is b.2.1)
 
-      of_mask : IsTrue l.transparency.mask → (o : Option Bitmap) → image_of l.mask contents ≡ o → IfSome o (λ i. (i.format ≡ A8) × (i.size ≡ size_of l.dest))
+      of_mask : IsTrue l.transparency.mask → (o : Option Bitmap) → image_of l.mask contents ≡ o
+          → IfSome o (λ i. (i.format ≡ A8) × (i.size ≡ size_of l.dest))
       of_mask masked None is = tt
       of_mask masked (Some i) is =
           let b = shape_of l.mask i _ is (fits.mask masked) in
@@ -167,6 +177,7 @@ module _ (ports : List Port) (cs : List Content) (ss : List KeptStream) (content
       target_sides : (target : ℕ) (scene : Scene) → IsComposable ss target scene → has_sides scene.size ≡ true
       target_sides target scene fits = of_buffers (buffers_at target ss) (sides_at ports cs target ss fit) fits.target_is
         where
-          of_buffers : (o : Option Buffers) → IfSome o (λ b. has_sides b.size ≡ true) → IsSomeAnd o (λ b. (b.size ≡ scene.size) × (is_a8 b.format ≡ false)) → has_sides scene.size ≡ true
+          of_buffers : (o : Option Buffers) → IfSome o (λ b. has_sides b.size ≡ true)
+              → IsSomeAnd o (λ b. (b.size ≡ scene.size) × (is_a8 b.format ≡ false)) → has_sides scene.size ≡ true
           of_buffers None sides is = absurd is
           of_buffers (Some b) sides is = subst (λ (s : Size). has_sides s ≡ true) is.0 sides

@@ -25,46 +25,60 @@ module _ (g : KeptStream → KeptStream) (keeps : KeepsStream g) where
   abbrev pub StaysOut : ℕ → Type 0
   StaysOut n = (s : KeptStream) → s.number ≡ n → s.buffers.out ≡ true → (g s).buffers.out ≡ true
 
-  target_kept : (n : ℕ) (ss : List KeptStream) (size : Size) (format : Format) → StaysOut n → IsOfTarget (buffers_at n ss) size format → IsOfTarget (buffers_at n (map g ss)) size format
+  target_kept : (n : ℕ) (ss : List KeptStream) (size : Size) (format : Format) → StaysOut n → IsOfTarget (buffers_at n ss) size format
+      → IsOfTarget (buffers_at n (map g ss)) size format
   target_kept n ss size format out is = of_stream (stream_at n ss) refl
     where
       of_stream : (o : Option KeptStream) → stream_at n ss ≡ o → IsOfTarget (buffers_at n (map g ss)) size format
       of_stream None at = absurd (rw at at is)
       of_stream (Some s) at =
           let was : (s.buffers.out ≡ true) × (size ≡ s.buffers.size) × (format ≡ s.buffers.format) = rw at at is in
-          rw (buffers_mapped g keeps n ss, at) (out s (has_number n ss s at) was.0, was.1 ∙ sym (keeps.size s), was.2 ∙ sym (keeps.format s))
+          rw (buffers_mapped g keeps n ss, at) (out s (has_number n ss s at) was.0, was.1 ∙ sym (keeps.size s), was.2
+              ∙ sym (keeps.format s))
 
-  kind_kept : (ports : List Port) (ss : List KeptStream) (size : Size) (format : Format) (k : JobKind) → ((n : ℕ) → is_in n (target_names k) ≡ true → StaysOut n) → KindFits ports ss size format k → KindFits ports (map g ss) size format k
-  kind_kept ports ss size format (kind.Context handle target) out fits = target_kept target ss size format (out target (in_first target [])) fits
+  kind_kept : (ports : List Port) (ss : List KeptStream) (size : Size) (format : Format) (k : JobKind)
+      → ((n : ℕ) → is_in n (target_names k) ≡ true → StaysOut n) → KindFits ports ss size format k → KindFits ports (map g ss) size format k
+  kind_kept ports ss size format (kind.Context handle target) out fits =
+      target_kept target ss size format (out target (in_first target [])) fits
   kind_kept ports ss size format (kind.Port port) out fits = fits
 
-  pub frame_kept : (ports : List Port) (ss : List KeptStream) (o : Option Running) → ((n : ℕ) → is_target n o ≡ true → StaysOut n) → IfSome o (FrameFits ports ss) → IfSome o (FrameFits ports (map g ss))
+  pub frame_kept : (ports : List Port) (ss : List KeptStream) (o : Option Running) → ((n : ℕ) → is_target n o ≡ true → StaysOut n)
+      → IfSome o (FrameFits ports ss) → IfSome o (FrameFits ports (map g ss))
   frame_kept ports ss None out fits = tt
   frame_kept ports ss (Some f) out fits = kind_kept ports ss f.size f.format f.kind out fits
 
 -- one more write buffer is out
-pub frame_acquired : (n : ℕ) (ports : List Port) (ss : List KeptStream) (o : Option Running) → KeepsShape acquired → IfSome o (FrameFits ports ss) → IfSome o (FrameFits ports (change_stream n acquired ss))
+pub frame_acquired : (n : ℕ) (ports : List Port) (ss : List KeptStream) (o : Option Running) → KeepsShape acquired
+    → IfSome o (FrameFits ports ss) → IfSome o (FrameFits ports (change_stream n acquired ss))
 frame_acquired n ports ss o keeps fits =
     frame_kept (changed_at n acquired) (changed_keeps n acquired keeps) ports ss o
-    (λ k is s at out. elim (s.number == n) as (λ b. (cond b (record s { buffers = acquired s.buffers }) s).buffers.out ≡ true) [ true ↦ refl | false ↦ out ]) fits
+    (λ k is s at out. elim (s.number == n) as (λ b. (cond b (record s { buffers = acquired s.buffers }) s).buffers.out
+        ≡ true) [ true ↦ refl | false ↦ out ]) fits
 
 -- the buffers of another stream change
-pub frame_apart : (n : ℕ) (f : Buffers → Buffers) (ports : List Port) (ss : List KeptStream) (o : Option Running) → KeepsShape f → is_target n o ≡ false → IfSome o (FrameFits ports ss) → IfSome o (FrameFits ports (change_stream n f ss))
+pub frame_apart : (n : ℕ) (f : Buffers → Buffers) (ports : List Port) (ss : List KeptStream) (o : Option Running) → KeepsShape f
+    → is_target n o ≡ false → IfSome o (FrameFits ports ss) → IfSome o (FrameFits ports (change_stream n f ss))
 frame_apart n f ports ss o keeps apart fits =
     frame_kept (changed_at n f) (changed_keeps n f keeps) ports ss o
-    (λ k is s at out. elim (s.number == n) as (λ b. (s.number == n) ≡ b → (cond b (record s { buffers = f s.buffers }) s).buffers.out ≡ true) [
-      | true ↦ λ here. absurd (let same : k ≡ n = sym at ∙ eqb-true s.number n here in let no : true ≡ false = sym is ∙ ap (λ (j : ℕ). is_target j o) same ∙ apart in cc)
+    (λ k is s at out. elim (s.number == n) as (λ b. (s.number == n) ≡ b
+        → (cond b (record s { buffers = f s.buffers }) s).buffers.out ≡ true) [
+      | true ↦ λ here. absurd (let same : k ≡ n = sym at ∙ eqb-true s.number n here in
+          let no : true ≡ false = sym is ∙ ap (λ (j : ℕ). is_target j o) same ∙ apart in cc)
       | false ↦ λ other. out
     ] refl) fits
 
 -- images come home
-pub frame_home : (xs : Images) (ports : List Port) (ss : List KeptStream) (o : Option Running) → IfSome o (FrameFits ports ss) → IfSome o (FrameFits ports (map (home_among xs) ss))
+pub frame_home : (xs : Images) (ports : List Port) (ss : List KeptStream) (o : Option Running) → IfSome o (FrameFits ports ss)
+    → IfSome o (FrameFits ports (map (home_among xs) ss))
 frame_home xs ports ss o fits =
     frame_kept (home_among xs) (home_keeps xs) ports ss o
-    (λ k is s at out. elim (image_of s.number xs) as (λ (i : Option Bitmap). (home_if i s).buffers.out ≡ true) [ None ↦ out | Some image ↦ out ]) fits
+    (λ k is s at out. elim (image_of s.number xs) as (λ (i : Option Bitmap). (home_if i s).buffers.out
+        ≡ true) [ None ↦ out | Some image ↦ out ]) fits
 
 -- a handle is dead
-pub frame_unnamed : (handle : ℕ) (ports : List Port) (ss : List KeptStream) (o : Option Running) → IfSome o (FrameFits ports ss) → IfSome o (FrameFits ports (map (unnamed handle) ss))
+pub frame_unnamed : (handle : ℕ) (ports : List Port) (ss : List KeptStream) (o : Option Running) → IfSome o (FrameFits ports ss)
+    → IfSome o (FrameFits ports (map (unnamed handle) ss))
 frame_unnamed handle ports ss o fits =
     frame_kept (unnamed handle) (unnamed_keeps handle) ports ss o
-    (λ k is s at out. elim (s.handle == handle) as (λ b. (cond b (record s { handle = 0 }) s).buffers.out ≡ true) [ true ↦ out | false ↦ out ]) fits
+    (λ k is s at out. elim (s.handle == handle) as (λ b. (cond b (record s { handle = 0 }) s).buffers.out
+        ≡ true) [ true ↦ out | false ↦ out ]) fits

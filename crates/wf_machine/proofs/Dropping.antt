@@ -1,5 +1,6 @@
 -- Streams without a name are dropped, and what holds of the machine holds still.
-use Rattle.std.proofs.Common.{◌≡◌, ℕ, zero, suc, ◌+◌, ◌<◌, ◌≤◌, Bool, true, false, cond, ◌==◌, ◌||◌, List, [], ◌∷◌, ◌++◌, length, map, filter, Option, Some, None, refl, sym, ap, subst, ◌∙◌, arith}
+use Rattle.std.proofs.Common.{◌≡◌, ℕ, zero, suc, ◌+◌, ◌<◌, ◌≤◌, Bool, true, false, cond, ◌==◌, ◌||◌, List, [], ◌∷◌, ◌++◌, length, map,
+    filter, Option, Some, None, refl, sym, ap, subst, ◌∙◌, arith}
 use Rattle.std.specs.Prelude.{flat_map, sum_by}
 use Rattle.std.specs.List.{range_with_len}
 use Rattle.std.specs.Option.{option_map, IfSome}
@@ -36,8 +37,11 @@ pub found_among : (ns : List ℕ) (n : ℕ) (ss : List KeptStream) → is_in n n
 found_among ns n [] within = refl
 found_among ns n (s ∷ ss) within =
     elim (s.number == n) as (λ b. (s.number == n) ≡ b → stream_at n (among ns (s ∷ ss)) ≡ cond b (Some s) (stream_at n ss)) [
-      | true ↦ λ here. (let there : is_in s.number ns ≡ true = ap (λ (k : ℕ). is_in k ns) (eqb-true s.number n here) ∙ within in rw (there, here) refl)
-      | false ↦ λ other. (elim (is_in s.number ns) as (λ b. stream_at n (cond b (s ∷ among ns ss) (among ns ss)) ≡ stream_at n ss) [ true ↦ rw other (found_among ns n ss within) | false ↦ found_among ns n ss within ])
+      | true ↦ λ here. (let there : is_in s.number ns ≡ true = ap (λ (k : ℕ). is_in k ns) (eqb-true s.number n here) ∙ within in
+          rw (there, here) refl)
+      | false ↦
+          λ other. (elim (is_in s.number ns) as (λ b. stream_at n (cond b (s ∷ among ns ss) (among ns ss))
+          ≡ stream_at n ss) [ true ↦ rw other (found_among ns n ss within) | false ↦ found_among ns n ss within ])
     ] refl
 
 pub seen_among : (ns : List ℕ) (n : ℕ) (ss : List KeptStream) → is_in n ns ≡ true → buffers_at n (among ns ss) ≡ buffers_at n ss
@@ -66,36 +70,49 @@ bytes_among ns (s ∷ ss) =
       | false ↦ omega (arith, later, sum_by-cons each s ss)
     ]
 
-fit_among : (ns : List ℕ) (ports : List Port) (cs : List Content) (ss : List KeptStream) → AllFit ports cs ss → AllFit ports cs (among ns ss)
+fit_among : (ns : List ℕ) (ports : List Port) (cs : List Content) (ss : List KeptStream) → AllFit ports cs ss
+    → AllFit ports cs (among ns ss)
 fit_among ns ports cs [] fit = tt
-fit_among ns ports cs (s ∷ ss) fit = elim (is_in s.number ns) as (λ b. AllFit ports cs (cond b (s ∷ among ns ss) (among ns ss))) [ true ↦ (fit.0, fit_among ns ports cs ss fit.1) | false ↦ fit_among ns ports cs ss fit.1 ]
+fit_among ns ports cs (s ∷ ss) fit = elim (is_in s.number ns)
+    as (λ b. AllFit ports cs (cond b (s ∷ among ns ss) (among ns ss))) [ true ↦ (fit.0, fit_among ns ports cs ss fit.1) | false ↦ fit_among
+    ns ports cs ss fit.1 ]
 
 -- the names of a state
 
 core_named : (h : State) (n : ℕ) → is_in n (core_names h.core) ≡ true → is_in n (all_names h) ≡ true
 core_named h n within =
     in_front n ((flat_map own_names h.streams ++ core_names h.core) ++ display_names h.display) (frame_names h.frame)
-    (in_front n (flat_map own_names h.streams ++ core_names h.core) (display_names h.display) (in_back n (flat_map own_names h.streams) (core_names h.core) within))
+    (in_front n (flat_map own_names h.streams ++ core_names h.core) (display_names h.display)
+        (in_back n (flat_map own_names h.streams) (core_names h.core) within))
 
 frame_named : (h : State) (n : ℕ) → is_in n (frame_names h.frame) ≡ true → is_in n (all_names h) ≡ true
-frame_named h n within = in_back n ((flat_map own_names h.streams ++ core_names h.core) ++ display_names h.display) (frame_names h.frame) within
+frame_named h n within = in_back n ((flat_map own_names h.streams ++ core_names h.core) ++ display_names h.display) (frame_names h.frame)
+    within
 
 -- the target of the running frame is left
-frame_among : (ns : List ℕ) (ports : List Port) (ss : List KeptStream) (o : Option Running) → ((n : ℕ) → is_in n (frame_names o) ≡ true → is_in n ns ≡ true) → IfSome o (FrameFits ports ss) → IfSome o (FrameFits ports (among ns ss))
+frame_among : (ns : List ℕ) (ports : List Port) (ss : List KeptStream) (o : Option Running)
+    → ((n : ℕ) → is_in n (frame_names o) ≡ true → is_in n ns ≡ true) → IfSome o (FrameFits ports ss)
+    → IfSome o (FrameFits ports (among ns ss))
 frame_among ns ports ss None named fits = tt
-frame_among ns ports ss (Some f) named fits = of_kind f.kind (λ n within. named n (in_back n (map (λ (c : Content). c.stream) f.contents) (target_names f.kind) within)) fits
+frame_among ns ports ss (Some f) named fits = of_kind f.kind
+    (λ n within. named n (in_back n (map (λ (c : Content). c.stream) f.contents) (target_names f.kind) within)) fits
   where
-    of_kind : (k : JobKind) → ((n : ℕ) → is_in n (target_names k) ≡ true → is_in n ns ≡ true) → KindFits ports ss f.size f.format k → KindFits ports (among ns ss) f.size f.format k
-    of_kind (kind.Context handle target) named fits = subst (λ (o : Option Buffers). IsOfTarget o f.size f.format) (sym (seen_among ns target ss (named target (in_first target [])))) fits
+    of_kind : (k : JobKind) → ((n : ℕ) → is_in n (target_names k) ≡ true → is_in n ns ≡ true) → KindFits ports ss f.size f.format k
+        → KindFits ports (among ns ss) f.size f.format k
+    of_kind (kind.Context handle target) named fits = subst (λ (o : Option Buffers). IsOfTarget o f.size f.format)
+        (sym (seen_among ns target ss (named target (in_first target [])))) fits
     of_kind (kind.Port port) named fits = fits
 
 -- the machine without the streams that nothing names
-pub sound_settled : (m : Inside) (store : StoreView) → store.streams ≡ kept (state_of m) → store.others ≡ m.store.others → store.made ≡ m.store.made → store.numbered ≡ m.store.numbered → IsSound m → IsSound (record m { store = store })
+pub sound_settled : (m : Inside) (store : StoreView) → store.streams ≡ kept (state_of m) → store.others ≡ m.store.others
+    → store.made ≡ m.store.made → store.numbered ≡ m.store.numbered → IsSound m → IsSound (record m { store = store })
 sound_settled m store streams others made numbered sound =
     let ns = all_names (state_of m) in
     let ss = m.store.streams in
     record {
-      fits = still_fits m.core m.store store others (omega (arith, made)) (λ n within b found. (b, ap (buffers_at n) streams ∙ seen_among ns n ss (core_named (state_of m) n within) ∙ found, refl, refl)) sound.fits;
+      fits = still_fits m.core m.store store others (omega (arith, made))
+          (λ n within b found. (b, ap (buffers_at n) streams ∙ seen_among ns n ss (core_named (state_of m) n within) ∙ found, refl, refl))
+          sound.fits;
       others = rw others sound.others;
       numbered = rw (streams, numbered) (numbered_among ns 0 m.store.numbered ss sound.numbered);
       few = sound.few;
@@ -103,7 +120,8 @@ sound_settled m store streams others made numbered sound =
       ports = sound.ports;
       small = rw streams (omega (arith, sound.small, bytes_among ns ss));
       streams = rw streams (fit_among ns (map port_of m.ports.items) (contents_of (option_map running_of m.frame)) ss sound.streams);
-      frame = rw streams (frame_among ns (map port_of m.ports.items) ss (option_map running_of m.frame) (frame_named (state_of m)) sound.frame);
+      frame = rw streams (frame_among ns (map port_of m.ports.items) ss (option_map running_of m.frame) (frame_named (state_of m))
+          sound.frame);
       once = sound.once;
       known = rw numbered sound.known;
     }
@@ -113,7 +131,8 @@ sound_settled m store streams others made numbered sound =
 only_itself : (s : KeptStream) (n : ℕ) → is_in n (own_names s) ≡ true → s.number ≡ n
 only_itself s n within =
     elim (s.handle == 0) as (λ b. is_in n (cond b [] (s.number ∷ []) ++ cond s.buffers.out (s.number ∷ []) []) ≡ true → s.number ≡ n) [
-      | true ↦ elim s.buffers.out as (λ b. is_in n (cond b (s.number ∷ []) []) ≡ true → s.number ≡ n) [ true ↦ λ is. one is | false ↦ λ is. absurd cc ]
+      | true ↦ elim s.buffers.out as (λ b. is_in n (cond b (s.number ∷ []) []) ≡ true
+          → s.number ≡ n) [ true ↦ λ is. one is | false ↦ λ is. absurd cc ]
       | false ↦ elim s.buffers.out as (λ b. ((s.number == n) || is_in n (cond b (s.number ∷ []) [])) ≡ true → s.number ≡ n) [
         | true ↦ λ is. two is
         | false ↦ λ is. one is
@@ -121,13 +140,16 @@ only_itself s n within =
     ] within
   where
     one : ((s.number == n) || false) ≡ true → s.number ≡ n
-    one is = elim (s.number == n) as (λ b. (s.number == n) ≡ b → (b || false) ≡ true → s.number ≡ n) [ true ↦ λ here is. eqb-true s.number n here | false ↦ λ here is. absurd cc ] refl is
+    one is = elim (s.number == n) as (λ b. (s.number == n) ≡ b → (b || false) ≡ true
+        → s.number ≡ n) [ true ↦ λ here is. eqb-true s.number n here | false ↦ λ here is. absurd cc ] refl is
 
     two : ((s.number == n) || ((s.number == n) || false)) ≡ true → s.number ≡ n
-    two is = elim (s.number == n) as (λ b. (s.number == n) ≡ b → (b || (b || false)) ≡ true → s.number ≡ n) [ true ↦ λ here is. eqb-true s.number n here | false ↦ λ here is. absurd cc ] refl is
+    two is = elim (s.number == n) as (λ b. (s.number == n) ≡ b → (b || (b || false)) ≡ true
+        → s.number ≡ n) [ true ↦ λ here is. eqb-true s.number n here | false ↦ λ here is. absurd cc ] refl is
 
 -- a stream that names itself does so among those that are left
-own_left : (ns : List ℕ) (n : ℕ) (ss : List KeptStream) → is_in n ns ≡ true → is_in n (flat_map own_names ss) ≡ true → is_in n (flat_map own_names (among ns ss)) ≡ true
+own_left : (ns : List ℕ) (n : ℕ) (ss : List KeptStream) → is_in n ns ≡ true → is_in n (flat_map own_names ss) ≡ true
+    → is_in n (flat_map own_names (among ns ss)) ≡ true
 own_left ns n [] within own = own
 own_left ns n (s ∷ ss) within own =
     elim (is_in n (own_names s)) as (λ b. is_in n (own_names s) ≡ b → is_in n (flat_map own_names (among ns (s ∷ ss))) ≡ true) [
@@ -135,9 +157,11 @@ own_left ns n (s ∷ ss) within own =
           let there : is_in s.number ns ≡ true = ap (λ (k : ℕ). is_in k ns) (only_itself s n here) ∙ within in
           rw there (in_front n (own_names s) (flat_map own_names (among ns ss)) here))
       | false ↦ λ other. (
-          let behind : is_in n (flat_map own_names ss) ≡ true = ap (λ (b : Bool). b || is_in n (flat_map own_names ss)) (sym other) ∙ sym (list_any-append (λ (x : ℕ). x == n) (own_names s) (flat_map own_names ss)) ∙ own in
+          let behind : is_in n (flat_map own_names ss) ≡ true = ap (λ (b : Bool). b || is_in n (flat_map own_names ss)) (sym other)
+              ∙ sym (list_any-append (λ (x : ℕ). x == n) (own_names s) (flat_map own_names ss)) ∙ own in
           let later = own_left ns n ss within behind in
-          elim (is_in s.number ns) as (λ b. is_in n (flat_map own_names (cond b (s ∷ among ns ss) (among ns ss))) ≡ true) [ true ↦ in_back n (own_names s) (flat_map own_names (among ns ss)) later | false ↦ later ])
+          elim (is_in s.number ns) as (λ b. is_in n (flat_map own_names (cond b (s ∷ among ns ss) (among ns ss)))
+              ≡ true) [ true ↦ in_back n (own_names s) (flat_map own_names (among ns ss)) later | false ↦ later ])
     ] refl
 
 -- what is named is named still
@@ -149,10 +173,13 @@ still_named h n within =
     let display = display_names h.display in
     let frame = frame_names h.frame in
     let split : (a b c d : List ℕ) → is_in n (((a ++ b) ++ c) ++ d) ≡ (((is_in n a || is_in n b) || is_in n c) || is_in n d) = λ a b c d.
-    list_any-append (λ (x : ℕ). x == n) ((a ++ b) ++ c) d ∙ ap (λ (x : Bool). x || is_in n d) (list_any-append (λ (x : ℕ). x == n) (a ++ b) c ∙ ap (λ (x : Bool). x || is_in n c) (list_any-append (λ (x : ℕ). x == n) a b)) in
+    list_any-append (λ (x : ℕ). x == n) ((a ++ b) ++ c) d
+        ∙ ap (λ (x : Bool). x || is_in n d) (list_any-append (λ (x : ℕ). x == n) (a ++ b) c
+        ∙ ap (λ (x : Bool). x || is_in n c) (list_any-append (λ (x : ℕ). x == n) a b)) in
     let was : (((is_in n own || is_in n core) || is_in n display) || is_in n frame) ≡ true = sym (split own core display frame) ∙ within in
     split left core display frame
-    ∙ elim (is_in n own) as (λ b. is_in n own ≡ b → (((b || is_in n core) || is_in n display) || is_in n frame) ≡ true → (((is_in n left || is_in n core) || is_in n display) || is_in n frame) ≡ true) [
+    ∙ elim (is_in n own) as (λ b. is_in n own ≡ b → (((b || is_in n core) || is_in n display) || is_in n frame) ≡ true
+        → (((is_in n left || is_in n core) || is_in n display) || is_in n frame) ≡ true) [
       | true ↦ λ here _. rw (own_left (all_names h) n h.streams within here) refl
       | false ↦ λ other rest. or_behind (is_in n left) (is_in n core) (is_in n display) (is_in n frame) rest
     ] refl was
@@ -161,10 +188,12 @@ still_named h n within =
     or_behind true b c d is = refl
     or_behind false b c d is = is
 
-all_left : (ns ms : List ℕ) (ss : List KeptStream) → ((n : ℕ) → is_in n ns ≡ true → is_in n ms ≡ true) → among ms (among ns ss) ≡ among ns ss
+all_left : (ns ms : List ℕ) (ss : List KeptStream) → ((n : ℕ) → is_in n ns ≡ true → is_in n ms ≡ true)
+    → among ms (among ns ss) ≡ among ns ss
 all_left ns ms [] named = refl
 all_left ns ms (s ∷ ss) named =
-    elim (is_in s.number ns) as (λ b. is_in s.number ns ≡ b → among ms (cond b (s ∷ among ns ss) (among ns ss)) ≡ cond b (s ∷ among ns ss) (among ns ss)) [
+    elim (is_in s.number ns) as (λ b. is_in s.number ns ≡ b
+        → among ms (cond b (s ∷ among ns ss) (among ns ss)) ≡ cond b (s ∷ among ns ss) (among ns ss)) [
       | true ↦ λ here. (let there = named s.number here in rw there (ap (λ (ts : List KeptStream). s ∷ ts) (all_left ns ms ss named)))
       | false ↦ λ other. all_left ns ms ss named
     ] refl
@@ -182,11 +211,13 @@ in_range n low (suc many) from to =
       | false ↦ λ apart. in_range n (low + 1) many (grind (arith, nat_tests)) (omega arith)
     ] refl
 
-screens_left : (ns : List ℕ) (k : ℕ) (ms : List Modes) → ((n : ℕ) → k ≤ n → n < k + length ms → is_in n ns ≡ true) → among ns (screens k ms) ≡ screens k ms
+screens_left : (ns : List ℕ) (k : ℕ) (ms : List Modes) → ((n : ℕ) → k ≤ n → n < k + length ms → is_in n ns ≡ true)
+    → among ns (screens k ms) ≡ screens k ms
 screens_left ns k [] named = refl
 screens_left ns k (m ∷ ms) named =
     let here : is_in k ns ≡ true = named k (omega arith) (omega arith) in
-    rw here (ap (λ (ss : List KeptStream). screen (k, m) ∷ ss) (screens_left ns (k + 1) ms (λ n from to. named n (omega arith) (omega arith))))
+    rw here (ap (λ (ss : List KeptStream). screen (k, m) ∷ ss)
+        (screens_left ns (k + 1) ms (λ n from to. named n (omega arith) (omega arith))))
 
 pub opening_settled : (ports : Ports) → IsSettled (opening ports)
 opening_settled ports =
@@ -194,5 +225,7 @@ opening_settled ports =
     let h = opening ports in
     sym (screens_left (all_names h) 1 ms (λ n from to. (
     let many : length (map initial_port ms) ≡ length ms = length-map ms initial_port in
-    let named : is_in n (display_names h.display) ≡ true = ap (λ (k : ℕ). is_in n (range_with_len 1 k)) many ∙ in_range n 1 (length ms) from to in
-    in_front n ((flat_map own_names h.streams ++ core_names h.core) ++ display_names h.display) (frame_names h.frame) (in_back n (flat_map own_names h.streams ++ core_names h.core) (display_names h.display) named))))
+    let named : is_in n (display_names h.display) ≡ true = ap (λ (k : ℕ). is_in n (range_with_len 1 k)) many
+        ∙ in_range n 1 (length ms) from to in
+    in_front n ((flat_map own_names h.streams ++ core_names h.core) ++ display_names h.display) (frame_names h.frame)
+        (in_back n (flat_map own_names h.streams ++ core_names h.core) (display_names h.display) named))))

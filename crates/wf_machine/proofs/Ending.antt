@@ -1,5 +1,6 @@
 -- The machine once its frame has ended.
-use Rattle.std.proofs.Common.{◌≡◌, ℕ, ◌+◌, ◌-◌, ◌<◌, ◌≤◌, true, cond, ◌==◌, List, [], ◌∷◌, length, map, Option, Some, None, refl, sym, ap, subst, ◌∙◌, arith, zero, suc}
+use Rattle.std.proofs.Common.{◌≡◌, ℕ, ◌+◌, ◌-◌, ◌<◌, ◌≤◌, true, cond, ◌==◌, List, [], ◌∷◌, length, map, Option, Some, None, refl, sym, ap,
+    subst, ◌∙◌, arith, zero, suc}
 use Rattle.std.specs.Prelude.{slice_get}
 use Rattle.std.specs.List.{list_all}
 use Rattle.std.specs.Option.{option_map, IfSome, IsSomeAnd}
@@ -26,7 +27,8 @@ use Rattle.wf_model.specs.Picture.{Images}
 use Rattle.wf_machine.specs.declared.frame.Frame.{Frame}
 use Rattle.wf_machine.specs.declared.parts.Parts.TheInside.{Inside}
 use Rattle.wf_machine.specs.declared.port.Port as declared
-use Rattle.wf_machine.specs.Fitting.{AllFit, AreOnce, FrameFits, IsDue, IsOfPort, IsOfTarget, IsRead, IsScreen, KindFits, PortsFit, StreamFits, away_of, content_at, contents_of, is_of_running}
+use Rattle.wf_machine.specs.Fitting.{AllFit, AreOnce, FrameFits, IsDue, IsOfPort, IsOfTarget, IsRead, IsScreen, KindFits, PortsFit,
+    StreamFits, away_of, content_at, contents_of, is_of_running}
 use Rattle.wf_machine.specs.Inside.{IsSound, state_of}
 use Rattle.wf_machine.specs.Latching.{AreAwaited, Awaits}
 use Rattle.wf_machine.specs.Ports.{HoldsBut, IsFrameImage, port_of, running_of}
@@ -35,7 +37,8 @@ use Rattle.wf_machine.proofs.Beginning.{seen_twice}
 use Rattle.wf_machine.proofs.Drawing.{frame_home}
 use Rattle.wf_machine.proofs.Latches.{KeepsShape}
 use Rattle.wf_words.specs.Once.{by_number}
-use Rattle.wf_machine.proofs.Mapped.{SeenSame, bytes_mapped, changed_at, changed_keeps, home_among, home_keeps, numbered_mapped, seen_mapped}
+use Rattle.wf_machine.proofs.Mapped.{SeenSame, bytes_mapped, changed_at, changed_keeps, home_among, home_keeps, numbered_mapped,
+    seen_mapped}
 use Rattle.wf_machine.proofs.Shapes.{AreOf, Apart, IsOfShape, all_of, none_there}
 use Rattle.wf_machine.proofs.StillComposed.{still_fits}
 use Rattle.wf_machine.proofs.StillFitting.{all_kept, posted_keeps, shape_kept}
@@ -58,89 +61,114 @@ end_parts job f is =
     record { kind_is = second.1; size = third.1; format = fourth.1; many = eqb-true _ _ fifth.1; there = sixth.1 }
 
 -- the image of a stream's content comes home
-awaits_one : (cs : List Content) (ports : List Port) (streams : List KeptStream) (p : ℕ × Bitmap) → AllFit ports cs streams → IsSomeAnd (content_at p.0 cs) (λ c. IsOfShape c p.1) → Awaits streams p
+awaits_one : (cs : List Content) (ports : List Port) (streams : List KeptStream) (p : ℕ × Bitmap) → AllFit ports cs streams
+    → IsSomeAnd (content_at p.0 cs) (λ c. IsOfShape c p.1) → Awaits streams p
 awaits_one cs ports [] p fit of = tt
 awaits_one cs ports (s ∷ streams) p fit of =
-    by_number (IfSome (option_map (λ (t : KeptStream). t.buffers) (cond (s.number == p.0) (Some s) (stream_at p.0 streams))) (λ b. (b.read ≡ away) × HasShape b.size b.format p.1)) s.number p.0
+    by_number (IfSome (option_map (λ (t : KeptStream). t.buffers) (cond (s.number == p.0) (Some s) (stream_at p.0 streams)))
+        (λ b. (b.read ≡ away) × HasShape b.size b.format p.1)) s.number p.0
     (λ here same. rw here (of_content (content_at p.0 cs) (subst (λ (k : ℕ). IsRead s.buffers (content_at k cs)) same fit.0.read) of))
     (λ apart. rw apart (awaits_one cs ports streams p fit.1 of))
   where
-    of_content : (o : Option Content) → IsRead s.buffers o → IsSomeAnd o (λ c. IsOfShape c p.1) → (s.buffers.read ≡ away) × HasShape s.buffers.size s.buffers.format p.1
+    of_content : (o : Option Content) → IsRead s.buffers o → IsSomeAnd o (λ c. IsOfShape c p.1) → (s.buffers.read ≡ away)
+        × HasShape s.buffers.size s.buffers.format p.1
     of_content None read of = absurd of
     of_content (Some c) read of =
         let parts = and_parts (same_size p.1.size c.size) (same_format p.1.format c.format) of in
-        (read.0, record { size_is = size_is p.1.size c.size parts.0 ∙ sym read.1; format_is = format_is p.1.format c.format parts.1 ∙ sym read.2 })
+        (read.0, record { size_is = size_is p.1.size c.size parts.0 ∙ sym read.1;
+            format_is = format_is p.1.format c.format parts.1 ∙ sym read.2 })
 
-all_await : (cs : List Content) (ports : List Port) (streams : List KeptStream) (xs : Images) → AllFit ports cs streams → AreOf cs xs → Apart xs → AreAwaited streams xs
+all_await : (cs : List Content) (ports : List Port) (streams : List KeptStream) (xs : Images) → AllFit ports cs streams → AreOf cs xs
+    → Apart xs → AreAwaited streams xs
 all_await cs ports streams [] fit are apart = tt
-all_await cs ports streams (p ∷ xs) fit are apart = (awaits_one cs ports streams p fit are.0, apart.0, all_await cs ports streams xs fit are.1 apart.1)
+all_await cs ports streams (p ∷ xs) fit are apart =
+    (awaits_one cs ports streams p fit are.0, apart.0, all_await cs ports streams xs fit are.1 apart.1)
 
 screen_home : (image : Bitmap) (b : Buffers) (o : Option Port) → IfSome o (IsScreen b) → IfSome o (IsScreen (returned image b))
 screen_home image b None is = tt
 screen_home image b (Some p) is = is
 
 -- all streams fit once the images are home and no frame runs
-all_back : (cs : List Content) (ports : List Port) (streams : List KeptStream) (xs : Images) → list_all (λ c. has_shape (image_of c.stream xs) c) cs ≡ true → AllFit ports cs streams → AllFit ports [] (brought_home xs streams)
+all_back : (cs : List Content) (ports : List Port) (streams : List KeptStream) (xs : Images)
+    → list_all (λ c. has_shape (image_of c.stream xs) c) cs ≡ true → AllFit ports cs streams → AllFit ports [] (brought_home xs streams)
 all_back cs ports [] xs there fit = tt
 all_back cs ports (s ∷ streams) xs there fit = (of_image (image_of s.number xs) refl, all_back cs ports streams xs there fit.1)
   where
     of_image : (o : Option Bitmap) → image_of s.number xs ≡ o → StreamFits ports [] (home_if (image_of s.number xs) s)
     of_image None is =
         let none = none_there s.number cs xs there is in
-        rw is (record { sides = fit.0.sides; screen = fit.0.screen; read = subst (λ (o : Option Content). IsRead s.buffers o) none fit.0.read })
-    of_image (Some image) is = rw is (record { sides = fit.0.sides; screen = screen_home image s.buffers (nth s.number ports) fit.0.screen; read = λ h. absurd cc })
+        rw is (record { sides = fit.0.sides; screen = fit.0.screen;
+            read = subst (λ (o : Option Content). IsRead s.buffers o) none fit.0.read })
+    of_image (Some image) is =
+        rw is (record { sides = fit.0.sides; screen = screen_home image s.buffers (nth s.number ports) fit.0.screen;
+        read = λ h. absurd cc })
 
 -- the streams that got what a frame drew
 
 delivered_keeps : (image : Bitmap) → KeepsShape (posted image)
 delivered_keeps image = shape_kept (posted image) (posted_keeps image)
 
-delivered_numbered : (k : JobKind) (image : Bitmap) (high : ℕ) (ss : List KeptStream) → IsNumbered 0 ss high → IsNumbered 0 (delivered k image ss) high
-delivered_numbered (kind.Context handle target) image high ss rising = numbered_mapped (changed_at target (posted image)) (changed_keeps target (posted image) (delivered_keeps image)) 0 high ss rising
+delivered_numbered : (k : JobKind) (image : Bitmap) (high : ℕ) (ss : List KeptStream) → IsNumbered 0 ss high
+    → IsNumbered 0 (delivered k image ss) high
+delivered_numbered (kind.Context handle target) image high ss rising =
+    numbered_mapped (changed_at target (posted image)) (changed_keeps target (posted image) (delivered_keeps image)) 0 high ss rising
 delivered_numbered (kind.Port port) image high ss rising = rising
 
 delivered_bytes : (k : JobKind) (image : Bitmap) (ss : List KeptStream) → (held (delivered k image ss)).bytes ≡ (held ss).bytes
-delivered_bytes (kind.Context handle target) image ss = bytes_mapped (changed_at target (posted image)) (changed_keeps target (posted image) (delivered_keeps image)) ss
+delivered_bytes (kind.Context handle target) image ss =
+    bytes_mapped (changed_at target (posted image)) (changed_keeps target (posted image) (delivered_keeps image)) ss
 delivered_bytes (kind.Port port) image ss = refl
 
-delivered_fit : (k : JobKind) (image : Bitmap) (ports : List Port) (cs : List Content) (ss : List KeptStream) → AllFit ports cs ss → AllFit ports cs (delivered k image ss)
+delivered_fit : (k : JobKind) (image : Bitmap) (ports : List Port) (cs : List Content) (ss : List KeptStream) → AllFit ports cs ss
+    → AllFit ports cs (delivered k image ss)
 delivered_fit (kind.Context handle target) image ports cs ss fit = all_kept (posted image) target ports cs ss (posted_keeps image) fit
 delivered_fit (kind.Port port) image ports cs ss fit = fit
 
-delivered_seen : (k : JobKind) (image : Bitmap) (n : ℕ) (ss : List KeptStream) → SeenSame (buffers_at n ss) (buffers_at n (delivered k image ss))
-delivered_seen (kind.Context handle target) image n ss = seen_mapped (changed_at target (posted image)) (changed_keeps target (posted image) (delivered_keeps image)) n ss
+delivered_seen : (k : JobKind) (image : Bitmap) (n : ℕ) (ss : List KeptStream)
+    → SeenSame (buffers_at n ss) (buffers_at n (delivered k image ss))
+delivered_seen (kind.Context handle target) image n ss =
+    seen_mapped (changed_at target (posted image)) (changed_keeps target (posted image) (delivered_keeps image)) n ss
 delivered_seen (kind.Port port) image n ss = λ b found. (b, found, refl, refl)
 
-ended_seen : (k : JobKind) (image : Bitmap) (xs : Images) (n : ℕ) (ss : List KeptStream) → SeenSame (buffers_at n ss) (buffers_at n (delivered k image (brought_home xs ss)))
+ended_seen : (k : JobKind) (image : Bitmap) (xs : Images) (n : ℕ) (ss : List KeptStream)
+    → SeenSame (buffers_at n ss) (buffers_at n (delivered k image (brought_home xs ss)))
 ended_seen k image xs n ss =
-    seen_twice (buffers_at n ss) (buffers_at n (brought_home xs ss)) (buffers_at n (delivered k image (brought_home xs ss))) (seen_mapped (home_among xs) (home_keeps xs) n ss) (delivered_seen k image n (brought_home xs ss))
+    seen_twice (buffers_at n ss) (buffers_at n (brought_home xs ss)) (buffers_at n (delivered k image (brought_home xs ss)))
+        (seen_mapped (home_among xs) (home_keeps xs) n ss) (delivered_seen k image n (brought_home xs ss))
 
 -- the frame that ends is the one that runs
-pub running_frame : (m : Inside) (job : Job) → is_of_running job (option_map running_of m.frame) ≡ true → (f : Frame) × (m.frame ≡ Some f) × (is_of_frame job (running_of f) ≡ true)
+pub running_frame : (m : Inside) (job : Job) → is_of_running job (option_map running_of m.frame) ≡ true → (f : Frame) × (m.frame ≡ Some f)
+    × (is_of_frame job (running_of f) ≡ true)
 running_frame m job is = of_frame m.frame refl is
   where
-    of_frame : (o : Option Frame) → m.frame ≡ o → is_of_running job (option_map running_of o) ≡ true → (f : Frame) × (m.frame ≡ Some f) × (is_of_frame job (running_of f) ≡ true)
+    of_frame : (o : Option Frame) → m.frame ≡ o → is_of_running job (option_map running_of o) ≡ true → (f : Frame) × (m.frame ≡ Some f)
+        × (is_of_frame job (running_of f) ≡ true)
     of_frame None free of = absurd cc
     of_frame (Some f) runs of = (f, runs, of)
 
-pub was_running : (m : Inside) (job : Job) (s : State) → state_of m ≡ s → is_of_running job s.frame ≡ true → is_of_running job (option_map running_of m.frame) ≡ true
+pub was_running : (m : Inside) (job : Job) (s : State) → state_of m ≡ s → is_of_running job s.frame ≡ true
+    → is_of_running job (option_map running_of m.frame) ≡ true
 was_running m job s seen is = ap (λ (t : State). is_of_running job t.frame) seen ∙ is
 
 -- the kinds of a Job and of its frame are one
 same_kind_is : (j k : JobKind) → same_kind j k ≡ true → k ≡ j
 same_kind_is (kind.Context handle target) (kind.Context other into) is =
     let both = and_parts (handle == other) (target == into) is in
-    ap (λ (n : ℕ). kind.Context n into) (sym (eqb-true handle other both.0)) ∙ ap (λ (n : ℕ). kind.Context handle n) (sym (eqb-true target into both.1))
+    ap (λ (n : ℕ). kind.Context n into) (sym (eqb-true handle other both.0))
+        ∙ ap (λ (n : ℕ). kind.Context handle n) (sym (eqb-true target into both.1))
 same_kind_is (kind.Port p) (kind.Port q) is = ap (λ (n : ℕ). kind.Port n) (sym (eqb-true p q is))
 same_kind_is (kind.Context handle target) (kind.Port q) is = absurd cc
 same_kind_is (kind.Port p) (kind.Context other into) is = absurd cc
 
 -- a context's frame has no image of a port away
-none_away : (f : Running) (handle target : ℕ) → f.kind ≡ kind.Context handle target → (k : ℕ) (ps : List declared.Port) → PortsFit (Some f) k ps → PortsFit None k ps
+none_away : (f : Running) (handle target : ℕ) → f.kind ≡ kind.Context handle target → (k : ℕ) (ps : List declared.Port)
+    → PortsFit (Some f) k ps → PortsFit None k ps
 none_away f handle target is k [] fit = tt
 none_away f handle target is k (p ∷ ps) fit =
     let none : away_of (Some f) k ≡ 0 = rw is refl in
-    (record { some = fit.0.some; sides = fit.0.sides; images = subst (λ (n : ℕ). HoldsBut n p.modes.items p.images.items) none fit.0.images }, none_away f handle target is (k + 1) ps fit.1)
+    (record { some = fit.0.some; sides = fit.0.sides;
+        images = subst (λ (n : ℕ). HoldsBut n p.modes.items p.images.items) none fit.0.images },
+        none_away f handle target is (k + 1) ps fit.1)
 
 module _ (m : Inside) (job : Job) (is : is_of_running job (option_map running_of m.frame) ≡ true) (sound : IsSound m) where
   abbrev f : Frame
@@ -176,8 +204,10 @@ module _ (m : Inside) (job : Job) (is : is_of_running job (option_map running_of
   -- the frame draws into the image that comes, as it did when it ran
   fits_home : KindFits ports home f.size f.format job.kind
   fits_home =
-      let runs_so : IfSome (Some (running_of f)) (FrameFits ports m.store.streams) = subst (λ (o : Option Frame). IfSome (option_map running_of o) (FrameFits ports m.store.streams)) runs sound.frame in
-      subst (λ (k : JobKind). KindFits ports home f.size f.format k) kind_is (frame_home job.contents ports m.store.streams (Some (running_of f)) runs_so)
+      let runs_so : IfSome (Some (running_of f)) (FrameFits ports m.store.streams) =
+          subst (λ (o : Option Frame). IfSome (option_map running_of o) (FrameFits ports m.store.streams)) runs sound.frame in
+      subst (λ (k : JobKind). KindFits ports home f.size f.format k) kind_is
+          (frame_home job.contents ports m.store.streams (Some (running_of f)) runs_so)
 
   ports_fit : PortsFit (Some (running_of f)) 1 m.ports.items
   ports_fit = subst (λ (o : Option Frame). PortsFit (option_map running_of o) 1 m.ports.items) runs sound.ports
@@ -189,14 +219,17 @@ module _ (m : Inside) (job : Job) (is : is_of_running job (option_map running_of
   image_format = format_is job.image.format f.format parts.format
 
   -- the write buffer of a context's target
-  due_target : (handle target : ℕ) → f.kind ≡ kind.Context handle target → IsOfTarget (buffers_at target home) f.size f.format → IsDue home m.ports.items (kind.Context handle target) job.image
-  due_target handle target is fits = (of_buffers (buffers_at target home) fits, none_away (running_of f) handle target is 1 m.ports.items ports_fit)
+  due_target : (handle target : ℕ) → f.kind ≡ kind.Context handle target → IsOfTarget (buffers_at target home) f.size f.format
+      → IsDue home m.ports.items (kind.Context handle target) job.image
+  due_target handle target is fits = (of_buffers (buffers_at target home) fits,
+      none_away (running_of f) handle target is 1 m.ports.items ports_fit)
     where
       of_buffers : (o : Option Buffers) → IsOfTarget o f.size f.format → IfSome o (λ b. (b.out ≡ true) × HasShape b.size b.format job.image)
       of_buffers None fits = tt
       of_buffers (Some b) fits = (fits.0, record { size_is = image_size ∙ fits.1; format_is = image_format ∙ fits.2 })
 
-  at_place : (n : ℕ) (ps : List Port) (P : Port → Type 0) → IsSomeAnd (nth n ps) P → (1 ≤ n) × (n - 1 < length ps) × IfSome (slice_get ps (n - 1)) P
+  at_place : (n : ℕ) (ps : List Port) (P : Port → Type 0) → IsSomeAnd (nth n ps) P → (1 ≤ n) × (n - 1 < length ps)
+      × IfSome (slice_get ps (n - 1)) P
   at_place zero ps P some = absurd some
   at_place (suc n) ps P some =
       let same : n ≡ suc n - 1 = omega arith in
@@ -212,13 +245,16 @@ module _ (m : Inside) (job : Job) (is : is_of_running job (option_map running_of
       of_slice (Some q) some = some
 
   -- the image of a port
-  due_port : (port : ℕ) → f.kind ≡ kind.Port port → IsOfPort (nth port ports) f.size f.format → IsDue home m.ports.items (kind.Port port) job.image
+  due_port : (port : ℕ) → f.kind ≡ kind.Port port → IsOfPort (nth port ports) f.size f.format
+      → IsDue home m.ports.items (kind.Port port) job.image
   due_port port is fits =
       let found = at_place port ports (λ p. (f.size ≡ mode_size 1 p.modes) × (f.format ≡ Rgba8Pre)) fits in
       let back : port ≡ port - 1 + 1 = omega (arith, found.0) in
-      (found.0, omega (arith, found.1, length-map m.ports.items port_of), (running_of f, is ∙ ap (λ (n : ℕ). kind.Port n) back, ports_fit), of_place (slice_get ports (port - 1)) found.2)
+      (found.0, omega (arith, found.1, length-map m.ports.items port_of), (running_of f, is ∙ ap (λ (n : ℕ). kind.Port n) back, ports_fit),
+          of_place (slice_get ports (port - 1)) found.2)
     where
-      of_place : (o : Option Port) → IfSome o (λ p. (f.size ≡ mode_size 1 p.modes) × (f.format ≡ Rgba8Pre)) → IfSome o (λ p. IsFrameImage (mode_size 1 p.modes) (Some job.image))
+      of_place : (o : Option Port) → IfSome o (λ p. (f.size ≡ mode_size 1 p.modes) × (f.format ≡ Rgba8Pre))
+          → IfSome o (λ p. IsFrameImage (mode_size 1 p.modes) (Some job.image))
       of_place None shape = tt
       of_place (Some p) shape = (image_size ∙ shape.0, image_format ∙ shape.1)
 
@@ -237,7 +273,8 @@ module _ (m : Inside) (job : Job) (is : is_of_running job (option_map running_of
       pub fit : PortsFit None 1 lent
       pub reply_is : reply ≡ bare (done 0)
 
-    module _ (now : Inside) (store-is : now.store ≡ left) (ports-are : now.ports.items ≡ lent) (core-is : now.core ≡ m.core) (begun-is : now.begun ≡ m.begun) (free : now.frame ≡ None) (ended : HasEnded) where
+    module _ (now : Inside) (store-is : now.store ≡ left) (ports-are : now.ports.items ≡ lent) (core-is : now.core ≡ m.core)
+        (begun-is : now.begun ≡ m.begun) (free : now.frame ≡ None) (ended : HasEnded) where
       abbrev after : List KeptStream
       after = delivered job.kind job.image home
 
@@ -268,14 +305,18 @@ module _ (m : Inside) (job : Job) (is : is_of_running job (option_map running_of
       pub sound_ended : IsSound now
       sound_ended =
           record {
-            fits = rw core-is (still_fits m.core m.store now.store now_others (omega (arith, ap (λ (v : StoreView). v.made) now_store)) (λ n within. rw now_streams (ended_seen job.kind job.image job.contents n m.store.streams)) sound.fits);
+            fits = rw core-is (still_fits m.core m.store now.store now_others (omega (arith, ap (λ (v : StoreView). v.made) now_store))
+                (λ n within. rw now_streams (ended_seen job.kind job.image job.contents n m.store.streams)) sound.fits);
             others = rw now_others sound.others;
             numbered = rw (now_streams, now_numbered) (delivered_numbered job.kind job.image m.store.numbered home home_numbered);
             few = omega (arith, as_many, sound.few);
             screens = omega (arith, as_many, now_numbered, sound.screens);
             ports = rw (free, ports-are) ended.fit;
-            small = rw now_streams (omega (arith, sound.small, delivered_bytes job.kind job.image home, bytes_mapped (home_among job.contents) (home_keeps job.contents) m.store.streams));
-            streams = rw (no_contents, now_ports, now_streams) (delivered_fit job.kind job.image ports [] home (all_back f.contents.items ports m.store.streams job.contents parts.there fit));
+            small = rw now_streams (omega (arith, sound.small, delivered_bytes job.kind job.image home,
+                bytes_mapped (home_among job.contents) (home_keeps job.contents) m.store.streams));
+            streams = rw (no_contents, now_ports, now_streams)
+                (delivered_fit job.kind job.image ports [] home (all_back f.contents.items ports m.store.streams job.contents parts.there
+                fit));
             frame = rw free tt;
             once = rw no_contents tt;
             known = rw no_contents tt;
@@ -284,7 +325,8 @@ module _ (m : Inside) (job : Job) (is : is_of_running job (option_map running_of
       state_is : state_of now ≡ record (state_of m) { streams = after; frame = None }
       state_is =
           let state : ℕ → StoreView → CoreState → List Port → Option Frame → State = λ n v core ps o.
-          record { made = v.made; numbered = v.numbered; begun = n; streams = v.streams; core = core; display = record { ports = ps }; frame = option_map running_of o } in
+          record { made = v.made; numbered = v.numbered; begun = n; streams = v.streams; core = core; display = record { ports = ps };
+              frame = option_map running_of o } in
           let store : StoreView = record m.store { streams = after } in
           ap (λ (n : ℕ). state n now.store now.core (map port_of now.ports.items) now.frame) begun-is
           ∙ ap (λ (v : StoreView). state m.begun v now.core (map port_of now.ports.items) now.frame) now_store

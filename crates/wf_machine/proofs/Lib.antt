@@ -24,3 +24,4 @@ pub mod Acts
 pub mod Dropping
 pub mod Markings
 pub mod Stepping
+pub mod LeftAlone

@@ -1,5 +1,6 @@
 -- The machine before its first call.
-use Rattle.std.proofs.Common.{◌≡◌, ℕ, suc, ◌+◌, ◌<◌, ◌≤◌, Bool, true, false, List, [], ◌∷◌, ◌++◌, length, map, get_or, take, Option, Some, None, refl, sym, ap, subst, ◌∙◌, arith, append_assoc, length-append, add-zero, ◌&&◌, ◌*◌, lit≤}
+use Rattle.std.proofs.Common.{◌≡◌, ℕ, suc, ◌+◌, ◌<◌, ◌≤◌, Bool, true, false, List, [], ◌∷◌, ◌++◌, length, map, get_or, take, Option, Some,
+    None, refl, sym, ap, subst, ◌∙◌, arith, append_assoc, length-append, add-zero, ◌&&◌, ◌*◌, lit≤}
 use Rattle.std.proofs.Math.Nat.{mul-le-mul_left, mul-le-mul_right}
 use Rattle.std.specs.Prelude.{zip, slice_get, nat_le, IfSome}
 use Rattle.std.specs.Option.{option_map}
@@ -18,7 +19,7 @@ use Rattle.wf_stream.specs.Buffers.{buffer_bytes, fresh}
 use Rattle.wf_stream.specs.Streams.{KeptStream, StoreView, IsNumbered, empty, held, with_screen}
 use Rattle.wf_calls.specs.declared.ports.Modes.{Modes}
 use Rattle.wf_model.specs.Objects.{CoreState, no_objects}
-use Rattle.wf_core.specs.Fits.{Fits}
+use Rattle.wf_objects.specs.Fits.{Fits}
 use Rattle.wf_model.specs.State.{Port, Running, State, initial_port, mode_size, opening, screen}
 use Rattle.wf_machine.specs.Fitting.{AllFit, contents_of, IsScreen, PortFits, PortsFit, StreamFits}
 use Rattle.wf_machine.specs.Inside.{IsSound, state_of}
@@ -36,7 +37,8 @@ pub screens_more : (k : ℕ) (ms : List Modes) (m : Modes) → screens k (ms ++ 
 screens_more k [] m = ap (λ (n : ℕ). screen (n, m) ∷ []) (omega arith)
 screens_more k (x ∷ ms) m =
     let later : k + 1 + length ms ≡ k + suc (length ms) = omega arith in
-    ap (λ (ss : List KeptStream). screen (k, x) ∷ ss) (screens_more (k + 1) ms m ∙ ap (λ (n : ℕ). screens (k + 1) ms ++ screen (n, m) ∷ []) later)
+    ap (λ (ss : List KeptStream). screen (k, x) ∷ ss) (screens_more (k + 1) ms m
+        ∙ ap (λ (n : ℕ). screens (k + 1) ms ++ screen (n, m) ∷ []) later)
 
 pub screens_numbered : (low k high : ℕ) (ms : List Modes) → low < k → k + length ms ≤ high + 1 → IsNumbered low (screens k ms) high
 screens_numbered low k high [] under within = omega arith
@@ -48,14 +50,18 @@ at_front (y ∷ front) x behind = at_front front x behind
 
 -- the first mode of a port has sides
 mode_sides : (m : Modes) → may_have m ≡ true → has_sides (mode_size 1 m.sizes.items) ≡ true
-mode_sides m may = of_sizes m.sizes.items (and_parts (nat_le 1 (length m.sizes.items) && nat_le (length m.sizes.items) 4) (list_all has_sides m.sizes.items) may)
+mode_sides m may =
+    of_sizes m.sizes.items (and_parts (nat_le 1 (length m.sizes.items) && nat_le (length m.sizes.items) 4)
+    (list_all has_sides m.sizes.items) may)
   where
-    of_sizes : (sizes : List Size) → ((nat_le 1 (length sizes) && nat_le (length sizes) 4) ≡ true) × (list_all has_sides sizes ≡ true) → has_sides (mode_size 1 sizes) ≡ true
+    of_sizes : (sizes : List Size) → ((nat_le 1 (length sizes) && nat_le (length sizes) 4) ≡ true) × (list_all has_sides sizes ≡ true)
+        → has_sides (mode_size 1 sizes) ≡ true
     of_sizes [] both = absurd cc
     of_sizes (s ∷ sizes) both = (and_parts (has_sides s) (list_all has_sides sizes) both.1).0
 
 -- each screen is that of its port
-pub screens_fit : (front : List Port) (ms : List Modes) (k : ℕ) → k ≡ suc (length front) → list_all may_have ms ≡ true → AllFit (front ++ map initial_port ms) [] (screens k ms)
+pub screens_fit : (front : List Port) (ms : List Modes) (k : ℕ) → k ≡ suc (length front) → list_all may_have ms ≡ true
+    → AllFit (front ++ map initial_port ms) [] (screens k ms)
 screens_fit front [] k is may = tt
 screens_fit front (m ∷ ms) k is may =
     let p = initial_port m in
@@ -68,18 +74,21 @@ screens_fit front (m ∷ ms) k is may =
       read = λ h. cc;
     } in
     let regroup : (front ++ p ∷ []) ++ map initial_port ms ≡ ports = append_assoc front (p ∷ []) (map initial_port ms) in
-    let later = screens_fit (front ++ p ∷ []) ms (k + 1) (omega (arith, is, length-append front (p ∷ []))) (and_parts (may_have m) (list_all may_have ms) may).1 in
+    let later = screens_fit (front ++ p ∷ []) ms (k + 1) (omega (arith, is, length-append front (p ∷ [])))
+        (and_parts (may_have m) (list_all may_have ms) may).1 in
     (first, subst (λ (ps : List Port). AllFit ps [] (screens (k + 1) ms)) regroup later)
 
 pub all_at : {A : Type 0} (p : A → Bool) (xs : List A) (i : ℕ) (d : A) → i < length xs → list_all p xs ≡ true → p (get_or xs i d) ≡ true
-all_at p xs i d within all = elim (p (get_or xs i d)) as (λ b. p (get_or xs i d) ≡ b → b ≡ true) [ true ↦ λ is. refl | false ↦ λ is. absurd (let none = list_all_at p xs i d within is in cc) ] refl
+all_at p xs i d within all = elim (p (get_or xs i d)) as (λ b. p (get_or xs i d) ≡ b
+    → b ≡ true) [ true ↦ λ is. refl | false ↦ λ is. absurd (let none = list_all_at p xs i d within is in cc) ] refl
 
 -- the first mode
 pub first_mode : (sizes : List Size) (d : Size) → 0 < length sizes → get_or sizes 0 d ≡ mode_size 1 sizes
 first_mode [] d some = absurd (omega (arith, some))
 first_mode (s ∷ sizes) d some = refl
 
-pub ports_more : (frame : Option Running) (k : ℕ) (ports : List declared.Port) (p : declared.Port) → PortsFit frame k ports → PortFits frame (k + length ports) p → PortsFit frame k (ports ++ p ∷ [])
+pub ports_more : (frame : Option Running) (k : ℕ) (ports : List declared.Port) (p : declared.Port) → PortsFit frame k ports
+    → PortFits frame (k + length ports) p → PortsFit frame k (ports ++ p ∷ [])
 ports_more frame k [] p fit one = (subst (λ (n : ℕ). PortFits frame n p) (add-zero k) one, tt)
 ports_more frame k (q ∷ ports) p fit one =
     let later : k + suc (length ports) ≡ k + 1 + length ports = omega arith in
@@ -106,8 +115,10 @@ no_ports_open store opened is none =
     }
 
 -- one more port
-pub one_more_open : (store left : StoreView) (opened more : List declared.Port) (ms : List Modes) (m : Modes) (p : declared.Port) (size : Size) → IsOpen store opened ms
-    → may_have m ≡ true → size ≡ mode_size 1 m.sizes.items → left ≡ with_screen size store → more ≡ opened ++ p ∷ [] → p.modes.items ≡ m.sizes.items → HoldsBut 0 p.modes.items p.images.items → IsOpen left more (ms ++ m ∷ [])
+pub one_more_open : (store left : StoreView) (opened more : List declared.Port) (ms : List Modes) (m : Modes) (p : declared.Port)
+    (size : Size) → IsOpen store opened ms
+    → may_have m ≡ true → size ≡ mode_size 1 m.sizes.items → left ≡ with_screen size store → more ≡ opened ++ p ∷ []
+        → p.modes.items ≡ m.sizes.items → HoldsBut 0 p.modes.items p.images.items → IsOpen left more (ms ++ m ∷ [])
 one_more_open store left opened more ms m p size so_far may size-is left-is more-is modes-are images =
     let new : KeptStream = record { number = store.numbered + 1; handle = 0; buffers = fresh size Rgbx8 3 } in
     let is : new ≡ screen (1 + length ms, m) =
@@ -120,9 +131,12 @@ one_more_open store left opened more ms m p size so_far may size-is left-is more
       made = ap (λ (v : StoreView). v.made) left-is ∙ so_far.made;
       others = ap (λ (v : StoreView). v.others) left-is ∙ so_far.others;
       numbered = ap (λ (v : StoreView). v.numbered) left-is ∙ ap (λ (n : ℕ). n + 1) so_far.numbered ∙ sym (length-append ms (m ∷ []));
-      streams = ap (λ (v : StoreView). v.streams) left-is ∙ ap (λ (ss : List KeptStream). ss ++ new ∷ []) so_far.streams ∙ ap (λ (s : KeptStream). screens 1 ms ++ s ∷ []) is ∙ sym (screens_more 1 ms m);
-      ports = ap (λ (ps : List declared.Port). map port_of ps) more-is ∙ map-append port_of opened (p ∷ []) ∙ ap (λ (ps : List Port). ps ++ port_of p ∷ []) so_far.ports
-          ∙ ap (λ (q : Port). map initial_port ms ++ q ∷ []) (ap (λ (sizes : List Size). record { modes = sizes }) modes-are) ∙ sym (map-append initial_port ms (m ∷ []));
+      streams = ap (λ (v : StoreView). v.streams) left-is ∙ ap (λ (ss : List KeptStream). ss ++ new ∷ []) so_far.streams
+          ∙ ap (λ (s : KeptStream). screens 1 ms ++ s ∷ []) is ∙ sym (screens_more 1 ms m);
+      ports = ap (λ (ps : List declared.Port). map port_of ps) more-is ∙ map-append port_of opened (p ∷ [])
+          ∙ ap (λ (ps : List Port). ps ++ port_of p ∷ []) so_far.ports
+          ∙ ap (λ (q : Port). map initial_port ms ++ q ∷ []) (ap (λ (sizes : List Size). record { modes = sizes }) modes-are)
+              ∙ sym (map-append initial_port ms (m ∷ []));
       fit = subst (λ (ps : List declared.Port). PortsFit None 1 ps) (sym more-is)
           (ports_more None 1 opened p so_far.fit (record {
             some = omega (arith, some, ap length modes-are);
@@ -133,7 +147,9 @@ one_more_open store left opened more ms m p size so_far may size-is left-is more
 
 -- the bytes of a screen
 screen_bytes : (m : Modes) → may_have m ≡ true → buffer_bytes (fresh (mode_size 1 m.sizes.items) Rgbx8 3) ≤ 12582912
-screen_bytes m may = of_sizes m.sizes.items (and_parts (nat_le 1 (length m.sizes.items) && nat_le (length m.sizes.items) 4) (list_all has_sides m.sizes.items) may).1
+screen_bytes m may =
+    of_sizes m.sizes.items (and_parts (nat_le 1 (length m.sizes.items) && nat_le (length m.sizes.items) 4)
+    (list_all has_sides m.sizes.items) may).1
   where
     of_sizes : (sizes : List Size) → list_all has_sides sizes ≡ true → buffer_bytes (fresh (mode_size 1 sizes) Rgbx8 3) ≤ 12582912
     of_sizes [] sides = lit≤ tt
@@ -150,7 +166,8 @@ screens_bytes : (k : ℕ) (ms : List Modes) → list_all may_have ms ≡ true �
 screens_bytes k [] may = lit≤ tt
 screens_bytes k (m ∷ ms) may =
     let each = and_parts (may_have m) (list_all may_have ms) may in
-    omega (arith, screens_bytes (k + 1) ms each.1, screen_bytes m each.0, sum_by-cons (λ (s : KeptStream). buffer_bytes s.buffers) (screen (k, m)) (screens (k + 1) ms))
+    omega (arith, screens_bytes (k + 1) ms each.1, screen_bytes m each.0,
+        sum_by-cons (λ (s : KeptStream). buffer_bytes s.buffers) (screen (k, m)) (screens (k + 1) ms))
 
 -- no objects fit a store without handles
 none_fit : (store : StoreView) → store.others ≡ [] → Fits no_objects store
@@ -169,7 +186,8 @@ none_fit store none =
     }
 
 -- what holds of the machine whose ports all stand open
-pub sound_when_open : (m : Inside) (ms : List Modes) → IsOpen m.store m.ports.items ms → length m.ports.items ≤ 4 → list_all may_have ms ≡ true → m.core ≡ no_objects → m.frame ≡ None → IsSound m
+pub sound_when_open : (m : Inside) (ms : List Modes) → IsOpen m.store m.ports.items ms → length m.ports.items ≤ 4
+    → list_all may_have ms ≡ true → m.core ≡ no_objects → m.frame ≡ None → IsSound m
 sound_when_open m ms opened few may empty none =
     let frame : Option Running = option_map running_of m.frame in
     let no_frame : frame ≡ None = ap (λ (f : Option Frame). option_map running_of f) none in
@@ -181,7 +199,8 @@ sound_when_open m ms opened few may empty none =
       few = few;
       screens = omega (arith, opened.numbered, length-map m.ports.items port_of, length-map ms initial_port, ap length opened.ports);
       ports = subst (λ (f : Option Running). PortsFit f 1 m.ports.items) (sym no_frame) opened.fit;
-      small = rw opened.streams (omega (arith, screens_bytes 1 ms may, length-map m.ports.items port_of, length-map ms initial_port, ap length opened.ports));
+      small = rw opened.streams (omega (arith, screens_bytes 1 ms may, length-map m.ports.items port_of, length-map ms initial_port,
+          ap length opened.ports));
       streams = rw (contents-are, opened.ports, opened.streams) (screens_fit [] ms 1 refl may);
       frame = rw no_frame tt;
       once = rw contents-are tt;
@@ -191,7 +210,8 @@ sound_when_open m ms opened few may empty none =
 -- the ports that may be declared have modes that a port may have
 pub declared_modes : (ports : Ports) → may_declare ports ≡ true → list_all may_have ports.modes.items ≡ true
 declared_modes ports may =
-    third (nat_le 1 (length ports.modes.items)) (nat_le (length ports.modes.items) 4) (list_all may_have ports.modes.items) (nat_le ports.pipes 8) may
+    third (nat_le 1 (length ports.modes.items)) (nat_le (length ports.modes.items) 4) (list_all may_have ports.modes.items)
+        (nat_le ports.pipes 8) may
   where
     third : (a b c d : Bool) → (a && b && c && d) ≡ true → c ≡ true
     third true true true d h = refl
@@ -203,17 +223,22 @@ pub may_at : (all : List Modes) (i : ℕ) (m : Modes) → i < length all → m �
 may_at all i m within is may = ap may_have is ∙ all_at may_have all i m within may
 
 -- the first of the sizes that a port may have
-pub first_of : (sizes : List Size) (m : Modes) (d : Size) → sizes ≡ m.sizes.items → may_have m ≡ true → get_or sizes 0 d ≡ mode_size 1 m.sizes.items
+pub first_of : (sizes : List Size) (m : Modes) (d : Size) → sizes ≡ m.sizes.items → may_have m ≡ true
+    → get_or sizes 0 d ≡ mode_size 1 m.sizes.items
 first_of sizes m d is may =
-    let some = leb-true 1 (length m.sizes.items) (and_parts (nat_le 1 (length m.sizes.items)) (nat_le (length m.sizes.items) 4) (and_parts (nat_le 1 (length m.sizes.items) && nat_le (length m.sizes.items) 4) (list_all has_sides m.sizes.items) may).0).0 in
+    let some =
+        leb-true 1 (length m.sizes.items) (and_parts (nat_le 1 (length m.sizes.items)) (nat_le (length m.sizes.items) 4)
+        (and_parts (nat_le 1 (length m.sizes.items) && nat_le (length m.sizes.items) 4) (list_all has_sides m.sizes.items) may).0).0 in
     ap (λ (xs : List Size). get_or xs 0 d) is ∙ first_mode m.sizes.items d (omega (arith, some))
 
 -- the machine whose declared ports stand open is as it opens
-pub opening_is : (m : Inside) (ports : Ports) → IsOpen m.store m.ports.items ports.modes.items → m.core ≡ no_objects → m.begun ≡ 0 → m.frame ≡ None → state_of m ≡ opening ports
+pub opening_is : (m : Inside) (ports : Ports) → IsOpen m.store m.ports.items ports.modes.items → m.core ≡ no_objects → m.begun ≡ 0
+    → m.frame ≡ None → state_of m ≡ opening ports
 opening_is m ports opened empty begun none =
     let with_core : CoreState → State = λ core. record (state_of m) { core = core } in
     let state : ℕ → ℕ → ℕ → List KeptStream → List Port → Option Running → State = λ made numbered begun streams ps frame.
-    record { made = made; numbered = numbered; begun = begun; streams = streams; core = no_objects; display = record { ports = ps }; frame = frame } in
+    record { made = made; numbered = numbered; begun = begun; streams = streams; core = no_objects; display = record { ports = ps };
+        frame = frame } in
     let ps = map port_of m.ports.items in
     let frame = option_map running_of m.frame in
     ap with_core empty ∙ ap (λ (n : ℕ). state n m.store.numbered m.begun m.store.streams ps frame) opened.made
@@ -221,7 +246,8 @@ opening_is m ports opened empty begun none =
     ∙ ap (λ (n : ℕ). state 0 (length ports.modes.items) n m.store.streams ps frame) begun
     ∙ ap (λ (ss : List KeptStream). state 0 (length ports.modes.items) 0 ss ps frame) opened.streams
     ∙ ap (λ (qs : List Port). state 0 (length ports.modes.items) 0 (screens 1 ports.modes.items) qs frame) opened.ports
-    ∙ ap (λ (f : Option Frame). state 0 (length ports.modes.items) 0 (screens 1 ports.modes.items) (map initial_port ports.modes.items) (option_map running_of f)) none
+    ∙ ap (λ (f : Option Frame). state 0 (length ports.modes.items) 0 (screens 1 ports.modes.items) (map initial_port ports.modes.items)
+        (option_map running_of f)) none
 
 -- all the modes, once the last was passed
 pub whole_modes : (all modes : List Modes) (i : ℕ) → all ≡ modes → length all ≤ i → take i all ≡ modes

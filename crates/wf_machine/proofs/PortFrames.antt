@@ -1,5 +1,6 @@
 -- A port's frame that begins.
-use Rattle.std.proofs.Common.{◌≡◌, ◌≢◌, ℕ, zero, suc, ◌+◌, ◌-◌, ◌^◌, ◌<◌, ◌≤◌, true, List, [], ◌∷◌, length, map, Option, Some, None, refl, sym, ap, subst, ◌∙◌, arith, IsTrue, zero-add, get_or, Ok, nat_lt}
+use Rattle.std.proofs.Common.{◌≡◌, ◌≢◌, ℕ, zero, suc, ◌+◌, ◌-◌, ◌^◌, ◌<◌, ◌≤◌, true, List, [], ◌∷◌, length, map, Option, Some, None, refl,
+    sym, ap, subst, ◌∙◌, arith, IsTrue, zero-add, get_or, Ok, nat_lt}
 use Rattle.std.specs.Prelude.{slice_get, nat_le, ℤ}
 use Rattle.std.specs.List.{list_all}
 use Rattle.std.specs.Option.{option_map, IfSome, IsSomeAnd}
@@ -73,11 +74,14 @@ whole_drawn size sides =
 holds_whole : (size : Size) → has_sides size ≡ true → holds_rect size (whole_of size) ≡ true
 holds_whole size sides =
     let drawn = whole_drawn size sides in
-    rw (lt-ltb 0 size.w (omega (arith, drawn.w_low)), lt-ltb 0 size.h (omega (arith, drawn.h_low)), zero-add size.w, zero-add size.h, le-leb size.w size.w (omega arith), le-leb size.h size.h (omega arith)) refl
+    rw (lt-ltb 0 size.w (omega (arith, drawn.w_low)), lt-ltb 0 size.h (omega (arith, drawn.h_low)), zero-add size.w, zero-add size.h,
+        le-leb size.w size.w (omega arith), le-leb size.h size.h (omega arith)) refl
 
 -- the layer of a port's screen over the images that were taken
-pub layer_fits : (number : ℕ) (mode : Size) (port : Port) (ports : List Port) (streams : List KeptStream) (numbered : ℕ) (contents : Images) (cs : List Content) → has_sides mode ≡ true → mode ≡ mode_size 1 port.modes
-    → nth number ports ≡ Some port → AllFit ports cs streams → AreShapedAs streams contents → LayerFits contents (screen_layer number mode mode)
+pub layer_fits : (number : ℕ) (mode : Size) (port : Port) (ports : List Port) (streams : List KeptStream) (numbered : ℕ) (contents : Images)
+    (cs : List Content) → has_sides mode ≡ true → mode ≡ mode_size 1 port.modes
+    → nth number ports ≡ Some port → AllFit ports cs streams → AreShapedAs streams contents
+        → LayerFits contents (screen_layer number mode mode)
 layer_fits number mode port ports streams numbered contents cs sides mode-is here fit shaped =
     record {
       src = whole_drawn mode sides;
@@ -88,7 +92,8 @@ layer_fits number mode port ports streams numbered contents cs sides mode-is her
       has_mask = λ masked. absurd cc;
     }
   where
-    shows : (i : Bitmap) (o : Option Buffers) → IsSomeAnd o (λ b. HasShape b.size b.format i) → IfSome o (λ b. IfSome (nth number ports) (IsScreen b)) → (i.format ≢ A8) × (holds_rect i.size (whole_of mode) ≡ true)
+    shows : (i : Bitmap) (o : Option Buffers) → IsSomeAnd o (λ b. HasShape b.size b.format i)
+        → IfSome o (λ b. IfSome (nth number ports) (IsScreen b)) → (i.format ≢ A8) × (holds_rect i.size (whole_of mode) ≡ true)
     shows i None shape screen = absurd shape
     shows i (Some b) shape screen =
         let is : IsScreen b port = rw here at screen in
@@ -96,9 +101,11 @@ layer_fits number mode port ports streams numbered contents cs sides mode-is her
         let format-is : i.format ≡ Rgbx8 = shape.format_is ∙ is.1 in
         ((λ mask. (let no = sym format-is ∙ mask in cc)), ap (λ (s : Size). holds_rect s (whole_of mode)) size-is ∙ holds_whole mode sides)
 
-    of_image : (o : Option Bitmap) → image_of number contents ≡ o → IfSome (image_of number contents) (λ i. (i.format ≢ A8) × IsTrue (holds_rect i.size (whole_of mode)))
+    of_image : (o : Option Bitmap) → image_of number contents ≡ o
+        → IfSome (image_of number contents) (λ i. (i.format ≢ A8) × IsTrue (holds_rect i.size (whole_of mode)))
     of_image None is = rw is tt
-    of_image (Some i) is = rw is (shows i (buffers_at number streams) (shaped_at number i streams contents shaped is) (screen_at number ports cs streams fit))
+    of_image (Some i) is =
+        rw is (shows i (buffers_at number streams) (shaped_at number i streams contents shaped is) (screen_at number ports cs streams fit))
 
 
 module _ (m : Inside) (s : State) (seen : state_of m ≡ s) (place : ℕ) (p : declared.Port) (p-is : p ≡ get_or m.ports.items place p)

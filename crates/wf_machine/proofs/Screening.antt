@@ -6,7 +6,7 @@ use Rattle.wf_words.specs.Whole.{count_of}
 use Rattle.wf_pixel.specs.Choice.{is_a8}
 use Rattle.wf_stream.specs.Buffers.{Buffers}
 use Rattle.wf_stream.specs.Streams.{KeptStream, buffers_at, stream_at}
-use Rattle.wf_core.specs.Fits.{IsOfPixels}
+use Rattle.wf_objects.specs.Fits.{IsOfPixels}
 use Rattle.wf_model.specs.declared.Content.{Content}
 use Rattle.wf_model.specs.State.{Port, State}
 use Rattle.wf_calls.specs.declared.call.Call.{Call}

@@ -1,5 +1,6 @@
 -- The contents of a Job that has the shape of the running frame: the images of the frame's streams, each once.
-use Rattle.std.proofs.Common.{◌≡◌, ℕ, suc, ◌+◌, Bool, true, false, cond, ◌==◌, List, [], ◌∷◌, length, Option, Some, None, refl, sym, ap, subst, ◌∙◌, arith}
+use Rattle.std.proofs.Common.{◌≡◌, ℕ, suc, ◌+◌, Bool, true, false, cond, ◌==◌, List, [], ◌∷◌, length, Option, Some, None, refl, sym, ap,
+    subst, ◌∙◌, arith}
 use Rattle.std.specs.Prelude.{find}
 use Rattle.std.specs.List.{list_all}
 use Rattle.std.specs.Option.{option_map, IsSomeAnd}
@@ -46,13 +47,15 @@ fewer n (p ∷ xs) i found =
 others_stay : (n m : ℕ) (xs : Images) → (n == m) ≡ false → image_of m (without n xs) ≡ image_of m xs
 others_stay n m [] other = refl
 others_stay n m (p ∷ xs) other =
-    let at : Bool → Images → Option Bitmap = λ b ys. option_map (λ (q : ℕ × Bitmap). q.1) (cond b (Some p) (find (λ (q : ℕ × Bitmap). q.0 == m) ys)) in
+    let at : Bool → Images
+        → Option Bitmap = λ b ys. option_map (λ (q : ℕ × Bitmap). q.1) (cond b (Some p) (find (λ (q : ℕ × Bitmap). q.0 == m) ys)) in
     by_number (image_of m (cond (p.0 == n) xs (p ∷ without n xs)) ≡ at (p.0 == m) xs) p.0 n
     (λ here same. (let no : (p.0 == m) ≡ false = ap (λ (k : ℕ). k == m) same ∙ other in rw (here, no) refl))
     (λ apart. rw apart (elim (p.0 == m) as (λ b. at b (without n xs) ≡ at b xs) [ true ↦ refl | false ↦ others_stay n m xs other ]))
 
 -- what holds of all but the first image of a stream, and of that
-back : (fs : List Content) (n : ℕ) (xs : Images) → ((i : Bitmap) → image_of n xs ≡ Some i → IsSomeAnd (content_at n fs) (λ c. IsOfShape c i)) → AreOf fs (without n xs) → AreOf fs xs
+back : (fs : List Content) (n : ℕ) (xs : Images) → ((i : Bitmap) → image_of n xs ≡ Some i
+    → IsSomeAnd (content_at n fs) (λ c. IsOfShape c i)) → AreOf fs (without n xs) → AreOf fs xs
 back fs n [] first rest = tt
 back fs n (p ∷ xs) first rest =
     by_number (AreOf fs (p ∷ xs)) p.0 n
@@ -95,7 +98,8 @@ more_of c fs (p ∷ xs) none are = (
 )
 
 -- the shapes of the other streams are found without one
-still_there : (n : ℕ) (fs : List Content) (xs : Images) → content_at n fs ≡ None → all_there fs xs ≡ true → all_there fs (without n xs) ≡ true
+still_there : (n : ℕ) (fs : List Content) (xs : Images) → content_at n fs ≡ None → all_there fs xs ≡ true
+    → all_there fs (without n xs) ≡ true
 still_there n [] xs none there = refl
 still_there n (c ∷ fs) xs none there =
     by_number (all_there (c ∷ fs) (without n xs) ≡ true) c.stream n
@@ -113,15 +117,19 @@ all_of (c ∷ fs) xs once many there =
     let each = and_parts (has_shape (image_of c.stream xs) c) (all_there fs xs) there in
     of_image (all_of fs (without c.stream xs) once.1) (image_of c.stream xs) refl each.0 each.1
   where
-    of_image : (length (without c.stream xs) ≡ length fs → all_there fs (without c.stream xs) ≡ true → AreOf fs (without c.stream xs) × Apart (without c.stream xs)) → (o : Option Bitmap) → image_of c.stream xs ≡ o → has_shape (image_of c.stream xs) c ≡ true → all_there fs xs ≡ true → AreOf (c ∷ fs) xs × Apart xs
+    of_image : (length (without c.stream xs) ≡ length fs → all_there fs (without c.stream xs) ≡ true → AreOf fs (without c.stream xs)
+        × Apart (without c.stream xs)) → (o : Option Bitmap) → image_of c.stream xs ≡ o → has_shape (image_of c.stream xs) c ≡ true
+        → all_there fs xs ≡ true → AreOf (c ∷ fs) xs × Apart xs
     of_image deep None is first rest = absurd (let no : has_shape None c ≡ true = rw is at first in cc)
     of_image deep (Some i) is first rest =
         let n = c.stream in
         let deeper = deep (omega (arith, many, fewer n xs i is)) (still_there n fs xs once.0 rest) in
         let here : (n == n) ≡ true = eq-eqb n n refl in
         let shape : IsOfShape c i = rw is at first in
-        let this : (j : Bitmap) → image_of n xs ≡ Some j → IsSomeAnd (content_at n (c ∷ fs)) (λ d. IsOfShape d j) = (λ j found. (let same : i ≡ j = cc (is, found) in rw here (subst (λ (k : Bitmap). IsOfShape c k) same shape))) in
-        (back (c ∷ fs) n xs this (more_of c fs (without n xs) once.0 deeper.0), apart_back n xs (none_of fs n (without n xs) once.0 deeper.0) deeper.1)
+        let this : (j : Bitmap) → image_of n xs ≡ Some j → IsSomeAnd (content_at n (c ∷ fs)) (λ d. IsOfShape d j) =
+            (λ j found. (let same : i ≡ j = cc (is, found) in rw here (subst (λ (k : Bitmap). IsOfShape c k) same shape))) in
+        (back (c ∷ fs) n xs this (more_of c fs (without n xs) once.0 deeper.0),
+            apart_back n xs (none_of fs n (without n xs) once.0 deeper.0) deeper.1)
 
 -- a stream without an image is none of the frame's
 pub none_there : (n : ℕ) (fs : List Content) (xs : Images) → all_there fs xs ≡ true → image_of n xs ≡ None → content_at n fs ≡ None
@@ -129,5 +137,6 @@ none_there n [] xs there none = refl
 none_there n (c ∷ fs) xs there none =
     let each = and_parts (has_shape (image_of c.stream xs) c) (all_there fs xs) there in
     by_number (cond (c.stream == n) (Some c) (content_at n fs) ≡ None) c.stream n
-    (λ here same. absurd (let gone : image_of c.stream xs ≡ None = ap (λ (k : ℕ). image_of k xs) same ∙ none in let no : has_shape None c ≡ true = rw gone at each.0 in cc))
+    (λ here same. absurd (let gone : image_of c.stream xs ≡ None = ap (λ (k : ℕ). image_of k xs) same ∙ none in
+        let no : has_shape None c ≡ true = rw gone at each.0 in cc))
     (λ apart. rw apart (none_there n fs xs each.1 none))

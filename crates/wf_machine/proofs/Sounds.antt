@@ -1,5 +1,6 @@
 -- What holds of the machine holds after each call on streams.
-use Rattle.std.proofs.Common.{◌≡◌, ℕ, ◌+◌, ◌≤◌, true, false, ◌||◌, ◌==◌, List, [], ◌∷◌, ◌++◌, length, map, cond, Option, Some, None, refl, sym, ap, subst, ◌∙◌, arith}
+use Rattle.std.proofs.Common.{◌≡◌, ℕ, ◌+◌, ◌≤◌, true, false, ◌||◌, ◌==◌, List, [], ◌∷◌, ◌++◌, length, map, cond, Option, Some, None, refl,
+    sym, ap, subst, ◌∙◌, arith}
 use Rattle.std.specs.Prelude.{nat_le, nat_lt, ℤ, pos, negsuc, ◌&&◌}
 use Rattle.std.specs.Option.{option_map, IfSome}
 use Rattle.std.proofs.lemmas.Bool.{and_from, and_parts, ltb-false}
@@ -11,7 +12,8 @@ use Rattle.wf_pixel.specs.declared.Format.{Format}
 use Rattle.wf_pixel.specs.Choice.{has_sides, is_between, is_side}
 use Rattle.wf_life.specs.Handles.{is_full}
 use Rattle.wf_stream.specs.Buffers.{Buffers, buffer_bytes, fresh}
-use Rattle.wf_stream.specs.Streams.{KeptStream, StoreView, buffers_at, change_stream, has_no_room, held, stream_at, unnamed, with_live_stream}
+use Rattle.wf_stream.specs.Streams.{KeptStream, StoreView, buffers_at, change_stream, has_no_room, held, stream_at, unnamed,
+    with_live_stream}
 use Rattle.wf_calls.specs.declared.code.Code.TheVariants as code
 use Rattle.wf_calls.specs.declared.call.JobKind.{JobKind}
 use Rattle.wf_calls.specs.declared.call.JobKind.TheVariants as kind
@@ -32,11 +34,14 @@ use Rattle.wf_machine.proofs.StillFitting.{KeepsRead, all_kept, all_push, all_un
 abbrev pub with_buffers : Inside → ℕ → (Buffers → Buffers) → Inside
 with_buffers m n f = record m { store = record m.store { streams = change_stream n f m.store.streams } }
 
-pub sound_kept : (m : Inside) (n : ℕ) (f : Buffers → Buffers) → KeepsRead f → IfSome (option_map running_of m.frame) (FrameFits (map port_of m.ports.items) (change_stream n f m.store.streams)) → IsSound m → IsSound (with_buffers m n f)
+pub sound_kept : (m : Inside) (n : ℕ) (f : Buffers → Buffers) → KeepsRead f
+    → IfSome (option_map running_of m.frame) (FrameFits (map port_of m.ports.items) (change_stream n f m.store.streams)) → IsSound m
+    → IsSound (with_buffers m n f)
 sound_kept m n f keeps frame sound =
     let shape = changed_keeps n f (shape_kept f keeps) in
     record {
-      fits = still_fits m.core m.store (with_buffers m n f).store refl (omega arith) (λ k within. seen_mapped (changed_at n f) shape k m.store.streams) sound.fits;
+      fits = still_fits m.core m.store (with_buffers m n f).store refl (omega arith)
+          (λ k within. seen_mapped (changed_at n f) shape k m.store.streams) sound.fits;
       others = sound.others;
       numbered = numbered_mapped (changed_at n f) shape 0 m.store.numbered m.store.streams sound.numbered;
       few = sound.few;
@@ -50,11 +55,13 @@ sound_kept m n f keeps frame sound =
     }
 
 -- the machine without a stream's handle
-pub sound_unnamed : (m : Inside) (handle : ℕ) → IsSound m → IsSound (record m { store = record m.store { streams = map (unnamed handle) m.store.streams } })
+pub sound_unnamed : (m : Inside) (handle : ℕ) → IsSound m
+    → IsSound (record m { store = record m.store { streams = map (unnamed handle) m.store.streams } })
 sound_unnamed m handle sound =
     let keeps = unnamed_keeps handle in
     record {
-      fits = still_fits m.core m.store (record m.store { streams = map (unnamed handle) m.store.streams }) refl (omega arith) (λ k within. seen_mapped (unnamed handle) keeps k m.store.streams) sound.fits;
+      fits = still_fits m.core m.store (record m.store { streams = map (unnamed handle) m.store.streams }) refl (omega arith)
+          (λ k within. seen_mapped (unnamed handle) keeps k m.store.streams) sound.fits;
       others = sound.others;
       numbered = numbered_mapped (unnamed handle) keeps 0 m.store.numbered m.store.streams sound.numbered;
       few = sound.few;
@@ -69,7 +76,8 @@ sound_unnamed m handle sound =
 
 room : (new : Buffers) (streams : List KeptStream) → has_no_room new streams ≡ false → (held streams).bytes + buffer_bytes new ≤ 134217728
 room new streams free =
-    elim (nat_le 64 (length streams)) as (λ b. (b || nat_lt 134217728 ((held streams).bytes + buffer_bytes new)) ≡ false → (held streams).bytes + buffer_bytes new ≤ 134217728) [
+    elim (nat_le 64 (length streams)) as (λ b. (b || nat_lt 134217728 ((held streams).bytes + buffer_bytes new)) ≡ false
+        → (held streams).bytes + buffer_bytes new ≤ 134217728) [
       | true ↦ λ no. absurd cc
       | false ↦ λ small. ltb-false 134217728 ((held streams).bytes + buffer_bytes new) small
     ] free
@@ -79,41 +87,51 @@ found_pushed : (n : ℕ) (ss : List KeptStream) (t : KeptStream) → SeenSame (b
 found_pushed n [] t b found = absurd cc
 found_pushed n (s ∷ ss) t b found =
     elim (s.number == n) as (λ x. option_map (λ (u : KeptStream). u.buffers) (cond x (Some s) (stream_at n ss)) ≡ Some b
-    → (c : Buffers) × (option_map (λ (u : KeptStream). u.buffers) (cond x (Some s) (stream_at n (ss ++ t ∷ []))) ≡ Some c) × (c.size ≡ b.size) × (c.format ≡ b.format)) [
+    → (c : Buffers) × (option_map (λ (u : KeptStream). u.buffers) (cond x (Some s) (stream_at n (ss ++ t ∷ []))) ≡ Some c)
+        × (c.size ≡ b.size) × (c.format ≡ b.format)) [
       | true ↦ λ is. (b, is, refl, refl)
       | false ↦ λ is. found_pushed n ss t b is
     ] found
 
-frame_pushed : (ports : List Port) (ss : List KeptStream) (t : KeptStream) (o : Option Running) → IfSome o (FrameFits ports ss) → IfSome o (FrameFits ports (ss ++ t ∷ []))
+frame_pushed : (ports : List Port) (ss : List KeptStream) (t : KeptStream) (o : Option Running) → IfSome o (FrameFits ports ss)
+    → IfSome o (FrameFits ports (ss ++ t ∷ []))
 frame_pushed ports ss t None fits = tt
 frame_pushed ports ss t (Some f) fits = of_kind f.kind fits
   where
-    of_target : (target : ℕ) (us : List KeptStream) → IsOfTarget (buffers_at target us) f.size f.format → IsOfTarget (buffers_at target (us ++ t ∷ [])) f.size f.format
+    of_target : (target : ℕ) (us : List KeptStream) → IsOfTarget (buffers_at target us) f.size f.format
+        → IsOfTarget (buffers_at target (us ++ t ∷ [])) f.size f.format
     of_target target [] is = absurd is
     of_target target (s ∷ us) is =
-        elim (s.number == target) as (λ x. IsOfTarget (option_map (λ (u : KeptStream). u.buffers) (cond x (Some s) (stream_at target us))) f.size f.format
-        → IsOfTarget (option_map (λ (u : KeptStream). u.buffers) (cond x (Some s) (stream_at target (us ++ t ∷ [])))) f.size f.format) [ true ↦ λ at. at | false ↦ λ at. of_target target us at ] is
+        elim (s.number == target) as (λ x. IsOfTarget (option_map (λ (u : KeptStream). u.buffers) (cond x (Some s) (stream_at target us)))
+            f.size f.format
+        → IsOfTarget (option_map (λ (u : KeptStream). u.buffers) (cond x (Some s) (stream_at target (us ++ t ∷ [])))) f.size f.format) [
+            true ↦ λ at. at | false ↦ λ at. of_target target us at ] is
 
     of_kind : (k : JobKind) → KindFits ports ss f.size f.format k → KindFits ports (ss ++ t ∷ []) f.size f.format k
     of_kind (kind.Context handle target) is = of_target target ss is
     of_kind (kind.Port port) is = is
 
 -- the machine with one more stream
-pub sound_made : (m : Inside) (size : Size) (format : Format) (buffers : ℕ) → has_sides size ≡ true → has_no_room (fresh size format buffers) m.store.streams ≡ false → IsSound m → IsSound (record m { store = with_live_stream (fresh size format buffers) m.store })
+pub sound_made : (m : Inside) (size : Size) (format : Format) (buffers : ℕ) → has_sides size ≡ true
+    → has_no_room (fresh size format buffers) m.store.streams ≡ false → IsSound m
+    → IsSound (record m { store = with_live_stream (fresh size format buffers) m.store })
 sound_made m size format buffers sides free sound =
     let new : KeptStream = record { number = m.store.numbered + 1; handle = m.store.made + 1; buffers = fresh size format buffers } in
     let ports = map port_of m.ports.items in
     let contents = contents_of (option_map running_of m.frame) in
     let few : length ports ≤ m.store.numbered = omega (arith, sound.screens, length-map m.ports.items port_of) in
     record {
-      fits = still_fits m.core m.store (with_live_stream (fresh size format buffers) m.store) refl (omega arith) (λ k within. found_pushed k m.store.streams new) sound.fits;
+      fits = still_fits m.core m.store (with_live_stream (fresh size format buffers) m.store) refl (omega arith)
+          (λ k within. found_pushed k m.store.streams new) sound.fits;
       others = sound.others;
       numbered = numbered_push 0 m.store.numbered m.store.streams new sound.numbered refl;
       few = sound.few;
       screens = omega (arith, sound.screens);
       ports = sound.ports;
-      small = omega (arith, room (fresh size format buffers) m.store.streams free, sum_by_push (λ (s : KeptStream). buffer_bytes s.buffers) m.store.streams new);
-      streams = all_push ports contents m.store.streams new sound.streams (new_fits ports contents m.store.numbered new few sound.known refl sides refl);
+      small = omega (arith, room (fresh size format buffers) m.store.streams free,
+          sum_by_push (λ (s : KeptStream). buffer_bytes s.buffers) m.store.streams new);
+      streams = all_push ports contents m.store.streams new sound.streams
+          (new_fits ports contents m.store.numbered new few sound.known refl sides refl);
       frame = frame_pushed ports m.store.streams new (option_map running_of m.frame) sound.frame;
       once = sound.once;
       known = known_more m.store.numbered contents sound.known;
@@ -133,28 +151,35 @@ made_sides w h b is =
     side (negsuc n) is = absurd cc
 
 module _ (w h b : ℤ) (format : Format) (s : State) (is : may_make w h b ≡ true) where
-  pub limited : (has_no_room (new_buffers w h format b) s.streams || is_full s.made) ≡ true → stream_step s (stream_new w h format b false s) ≡ (s, bare (refused (refusal code.Limit)))
+  pub limited : (has_no_room (new_buffers w h format b) s.streams || is_full s.made) ≡ true
+      → stream_step s (stream_new w h format b false s) ≡ (s, bare (refused (refusal code.Limit)))
   limited full = rw (is, full) refl
 
-  pub unmade : (has_no_room (new_buffers w h format b) s.streams || is_full s.made) ≡ false → stream_step s (stream_new w h format b true s) ≡ (s, bare (refused (refusal code.OutOfMemory)))
+  pub unmade : (has_no_room (new_buffers w h format b) s.streams || is_full s.made) ≡ false
+      → stream_step s (stream_new w h format b true s) ≡ (s, bare (refused (refusal code.OutOfMemory)))
   unmade free = rw (is, free) refl
 
-  pub made : has_no_room (new_buffers w h format b) s.streams ≡ false → is_full s.made ≡ false → stream_step s (stream_new w h format b false s) ≡ ((stream_made (new_buffers w h format b) s).0, bare (done (s.made + 1)))
+  pub made : has_no_room (new_buffers w h format b) s.streams ≡ false → is_full s.made ≡ false
+      → stream_step s (stream_new w h format b false s) ≡ ((stream_made (new_buffers w h format b) s).0, bare (done (s.made + 1)))
   made free few = rw (is, free, few) refl
 
 -- a call of the machine as it is kept is one of the machine as it is seen
 
 module _ (m : Inside) (s : State) (seen : state_of m ≡ s) (step : State → Reply → State × Reply) where
   -- nothing was changed in the store
-  pub stays : (left : StoreView) (r was : Reply) → left ≡ m.store → r ≡ was → step (state_of m) was ≡ (state_of m, was) → step s r ≡ (state_of (record m { store = left }), r)
+  pub stays : (left : StoreView) (r was : Reply) → left ≡ m.store → r ≡ was → step (state_of m) was ≡ (state_of m, was)
+      → step s r ≡ (state_of (record m { store = left }), r)
   stays left r was same answered is =
       subst (λ (t : State). step t r ≡ (state_of (record m { store = left }), r)) seen
       (ap (λ (x : Reply). step (state_of m) x) answered ∙ is
-      ∙ ap (λ (v : StoreView). (state_of (record m { store = v }), was)) (sym same) ∙ ap (λ (x : Reply). (state_of (record m { store = left }), x)) (sym answered))
+      ∙ ap (λ (v : StoreView). (state_of (record m { store = v }), was)) (sym same)
+          ∙ ap (λ (x : Reply). (state_of (record m { store = left }), x)) (sym answered))
 
   -- the store was left so
-  pub leaves : (left now : StoreView) (r was : Reply) → left ≡ now → r ≡ was → step (state_of m) was ≡ (state_of (record m { store = now }), was) → step s r ≡ (state_of (record m { store = left }), r)
+  pub leaves : (left now : StoreView) (r was : Reply) → left ≡ now → r ≡ was
+      → step (state_of m) was ≡ (state_of (record m { store = now }), was) → step s r ≡ (state_of (record m { store = left }), r)
   leaves left now r was same answered is =
       subst (λ (t : State). step t r ≡ (state_of (record m { store = left }), r)) seen
       (ap (λ (x : Reply). step (state_of m) x) answered ∙ is
-      ∙ ap (λ (v : StoreView). (state_of (record m { store = v }), was)) (sym same) ∙ ap (λ (x : Reply). (state_of (record m { store = left }), x)) (sym answered))
+      ∙ ap (λ (v : StoreView). (state_of (record m { store = v }), was)) (sym same)
+          ∙ ap (λ (x : Reply). (state_of (record m { store = left }), x)) (sym answered))

@@ -1,5 +1,6 @@
 -- Streams fit still when one is added or its buffers change.
-use Rattle.std.proofs.Common.{◌≡◌, ℕ, zero, suc, ◌+◌, ◌<◌, ◌≤◌, true, false, cond, ◌==◌, List, [], ◌∷◌, ◌++◌, length, map, Option, Some, None, refl, sym, ◌∙◌, arith}
+use Rattle.std.proofs.Common.{◌≡◌, ℕ, zero, suc, ◌+◌, ◌<◌, ◌≤◌, true, false, cond, ◌==◌, List, [], ◌∷◌, ◌++◌, length, map, Option, Some,
+    None, refl, sym, ◌∙◌, arith}
 use Rattle.std.specs.Prelude.{IfSome}
 use Rattle.std.proofs.lemmas.Bool.Decides.{nat_tests}
 use Rattle.std.proofs.lemmas.Option.{slice_get_past}
@@ -41,7 +42,8 @@ screen_kept : (f : Buffers → Buffers) (b : Buffers) (o : Option Port) → Keep
 screen_kept f b None keeps is = tt
 screen_kept f b (Some p) keeps is = (keeps.size b ∙ is.0, keeps.format b ∙ is.1)
 
-fits_kept : (f : Buffers → Buffers) (ports : List Port) (contents : List Content) (s : KeptStream) → KeepsRead f → StreamFits ports contents s → StreamFits ports contents (record s { buffers = f s.buffers })
+fits_kept : (f : Buffers → Buffers) (ports : List Port) (contents : List Content) (s : KeptStream) → KeepsRead f
+    → StreamFits ports contents s → StreamFits ports contents (record s { buffers = f s.buffers })
 fits_kept f ports contents s keeps fits =
     record {
       sides = rw (keeps.size s.buffers) fits.sides;
@@ -49,10 +51,12 @@ fits_kept f ports contents s keeps fits =
       read = read_kept f s.buffers (content_at s.number contents) keeps fits.read;
     }
 
-pub all_kept : (f : Buffers → Buffers) (n : ℕ) (ports : List Port) (contents : List Content) (streams : List KeptStream) → KeepsRead f → AllFit ports contents streams → AllFit ports contents (change_stream n f streams)
+pub all_kept : (f : Buffers → Buffers) (n : ℕ) (ports : List Port) (contents : List Content) (streams : List KeptStream) → KeepsRead f
+    → AllFit ports contents streams → AllFit ports contents (change_stream n f streams)
 all_kept f n ports contents [] keeps fit = tt
 all_kept f n ports contents (s ∷ streams) keeps fit =
-    (elim (s.number == n) as (λ b. StreamFits ports contents (cond b (record s { buffers = f s.buffers }) s)) [ true ↦ fits_kept f ports contents s keeps fit.0 | false ↦ fit.0 ], all_kept f n ports contents streams keeps fit.1)
+    (elim (s.number == n) as (λ b. StreamFits ports contents (cond b (record s { buffers = f s.buffers }) s)) [ true ↦ fits_kept f ports
+        contents s keeps fit.0 | false ↦ fit.0 ], all_kept f n ports contents streams keeps fit.1)
 
 -- no content is of a number above all
 pub content_above : (n numbered : ℕ) (contents : List Content) → AreNumbered numbered contents → numbered < n → content_at n contents ≡ None
@@ -70,12 +74,15 @@ nth_above : (n : ℕ) (ports : List Port) → length ports < n → nth n ports �
 nth_above zero ports above = refl
 nth_above (suc n) ports above = slice_get_past ports n (omega (arith, above))
 
-pub all_push : (ports : List Port) (contents : List Content) (streams : List KeptStream) (s : KeptStream) → AllFit ports contents streams → StreamFits ports contents s → AllFit ports contents (streams ++ s ∷ [])
+pub all_push : (ports : List Port) (contents : List Content) (streams : List KeptStream) (s : KeptStream) → AllFit ports contents streams
+    → StreamFits ports contents s → AllFit ports contents (streams ++ s ∷ [])
 all_push ports contents [] s fit new = (new, tt)
 all_push ports contents (t ∷ streams) s fit new = (fit.0, all_push ports contents streams s fit.1 new)
 
 -- a new stream
-pub new_fits : (ports : List Port) (contents : List Content) (numbered : ℕ) (s : KeptStream) → length ports ≤ numbered → AreNumbered numbered contents → s.number ≡ numbered + 1 → has_sides s.buffers.size ≡ true → s.buffers.read ≡ never → StreamFits ports contents s
+pub new_fits : (ports : List Port) (contents : List Content) (numbered : ℕ) (s : KeptStream) → length ports ≤ numbered
+    → AreNumbered numbered contents → s.number ≡ numbered + 1 → has_sides s.buffers.size ≡ true → s.buffers.read ≡ never
+    → StreamFits ports contents s
 new_fits ports contents numbered s many known number sides never-is =
     record {
       sides = sides;
@@ -84,11 +91,15 @@ new_fits ports contents numbered s many known number sides never-is =
     }
 
 -- a stream whose handle is dead
-pub all_unnamed : (handle : ℕ) (ports : List Port) (contents : List Content) (streams : List KeptStream) → AllFit ports contents streams → AllFit ports contents (map (unnamed handle) streams)
+pub all_unnamed : (handle : ℕ) (ports : List Port) (contents : List Content) (streams : List KeptStream) → AllFit ports contents streams
+    → AllFit ports contents (map (unnamed handle) streams)
 all_unnamed handle ports contents [] fit = tt
 all_unnamed handle ports contents (s ∷ streams) fit =
-    (elim (s.handle == handle) as (λ b. StreamFits ports contents (cond b (record s { handle = 0 }) s)) [ true ↦ record { sides = fit.0.sides; screen = fit.0.screen; read = fit.0.read } | false ↦ fit.0 ], all_unnamed handle ports contents streams fit.1)
+    (elim (s.handle == handle) as (λ b. StreamFits ports contents (cond b (record s { handle = 0 }) s)) [ true ↦ record
+        { sides = fit.0.sides; screen = fit.0.screen; read = fit.0.read } | false ↦ fit.0 ],
+        all_unnamed handle ports contents streams fit.1)
 
-pub numbered_push : (low high : ℕ) (streams : List KeptStream) (s : KeptStream) → IsNumbered low streams high → s.number ≡ high + 1 → IsNumbered low (streams ++ s ∷ []) (high + 1)
+pub numbered_push : (low high : ℕ) (streams : List KeptStream) (s : KeptStream) → IsNumbered low streams high → s.number ≡ high + 1
+    → IsNumbered low (streams ++ s ∷ []) (high + 1)
 numbered_push low high [] s rising is = (omega (arith, is, rising), omega (arith, is))
 numbered_push low high (t ∷ streams) s rising is = (rising.0, numbered_push t.number high streams s rising.1 is)

@@ -1,5 +1,6 @@
 -- What holds of the streams, of the ports and of the running frame beside one another.
-use Rattle.std.specs.Prelude.{◌≡◌, ◌≢◌, ℕ, ◌+◌, ◌-◌, ◌<◌, ◌≤◌, Bool, false, ◌==◌, List, [], ◌∷◌, length, map, slice_get, find, Option, Some, None, IfSome, IsSomeAnd, IsTrue, if◌then◌else◌}
+use Rattle.std.specs.Prelude.{◌≡◌, ◌≢◌, ℕ, ◌+◌, ◌-◌, ◌<◌, ◌≤◌, Bool, false, ◌==◌, List, [], ◌∷◌, length, map, slice_get, find, Option,
+    Some, None, IfSome, IsSomeAnd, IsTrue, if◌then◌else◌}
 use Rattle.std.specs.List.{list_all, AllByRecursion}
 use Rattle.wf_words.specs.Keyed.{nth}
 use Rattle.wf_pixel.specs.declared.Format.{Format}
@@ -16,7 +17,7 @@ use Rattle.wf_calls.specs.declared.call.JobKind.TheVariants as kind
 use Rattle.wf_model.specs.declared.Content.{Content}
 use Rattle.wf_model.specs.State.{Port, Running, mode_size}
 use Rattle.wf_model.specs.Frames.{is_of_frame}
-use Rattle.wf_core.specs.Fits.{LayerFits}
+use Rattle.wf_objects.specs.Fits.{LayerFits}
 use Rattle.wf_machine.specs.declared.port.Port as declared
 use Rattle.wf_machine.specs.Latching.{IsOutFrom}
 use Rattle.wf_machine.specs.Ports.{HoldsBut, IsFrameImage, port_of}

@@ -2,8 +2,8 @@
 use Rattle.std.specs.Prelude.{◌≡◌, ◌≤◌, [], length, map, option_map, IfSome}
 use Rattle.wf_stream.specs.Streams.{IsNumbered, held}
 use Rattle.wf_model.specs.State.{State}
-use Rattle.wf_core.specs.Fits.{Fits}
-use Rattle.wf_core.specs.Sides.{beside}
+use Rattle.wf_objects.specs.Fits.{Fits}
+use Rattle.wf_objects.specs.Sides.{beside}
 use Rattle.wf_machine.specs.declared.parts.Parts.TheInside.{Inside}
 use Rattle.wf_machine.specs.Fitting.{AllFit, AreNumbered, AreOnce, FrameFits, PortsFit, contents_of}
 use Rattle.wf_machine.specs.Ports.{port_of, running_of}

@@ -12,7 +12,8 @@ impl Parts {
     /// Does what a call asks for that brings nothing and takes nothing, or none where it is another call. Streams that it
     /// leaves without a name are still there.
     pub(crate) fn act_plain(&mut self, call: &Call) -> Option<Answer>
-        ensures { MatchOption result (IsTrue (carries (part_of call.now)) × (self.new ≡ self.old)) (λ answer. IsAct self.old call.now self.new (bare answer)) }
+        ensures { MatchOption result (IsTrue (carries (part_of call.now))
+            × (self.new ≡ self.old)) (λ answer. IsAct self.old call.now self.new (bare answer)) }
     {
         match call.part() {
             Part::Streams => Some(self.act_on_streams(call)),

@@ -95,7 +95,8 @@ impl Parts {
     fn target_ready(&self, handle: u32, shown: &Shown) -> Result<(), Refusal>
         requires kept { IsSome (buffers_at shown.now.target self.now.streams) }
         requires home { AreAtHome self.now.streams }
-        ensures { IfSome (buffers_at shown.now.target self.now.streams) (λ b. result ≡ target_ready handle shown.now.target shown.now.scene b self.now) }
+        ensures { IfSome (buffers_at shown.now.target self.now.streams)
+            (λ b. result ≡ target_ready handle shown.now.target shown.now.scene b self.now) }
     {
         let Some(stream) = self.store.get(shown.target) else {
             unreachable!()
@@ -117,7 +118,8 @@ impl Parts {
 
     /// The place of a port, which is counted from 1 in calls and from 0 here.
     fn place_of(&self, port: i64) -> Option<usize>
-        ensures { MatchOption result (nth (count_of port) self.now.display.ports ≡ None) (λ place. (count_of port ≡ place + 1) × (place < length self.now.display.ports)) }
+        ensures { MatchOption result (nth (count_of port) self.now.display.ports ≡ None) (λ place. (count_of port ≡ place + 1)
+            × (place < length self.now.display.ports)) }
     {
         if 1 <= port && port <= self.ports.len() as i64 {
             Some((port - 1) as usize)

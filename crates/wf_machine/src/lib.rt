@@ -5,6 +5,7 @@ mod calls;
 mod frame;
 mod frames;
 mod latching;
+mod laws;
 mod machine;
 mod parts;
 mod port;
@@ -16,5 +17,6 @@ mod streams;
 #[cfg(test)]
 mod tests;
 
+pub use laws::frames_are_left_alone;
 pub use machine::Machine;
 pub use wf_words::NoMemory;

@@ -8,7 +8,8 @@ ghost use Rattle.wf_calls.specs.Codes.{is_out_of_memory};
 ghost use Rattle.wf_stream.specs.Buffers.{acquired, discarded, is_blocked, posted};
 ghost use Rattle.wf_image.specs.Bitmap.{blank};
 ghost use Rattle.wf_stream.specs.Streams.{KeptStream, buffers_at, change_stream, has_no_room, held, stream_at, with_live_stream};
-ghost use Rattle.wf_model.specs.Streams.{acquirable, acquire_step, canvas_back, canvas_of, is_out_at_client, is_out_of, may_make, new_buffers, stat, stream_destroy, stream_new, stream_step};
+ghost use Rattle.wf_model.specs.Streams.{acquirable, acquire_step, canvas_back, canvas_of, is_out_at_client, is_out_of, may_make,
+    new_buffers, stat, stream_destroy, stream_new, stream_step};
 ghost use Rattle.wf_calls.specs.Replies.{bare, done};
 ghost use Rattle.wf_machine.specs.Latching.{IsOutFrom};
 
@@ -56,8 +57,10 @@ fn make(
     ensures made { OnOk result (store.new ≡ with_live_stream (new_buffers width height format buffers) store.old) }
     ensures room { OnOk result (has_no_room (new_buffers width height format buffers) store.old.streams ≡ false) }
     ensures free { OnOk result (is_full store.old.made ≡ false) }
-    ensures limit { IsErrOf result MakeStop.Limit → IsTrue (has_no_room (new_buffers width height format buffers) store.old.streams || is_full store.old.made) }
-    ensures memory { IsErrOf result MakeStop.NoMemory → (has_no_room (new_buffers width height format buffers) store.old.streams || is_full store.old.made) ≡ false }
+    ensures limit { IsErrOf result MakeStop.Limit
+        → IsTrue (has_no_room (new_buffers width height format buffers) store.old.streams || is_full store.old.made) }
+    ensures memory { IsErrOf result MakeStop.NoMemory
+        → (has_no_room (new_buffers width height format buffers) store.old.streams || is_full store.old.made) ≡ false }
     ensures refused { OnErr result (store.new ≡ store.old) }
 {
     let size = Size {
@@ -71,10 +74,12 @@ fn make(
 fn acquire_from(store: &mut Store, number: u32) -> Result<Canvas, Refused>
     requires { IsSome (stream_at number store.old.streams) }
     ensures canvas { IfOk result (λ canvas. (s : KeptStream) → stream_at number store.old.streams ≡ Some s → canvas ≡ canvas_of s) }
-    ensures free { OnOk result ((s : KeptStream) → stream_at number store.old.streams ≡ Some s → (s.buffers.out ≡ false) × (is_blocked s.buffers ≡ false)) }
+    ensures free { OnOk result ((s : KeptStream) → stream_at number store.old.streams ≡ Some s → (s.buffers.out ≡ false)
+        × (is_blocked s.buffers ≡ false)) }
     ensures acquired { OnOk result (store.new ≡ record store.old { streams = change_stream number acquired store.old.streams }) }
     ensures busy { IsErrOf result Refused.Busy → (s : KeptStream) → stream_at number store.old.streams ≡ Some s → s.buffers.out ≡ true }
-    ensures no_buffer { IsErrOf result Refused.NoBuffer → (s : KeptStream) → stream_at number store.old.streams ≡ Some s → (s.buffers.out ≡ false) × (is_blocked s.buffers ≡ true) }
+    ensures no_buffer { IsErrOf result Refused.NoBuffer → (s : KeptStream) → stream_at number store.old.streams ≡ Some s
+        → (s.buffers.out ≡ false) × (is_blocked s.buffers ≡ true) }
     ensures refused { OnErr result (store.new ≡ store.old) }
 {
     match store.get_mut(number) {
@@ -141,7 +146,8 @@ impl Parts {
         format: Format,
         buffers: i64,
     ) -> Answer
-        ensures { stream_step self.old (stream_new width height format buffers (is_out_of_memory result.code) self.old) ≡ (self.new, bare result) }
+        ensures { stream_step self.old (stream_new width height format buffers (is_out_of_memory result.code) self.old)
+            ≡ (self.new, bare result) }
     {
         if !may_make(width, height, buffers) {
             return refuse(Code::IllegalArgument);

@@ -77,7 +77,8 @@ masked =
     ∷ (1, core.element_set 1 5 element.Transparency (one (pos 4))) ∷ (1, core.element_set 1 5 element.Alpha (one (pos 9)))
     ∷ (1, core.commit 1 2) ∷ (1, core.get_error 1) ∷ (1, core.get_error 1) ∷ []
 
-bad_commit : answers (with_stream 3 5 2 A8 (after shown showing)) masked ≡ (0, 7) ∷ (0, 0) ∷ (0, 0) ∷ (0, 0) ∷ (11, 20) ∷ (0, 11) ∷ (0, 0) ∷ []
+bad_commit : answers (with_stream 3 5 2 A8 (after shown showing)) masked ≡ (0, 7) ∷ (0, 0) ∷ (0, 0) ∷ (0, 0) ∷ (11, 20) ∷ (0, 11) ∷ (0, 0)
+    ∷ []
 unfolding answers after
 bad_commit = refl
 
@@ -122,7 +123,10 @@ of_other_context = refl
 
 -- device 3 with context 4 of the second port, a stream 5 for sources and a stream 6 for masks
 abbrev two_devices : CoreSide
-two_devices = with_stream 4 1 1 A8 (with_stream 3 1 1 Rgba8 (after two_ports (begun ++ (0, core.device_new false) ∷ (3, core.screen_context 3 (pos 2) (Some 2) false) ∷ [])))
+two_devices =
+    with_stream 4 1 1 A8
+    (with_stream 3 1 1 Rgba8 (after two_ports (begun ++ (0, core.device_new false) ∷ (3, core.screen_context 3 (pos 2) (Some 2) false)
+    ∷ [])))
 
 -- sources 7 and 8 and masks 9 and 10, one of each device
 abbrev of_both : List Asked

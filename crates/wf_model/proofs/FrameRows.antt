@@ -41,7 +41,8 @@ four a b c d = a ∷ b ∷ c ∷ d ∷ []
 -- device 1 with context 2 of the port, and stream 3 (which is numbered 2), that element 5 shows through source 4
 abbrev setup : List Call
 setup =
-    call.DeviceNew ∷ call.ScreenContext 1 (pos 1) ∷ call.StreamNew (pos 1) (pos 1) Rgba8 (pos 2) ∷ call.SourceNew 1 2 3 ∷ call.ElementNew 1 2
+    call.DeviceNew ∷ call.ScreenContext 1 (pos 1) ∷ call.StreamNew (pos 1) (pos 1) Rgba8 (pos 2) ∷ call.SourceNew 1 2 3
+        ∷ call.ElementNew 1 2
     ∷ call.ElementSet 1 5 element.Source (four (pos 4) (pos 0) (pos 0) (pos 0))
     ∷ call.ElementSet 1 5 element.SrcRect (four (pos 0) (pos 0) (pos 1) (pos 1))
     ∷ call.ElementSet 1 5 element.Dest (four (pos 0) (pos 0) (pos 1) (pos 1))

@@ -29,7 +29,8 @@ abbrev with_stream : State
 with_stream = (step opened 0 stream false).0
 
 -- a canvas of a stream that was never made comes back
-no_such_stream : step opened 0 (call.Post canvas_9) false ≡ (opened, record { code = code.BadHandle; value = 0; payload = payload.Canvas canvas_9 })
+no_such_stream : step opened 0 (call.Post canvas_9) false
+    ≡ (opened, record { code = code.BadHandle; value = 0; payload = payload.Canvas canvas_9 })
 unfolding step act
 no_such_stream = refl
 
@@ -44,17 +45,20 @@ unfolding step act
 no_memory = refl
 
 -- the number of buffers is looked at before the memory
-one_buffer : step opened 0 (call.StreamNew (pos 1) (pos 1) Rgba8 (pos 1)) true ≡ (opened, record { code = code.IllegalArgument; value = 0; payload = payload.Nothing })
+one_buffer : step opened 0 (call.StreamNew (pos 1) (pos 1) Rgba8 (pos 1)) true
+    ≡ (opened, record { code = code.IllegalArgument; value = 0; payload = payload.Nothing })
 unfolding step act
 one_buffer = refl
 
 -- a write buffer is given once
-second_acquire : (step (step with_stream 0 (call.Acquire 1) false).0 1 (call.Acquire 1) false).1 ≡ record { code = code.Busy; value = 0; payload = payload.Nothing }
+second_acquire : (step (step with_stream 0 (call.Acquire 1) false).0 1 (call.Acquire 1) false).1 ≡ record { code = code.Busy; value = 0;
+    payload = payload.Nothing }
 unfolding step act
 second_acquire = refl
 
 -- one frame runs at a time, and no context is there to begin
-second_begin : (step (step opened 0 (call.BeginPort (pos 1)) false).0 0 (call.BeginNext 0) false).1 ≡ record { code = code.Busy; value = 0; payload = payload.Nothing }
+second_begin : (step (step opened 0 (call.BeginPort (pos 1)) false).0 0 (call.BeginNext 0) false).1 ≡ record { code = code.Busy; value = 0;
+    payload = payload.Nothing }
 unfolding step act
 second_begin = refl
 

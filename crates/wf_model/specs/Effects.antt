@@ -30,7 +30,8 @@ use Rattle.wf_scene.specs.declared.attributes.Refused.TheVariants as scene
 use Rattle.wf_scene.specs.declared.look.Fault.{Fault}
 use Rattle.wf_scene.specs.Values.{is_count}
 use Rattle.wf_model.specs.Core.{by_scene, checked_source, core_call, fault_as_refusal, linked}
-use Rattle.wf_model.specs.Frames.{Beginning, begin_call, begin_context, begin_shown, end, end_frame, is_of_frame, is_running, start, started}
+use Rattle.wf_model.specs.Frames.{Beginning, begin_call, begin_context, begin_shown, end, end_frame, is_of_frame, is_running, start,
+    started}
 use Rattle.wf_model.specs.Objects.{Context, CoreState, Source}
 use Rattle.wf_model.specs.Outcome.{Outcome, found, refuse_with}
 use Rattle.wf_model.specs.Registers.{offered}
@@ -170,7 +171,8 @@ module _ (h : State) (c : Call) (unregistered : register_of c ≡ no_register) w
   stream_effect (Ok x) honest carried = carried x refl
   stream_effect (Err r) honest carried = refuses_bare r honest
 
-  new_effect : (width height buffers : ℤ) (f : Format) (m : Bool) → Effect h c (streams.stream_step h (streams.stream_new width height f buffers m h))
+  new_effect : (width height buffers : ℤ) (f : Format) (m : Bool)
+      → Effect h c (streams.stream_step h (streams.stream_new width height f buffers m h))
   new_effect width height buffers f m = of_range (not (streams.may_make width height buffers)) refl
     where
       new : Buffers
@@ -270,7 +272,8 @@ effect h (call.Stat what) m = tells (streams.stat what (held h.streams)) refl
 effect h (call.BeginNext after) m =
     begin_effect h (call.BeginNext after) refl (search (after_honest, honest_refuse, shown_honest) depth 8) (next_free after h)
 effect h (call.BeginPort port) m =
-    begin_effect h (call.BeginPort port) refl (search (after_honest, honest_refuse, honest_found) depth 12) (λ b is. (port_is port h b is).free)
+    begin_effect h (call.BeginPort port) refl (search (after_honest, honest_refuse, honest_found) depth 12)
+        (λ b is. (port_is port h b is).free)
 effect h (call.End job) m = end_effect h (call.End job) refl job refl
 effect h call.DeviceNew m = composed_effect h call.DeviceNew 0 m refl
 effect h _ m = composed_effect h _ _ m refl

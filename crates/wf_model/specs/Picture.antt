@@ -1,5 +1,6 @@
 -- The picture of a scene: each pixel is asked from the topmost layer down.
-use Rattle.std.specs.Prelude.{◌≡◌, ◌≢◌, ℕ, ◌≤ℤ◌, ℤ, pos, List, [], ◌∷◌, map, reverse, All, Option, Some, None, IfSome, IsTrue, if◌then◌else◌}
+use Rattle.std.specs.Prelude.{◌≡◌, ◌≢◌, ℕ, ◌≤ℤ◌, ℤ, pos, List, [], ◌∷◌, map, reverse, All, Option, Some, None, IfSome, IsTrue,
+    if◌then◌else◌}
 use Rattle.wf_words.specs.Options.{◌>>=◌}
 use Rattle.wf_pixel.specs.declared.Rgba.{Rgba}
 use Rattle.wf_pixel.specs.declared.Rect.{Rect}

@@ -45,10 +45,12 @@ opaque_format = refl
 masked : lift (colour 10 20 30 40) Rgba8Pre (record { alpha = false; source = true; mask = true }) 0 0 ≡ colour 0 0 0 0
 masked = refl
 
-opaque_layer : over (lift (colour 0 0 0 7) Rgbx8 (record { alpha = true; source = false; mask = false }) 254 0) (colour 255 255 255 255) ≡ colour 1 1 1 255
+opaque_layer : over (lift (colour 0 0 0 7) Rgbx8 (record { alpha = true; source = false; mask = false }) 254 0) (colour 255 255 255 255)
+    ≡ colour 1 1 1 255
 opaque_layer = refl
 
-premultiplied : over (lift (colour 200 0 0 100) Rgba8Pre (record { alpha = false; source = true; mask = false }) 0 0) (colour 255 255 255 255) ≡ colour 255 155 155 255
+premultiplied : over (lift (colour 200 0 0 100) Rgba8Pre (record { alpha = false; source = true; mask = false }) 0 0)
+    (colour 255 255 255 255) ≡ colour 255 155 155 255
 premultiplied = refl
 
 -- a source of 3 by 2 with the rows 0 1 2 and 3 4 5, as it shows on a destination of this size
@@ -61,7 +63,8 @@ number (Some p) = 3 * p.1 + p.0
 
 abbrev shown : Bool → Rotation → ℕ → ℕ → List ℕ
 shown flip turn w h =
-    flat_map (λ y. map (λ x. number (place wide flip turn (record { x = pos 0; y = pos 0; w = w; h = h }) (pos x) (pos y))) (range_with_len 0 w))
+    flat_map (λ y. map (λ x. number (place wide flip turn (record { x = pos 0; y = pos 0; w = w; h = h }) (pos x) (pos y)))
+        (range_with_len 0 w))
     (range_with_len 0 h)
 
 turn_0 : shown false R0 3 2 ≡ 0 ∷ 1 ∷ 2 ∷ 3 ∷ 4 ∷ 5 ∷ []

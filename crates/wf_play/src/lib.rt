@@ -10,6 +10,7 @@ mod words;
 
 pub use gate::{Gate, Open};
 pub use laws::one_film;
+pub use notes::put_note;
 pub use report::{Report, Status};
 pub use top::play;
 

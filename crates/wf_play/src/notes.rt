@@ -85,7 +85,7 @@ fn note_of(status: Status) -> Note
 }
 
 /// Puts the line of a status into the notes. A fault of the notes changes nothing.
-pub(crate) fn put_note<N: Sink>(notes: &mut N, status: Status)
+pub fn put_note<N: Sink>(notes: &mut N, status: Status)
     ensures line { PutsOrFront N.took notes.old notes.new (N.faults notes.old) (N.faults notes.new) (note_of status) }
     ensures count { N.faults notes.old ≤ N.faults notes.new }
 {

@@ -129,14 +129,17 @@ pub fn play<R: Threads + Wait + Sync, I: Source, O: Sink, N: Sink, G: Gate>(
 ) -> Report
     // The film, where the input tells its bytes: with Done, it is the plain film of the script that the bytes
     // stand for, under the order of the report.
-    ensures headline { IfSome (I.left input.old) (λ bytes. result.status ≡ Status.Done → IsPlainFilm O.took film.old film.new bytes result.order) }
+    ensures headline { IfSome (I.left input.old) (λ bytes. result.status ≡ Status.Done
+        → IsPlainFilm O.took film.old film.new bytes result.order) }
 
     // When each status comes.
     ensures usage { (result.status ≡ Status.Usage) ↔ (¬ (AreAccepted words.now)) }
     ensures usage_first { result.status ≡ Status.Usage → input.new ≡ input.old }
     ensures input { IfSome (I.left input.old) (λ bytes. SaysOfInput O.took film.old film.new result.order bytes result.status) }
     ensures caused { IsCaused (I.faults input.old) (I.faults input.new) (O.faults film.old) (O.faults film.new) result.status }
-    ensures complete { AreAccepted words.now → IfSome (I.left input.old) (λ bytes. IsComplete bytes (I.faults input.old) (I.faults input.new) (O.faults film.old) (O.faults film.new) result.status) }
+    ensures complete { AreAccepted words.now
+        → IfSome (I.left input.old) (λ bytes. IsComplete bytes (I.faults input.old) (I.faults input.new) (O.faults film.old)
+        (O.faults film.new) result.status) }
 
     // What went out.
     ensures film { SaysOfFilm O.took film.old film.new result.order result.status }

@@ -8,7 +8,8 @@ use Rattle.wf_scene.specs.Cached.{handle_of, handles, place_in}
 use Rattle.wf_scene.proofs.Once.{first_changed, once_by_key}
 
 -- an element that was read and is written back changed, at the place of its handle
-pub changed_at : (es : List Element) (h i : ℕ) (e changed : Element) (o : Option (Element → Element)) → AreApart (handles es) → i ≡ place_in h es → i < length es → e ≡ get_or es i e → option_map (λ f. f e) o ≡ Some changed
+pub changed_at : (es : List Element) (h i : ℕ) (e changed : Element) (o : Option (Element → Element)) → AreApart (handles es)
+    → i ≡ place_in h es → i < length es → e ≡ get_or es i e → option_map (λ f. f e) o ≡ Some changed
     → (f : Element → Element) × (o ≡ Some f) × (set es i changed ≡ change handle_of h f es)
 changed_at es h i e changed None apart at within read made = absurd cc
 changed_at es h i e changed (Some f) apart at within read made = (f, refl, written)

@@ -12,7 +12,8 @@ use Rattle.wf_scene.specs.Order.{AreApart, without, inserted, has_no_room}
 use Rattle.wf_scene.specs.Cached.{CachedScene, IsOrderly, handle_of, handles, is_live, is_placed, has_element, without_element, add, forget}
 use Rattle.wf_scene.specs.Keeping.{KeepsHandle, KeepsPlace}
 use Rattle.wf_scene.proofs.Once.{any_key}
-use Rattle.wf_scene.proofs.Kept.{apart_without, apart_inserted, absent_less, in_less, all_without, all_inserted, length_without, length_inserted}
+use Rattle.wf_scene.proofs.Kept.{apart_without, apart_inserted, absent_less, in_less, all_without, all_inserted, length_without,
+    length_inserted}
 
 -- an element lives where its handle is one of the handles
 pub live_handle : (h : ℕ) (es : List Element) → is_live h es ≡ is_in h (handles es)
@@ -63,7 +64,8 @@ all_less h hs (x ∷ xs) all = go (x == h) refl (all_less h hs xs parts.1)
     parts : (is_in x hs ≡ true) × (list_all (λ z. is_in z hs) xs ≡ true)
     parts = and_parts (is_in x hs) (list_all (λ z. is_in z hs) xs) all
 
-    go : (b : Bool) → (x == h) ≡ b → list_all (λ z. is_in z (without h hs)) (without h xs) ≡ true → list_all (λ z. is_in z (without h hs)) (cond (not b) (x ∷ without h xs) (without h xs)) ≡ true
+    go : (b : Bool) → (x == h) ≡ b → list_all (λ z. is_in z (without h hs)) (without h xs) ≡ true
+        → list_all (λ z. is_in z (without h hs)) (cond (not b) (x ∷ without h xs) (without h xs)) ≡ true
     go true e later = later
     go false e later =
         and_from (is_in x (without h hs)) (list_all (λ z. is_in z (without h hs)) (without h xs)) (in_less x h hs e parts.0) later
@@ -80,7 +82,8 @@ module _ (q : Element → Bool) where
   all_left h (e ∷ es) all = let later = all_left h es in grind (arith, nat_tests, later, all)
 
   -- and by each after a change that keeps it
-  all_changed : (h : ℕ) (f : Element → Element) (es : List Element) → ((e : Element) → q e ≡ true → q (f e) ≡ true) → list_all q es ≡ true → list_all q (change handle_of h f es) ≡ true
+  all_changed : (h : ℕ) (f : Element → Element) (es : List Element) → ((e : Element) → q e ≡ true → q (f e) ≡ true) → list_all q es ≡ true
+      → list_all q (change handle_of h f es) ≡ true
   all_changed h f [] keeps all = refl
   all_changed h f (e ∷ es) keeps all =
       let later = all_changed h f es keeps in
@@ -90,7 +93,8 @@ module _ (q : Element → Bool) where
 -- each call leaves a cached scene orderly
 
 module _ (c : CachedScene) (orderly : IsOrderly c) where
-  pub orderly_inserted : (h b : ℕ) → has_element h c ≡ true → has_no_room h c.order ≡ false → IsOrderly (record c { order = inserted h b c.order })
+  pub orderly_inserted : (h b : ℕ) → has_element h c ≡ true → has_no_room h c.order ≡ false
+      → IsOrderly (record c { order = inserted h b c.order })
   orderly_inserted h b there room =
       record {
         apart = orderly.apart;
@@ -122,7 +126,8 @@ module _ (c : CachedScene) (orderly : IsOrderly c) where
         apart = rw more (apart_more h (handles c.elements) orderly.apart absent);
         named = rw more (absent_more 0 h (handles c.elements) orderly.named (ne_eqb h 0 (omega arith)));
         few = omega (arith, length-append c.elements (new_element h ∷ []), few);
-        placed = list_all-append is_placed c.elements (new_element h ∷ []) ∙ and_from (list_all is_placed c.elements) true orderly.placed refl;
+        placed = list_all-append is_placed c.elements (new_element h ∷ [])
+            ∙ and_from (list_all is_placed c.elements) true orderly.placed refl;
         once = orderly.once;
         live = rw more (all_more h (handles c.elements) c.order orderly.live);
         room = orderly.room;
@@ -141,7 +146,8 @@ module _ (c : CachedScene) (orderly : IsOrderly c) where
         room = omega (arith, orderly.room, length_without h c.order);
       }
 
-  pub orderly_changed : (h : ℕ) (f : Element → Element) → KeepsHandle f → KeepsPlace f → IsOrderly (record c { elements = change handle_of h f c.elements })
+  pub orderly_changed : (h : ℕ) (f : Element → Element) → KeepsHandle f → KeepsPlace f
+      → IsOrderly (record c { elements = change handle_of h f c.elements })
   orderly_changed h f keeps stays =
       let same = handles_changed h f c.elements keeps in
       record {

@@ -52,7 +52,8 @@ apart_next b h (x ∷ xs) apart absent = go (apart_next b h xs apart.1 parts.1) 
     other : (h == x) ≡ false
     other = grind (arith, nat_tests, absent)
 
-    go : AreApart (flat_map (with_next b h) xs) → (c : Bool) → (x == b) ≡ c → AreApart (cond c (x ∷ h ∷ []) (x ∷ []) ++ flat_map (with_next b h) xs)
+    go : AreApart (flat_map (with_next b h) xs) → (c : Bool) → (x == b) ≡ c
+        → AreApart (cond c (x ∷ h ∷ []) (x ∷ []) ++ flat_map (with_next b h) xs)
     go later true e =
         let none : is_in b xs ≡ false = rw (← eqb-true x b e) apart.0 in
         rw (none_followed (λ z. z == b) h xs none) (or_from (h == x) (is_in x xs) other apart.0, (parts.1, apart.1))
@@ -122,7 +123,8 @@ length_next : (b h : ℕ) (xs : List ℕ) → AreApart xs → length (flat_map (
 length_next b h [] apart = omega arith
 length_next b h (x ∷ xs) apart = go (length_next b h xs apart.1) (x == b) refl
   where
-    go : length (flat_map (with_next b h) xs) ≤ suc (length xs) → (c : Bool) → (x == b) ≡ c → length (cond c (x ∷ h ∷ []) (x ∷ []) ++ flat_map (with_next b h) xs) ≤ suc (suc (length xs))
+    go : length (flat_map (with_next b h) xs) ≤ suc (length xs) → (c : Bool) → (x == b) ≡ c
+        → length (cond c (x ∷ h ∷ []) (x ∷ []) ++ flat_map (with_next b h) xs) ≤ suc (suc (length xs))
     go later true e =
         let none : is_in b xs ≡ false = rw (← eqb-true x b e) apart.0 in
         rw (none_followed (λ z. z == b) h xs none) (omega arith)

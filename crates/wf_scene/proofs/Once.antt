@@ -1,5 +1,6 @@
 -- Lists in which one element at most passes a test: that element taken out, changed, or followed by another.
-use Rattle.std.proofs.Common.{◌≡◌, ℕ, ◌+◌, ◌<◌, ◌≤◌, Bool, true, false, not, cond, ◌==◌, ◌||◌, List, [], ◌∷◌, map, length, set, get_or, refl, sym, ap, ◌∙◌, arith, Some, None}
+use Rattle.std.proofs.Common.{◌≡◌, ℕ, ◌+◌, ◌<◌, ◌≤◌, Bool, true, false, not, cond, ◌==◌, ◌||◌, List, [], ◌∷◌, map, length, set, get_or,
+    refl, sym, ap, ◌∙◌, arith, Some, None}
 use Rattle.std.specs.Prelude.{insert, remove, filter, flat_map, position, nat_lt}
 use Rattle.std.specs.Bool.{MatchBool}
 use Rattle.std.specs.List.{list_any, position_or_len}
@@ -52,29 +53,35 @@ module _ {X : Type 0} (p : X → Bool) where
   first_out [] once there = absurd (omega arith)
   first_out (x ∷ xs) once there = go (first_out xs) (p x) refl
     where
-      go : (OnceAtMost xs → first xs < length xs → remove xs (first xs) ≡ filter (λ z. not (p z)) xs) → (b : Bool) → p x ≡ b → remove (x ∷ xs) (first (x ∷ xs)) ≡ filter (λ z. not (p z)) (x ∷ xs)
+      go : (OnceAtMost xs → first xs < length xs → remove xs (first xs) ≡ filter (λ z. not (p z)) xs) → (b : Bool) → p x ≡ b
+          → remove (x ∷ xs) (first (x ∷ xs)) ≡ filter (λ z. not (p z)) (x ∷ xs)
       go later true e = rw e (sym (none_out xs (rw e at once)))
       go later false e =
           let within : first xs < length xs = let all = rw e at there in omega (arith, all) in
           rw (e, one-add) (ap (λ zs. x ∷ zs) (later (rw e at once) within))
 
   -- the list with the one that passes changed
-  pub first_changed : (f : X → X) (xs : List X) (d : X) → OnceAtMost xs → first xs < length xs → set xs (first xs) (f (get_or xs (first xs) d)) ≡ map (λ x. cond (p x) (f x) x) xs
+  pub first_changed : (f : X → X) (xs : List X) (d : X) → OnceAtMost xs → first xs < length xs
+      → set xs (first xs) (f (get_or xs (first xs) d)) ≡ map (λ x. cond (p x) (f x) x) xs
   first_changed f [] d once there = absurd (omega arith)
   first_changed f (x ∷ xs) d once there = go (first_changed f xs d) (p x) refl
     where
-      go : (OnceAtMost xs → first xs < length xs → set xs (first xs) (f (get_or xs (first xs) d)) ≡ map (λ z. cond (p z) (f z) z) xs) → (b : Bool) → p x ≡ b → set (x ∷ xs) (first (x ∷ xs)) (f (get_or (x ∷ xs) (first (x ∷ xs)) d)) ≡ map (λ z. cond (p z) (f z) z) (x ∷ xs)
+      go : (OnceAtMost xs → first xs < length xs → set xs (first xs) (f (get_or xs (first xs) d)) ≡ map (λ z. cond (p z) (f z) z) xs)
+          → (b : Bool) → p x ≡ b → set (x ∷ xs) (first (x ∷ xs)) (f (get_or (x ∷ xs) (first (x ∷ xs)) d))
+          ≡ map (λ z. cond (p z) (f z) z) (x ∷ xs)
       go later true e = rw e (ap (λ zs. f x ∷ zs) (sym (none_changed f xs (rw e at once))))
       go later false e =
           let within : first xs < length xs = let all = rw e at there in omega (arith, all) in
           rw (e, one-add) (ap (λ zs. x ∷ zs) (later (rw e at once) within))
 
   -- the list with another element directly after the one that passes
-  pub first_followed : (y : X) (xs : List X) → OnceAtMost xs → first xs < length xs → insert xs (first xs + 1) y ≡ flat_map (λ x. cond (p x) (x ∷ y ∷ []) (x ∷ [])) xs
+  pub first_followed : (y : X) (xs : List X) → OnceAtMost xs → first xs < length xs
+      → insert xs (first xs + 1) y ≡ flat_map (λ x. cond (p x) (x ∷ y ∷ []) (x ∷ [])) xs
   first_followed y [] once there = absurd (omega arith)
   first_followed y (x ∷ xs) once there = go (first_followed y xs) (p x) refl
     where
-      go : (OnceAtMost xs → first xs < length xs → insert xs (first xs + 1) y ≡ flat_map (λ z. cond (p z) (z ∷ y ∷ []) (z ∷ [])) xs) → (b : Bool) → p x ≡ b → insert (x ∷ xs) (first (x ∷ xs) + 1) y ≡ flat_map (λ z. cond (p z) (z ∷ y ∷ []) (z ∷ [])) (x ∷ xs)
+      go : (OnceAtMost xs → first xs < length xs → insert xs (first xs + 1) y ≡ flat_map (λ z. cond (p z) (z ∷ y ∷ []) (z ∷ [])) xs)
+          → (b : Bool) → p x ≡ b → insert (x ∷ xs) (first (x ∷ xs) + 1) y ≡ flat_map (λ z. cond (p z) (z ∷ y ∷ []) (z ∷ [])) (x ∷ xs)
       go later true e = rw e (ap (λ zs. x ∷ y ∷ zs) (sym (none_followed y xs (rw e at once))))
       go later false e =
           let within : first xs < length xs = let all = rw e at there in omega (arith, all) in

@@ -26,11 +26,13 @@ all_of : (q : Element → Bool) (order : List ℕ) (es : List Element) → list_
 all_of q [] es all = refl
 all_of q (h ∷ order) es all = go (element_at h es) refl (all_of q order es all)
   where
-    go : (o : Option Element) → element_at h es ≡ o → list_all q (elements_of order es) ≡ true → list_all q (cons_option o (elements_of order es)) ≡ true
+    go : (o : Option Element) → element_at h es ≡ o → list_all q (elements_of order es) ≡ true
+        → list_all q (cons_option o (elements_of order es)) ≡ true
     go None at later = later
     go (Some e) at later = and_from (q e) (list_all q (elements_of order es)) (found_passes q h es e all at) later
 
 -- their layers are placed as they are
-pub layers_placed : (sight : Sight) (order : List ℕ) (es : List Element) → list_all is_placed es ≡ true → list_all is_placed_layer (map (layer_of sight) (elements_of order es)) ≡ true
+pub layers_placed : (sight : Sight) (order : List ℕ) (es : List Element) → list_all is_placed es ≡ true
+    → list_all is_placed_layer (map (layer_of sight) (elements_of order es)) ≡ true
 layers_placed sight order es all =
     list_all-map is_placed_layer (layer_of sight) (elements_of order es) ∙ all_of is_placed order es all

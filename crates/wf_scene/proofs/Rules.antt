@@ -6,10 +6,12 @@ use Rattle.std.proofs.lemmas.Bool.{not-true, not-false}
 use Rattle.wf_scene.specs.declared.element.Element.{Element}
 use Rattle.wf_scene.specs.Cached.{CachedScene}
 use Rattle.wf_scene.specs.Sight.{Sight}
-use Rattle.wf_scene.specs.Consistent.{has_source, is_inside, has_destination, is_covered, broken_rule, keeps_rules, fault_from, fault, inserted_elements, scene_of, consistent, unless}
+use Rattle.wf_scene.specs.Consistent.{has_source, is_inside, has_destination, is_covered, broken_rule, keeps_rules, fault_from, fault,
+    inserted_elements, scene_of, consistent, unless}
 
 -- one of four is false where not all are true
-any_false : (a b c d : Bool) → is_some (option_map (λ i. i + 1) (position not (a ∷ b ∷ c ∷ d ∷ []))) ≡ not (list_all (λ kept. kept) (a ∷ b ∷ c ∷ d ∷ []))
+any_false : (a b c d : Bool) → is_some (option_map (λ i. i + 1) (position not (a ∷ b ∷ c ∷ d ∷ [])))
+    ≡ not (list_all (λ kept. kept) (a ∷ b ∷ c ∷ d ∷ []))
 any_false false b c d = refl
 any_false true false c d = refl
 any_false true true false d = refl
@@ -29,9 +31,12 @@ module _ (sight : Sight) where
   any_fault : (place : ℕ) (es : List Element) → is_some (fault_from sight place es) ≡ not (list_all (keeps_rules sight) es)
   any_fault place [] = refl
   any_fault place (e ∷ es) =
-      go (broken_rule sight e) refl (any_false (has_source sight e) (is_inside sight e) (has_destination e) (is_covered sight e)) (any_fault (place + 1) es)
+      go (broken_rule sight e) refl (any_false (has_source sight e) (is_inside sight e) (has_destination e) (is_covered sight e))
+          (any_fault (place + 1) es)
     where
-      go : (o : Option ℕ) → broken_rule sight e ≡ o → is_some (broken_rule sight e) ≡ not (keeps_rules sight e) → is_some (fault_from sight (place + 1) es) ≡ not (list_all (keeps_rules sight) es) → is_some (fault_from sight place (e ∷ es)) ≡ not (list_all (keeps_rules sight) (e ∷ es))
+      go : (o : Option ℕ) → broken_rule sight e ≡ o → is_some (broken_rule sight e) ≡ not (keeps_rules sight e)
+          → is_some (fault_from sight (place + 1) es) ≡ not (list_all (keeps_rules sight) es)
+          → is_some (fault_from sight place (e ∷ es)) ≡ not (list_all (keeps_rules sight) (e ∷ es))
       go None is told later =
           let keeps : keeps_rules sight e ≡ true = not-false (keeps_rules sight e) (sym (rw is at told)) in
           rw (is, keeps) later
@@ -42,4 +47,5 @@ module _ (sight : Sight) where
   -- a commit takes a scene where every inserted element keeps every rule
   pub ok_by_rules : (c : CachedScene) → is_ok (consistent sight c) ≡ list_all (keeps_rules sight) (inserted_elements c)
   ok_by_rules c =
-      ok_unless (fault sight c) (scene_of sight c) ∙ ap not (any_fault 1 (inserted_elements c)) ∙ not_not (list_all (keeps_rules sight) (inserted_elements c))
+      ok_unless (fault sight c) (scene_of sight c) ∙ ap not (any_fault 1 (inserted_elements c))
+          ∙ not_not (list_all (keeps_rules sight) (inserted_elements c))

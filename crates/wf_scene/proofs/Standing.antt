@@ -1,5 +1,6 @@
 -- Where a handle stands after it was put into an order, how often it stands there, and what the other handles do.
-use Rattle.std.proofs.Common.{◌≡◌, ◌≢◌, ℕ, zero, suc, ◌+◌, ◌<◌, Bool, true, false, not, cond, ◌==◌, List, [], ◌∷◌, ◌++◌, length, refl, sym, ap, ◌∙◌, arith, Some}
+use Rattle.std.proofs.Common.{◌≡◌, ◌≢◌, ℕ, zero, suc, ◌+◌, ◌<◌, Bool, true, false, not, cond, ◌==◌, List, [], ◌∷◌, ◌++◌, length, refl, sym,
+    ap, ◌∙◌, arith, Some}
 use Rattle.std.specs.Prelude.{flat_map, slice_index, Ok}
 use Rattle.std.proofs.lemmas.Bool.{eqb-true, eq-eqb, ne_eqb, lt-ltb, or_parts}
 use Rattle.std.proofs.lemmas.Bool.Decides.{nat_tests}
@@ -36,7 +37,8 @@ stands_above base h (x ∷ xs) absent there = go (x == base) refl (stands_above 
     rest : List ℕ
     rest = flat_map (with_next base h) xs
 
-    go : (b : Bool) → (x == base) ≡ b → (is_in base xs ≡ true → StandsAbove base h rest) → StandsAbove base h (cond b (x ∷ h ∷ []) (x ∷ []) ++ rest)
+    go : (b : Bool) → (x == base) ≡ b → (is_in base xs ≡ true → StandsAbove base h rest)
+        → StandsAbove base h (cond b (x ∷ h ∷ []) (x ∷ []) ++ rest)
     go true e later =
         let itself = eq-eqb h h refl in
         record {
@@ -64,7 +66,8 @@ base_below h base order there other = rw (ne_eqb h base other) (go (base == 0) r
     go false e =
         let inside = in_less base h order (ne_eqb base h (λ same. other (sym same))) (rw e at there) in
         let stands = stands_above base h rest (absent_out h order) inside in
-        rw (lt-ltb (first (λ x. x == h) (flat_map (with_next base h) rest)) (length (flat_map (with_next base h) rest)) stands.within) (ap Some stands.under)
+        rw (lt-ltb (first (λ x. x == h) (flat_map (with_next base h) rest)) (length (flat_map (with_next base h) rest)) stands.within)
+            (ap Some stands.under)
 
 -- without a handle, an order is the same before and after that handle was put or moved
 
@@ -81,7 +84,8 @@ others_stay h base order = go (h == base) (base == 0)
     twice : without h (without h order) ≡ without h order
     twice = none_out (λ x. x == h) (without h order) (absent_out h order)
 
-    go : (b c : Bool) → without h (cond b order (cond c (h ∷ without h order) (flat_map (with_next base h) (without h order)))) ≡ without h order
+    go : (b c : Bool) → without h (cond b order (cond c (h ∷ without h order) (flat_map (with_next base h) (without h order))))
+        ≡ without h order
     go true c = refl
     go false true = rw (eq-eqb h h refl) twice
     go false false = without_put h base (without h order) ∙ twice
@@ -114,7 +118,9 @@ times_once h (x ∷ xs) apart there = go (x == h) refl (times_once h xs apart.1)
 -- no move makes a handle stand twice
 
 after_insert : (c : CachedScene) (order : List ℕ) (illegal full : Bool) → AreApart c.order → AreApart order
-    → AreApart (left_after c (refuse_if refused.IllegalArgument illegal >>= (λ _. refuse_if refused.Limit full >>= (λ _. Ok (record c { order = order }))))).order
+    → AreApart
+        (left_after c (refuse_if refused.IllegalArgument illegal >>=
+        (λ _. refuse_if refused.Limit full >>= (λ _. Ok (record c { order = order }))))).order
 after_insert c order true full before after = before
 after_insert c order false true before after = before
 after_insert c order false false before after = after
@@ -126,14 +132,16 @@ after_remove c order false before after = after
 
 apart_moved : (c : CachedScene) (m : Move) → AreApart c.order → AreApart (moved c m).order
 apart_moved c (put h base) apart =
-    after_insert c (inserted h base c.order) (not (is_base base c.order)) (has_no_room h c.order) apart (apart_inserted h base c.order apart)
+    after_insert c (inserted h base c.order) (not (is_base base c.order)) (has_no_room h c.order) apart
+        (apart_inserted h base c.order apart)
 apart_moved c (take h) apart = after_remove c (without h c.order) (not (is_in h c.order)) apart (apart_without h c.order apart)
 
 apart_run : (moves : List Move) (c : CachedScene) → AreApart c.order → AreApart (scene_after c moves).order
 apart_run [] c apart = apart
 apart_run (m ∷ moves) c apart = apart_run moves (moved c m) (apart_moved c m apart)
 
-pub once_after : (c : CachedScene) (moves : List Move) (h : ℕ) → c.order ≡ [] → is_in h (scene_after c moves).order ≡ true → times h (scene_after c moves).order ≡ 1
+pub once_after : (c : CachedScene) (moves : List Move) (h : ℕ) → c.order ≡ [] → is_in h (scene_after c moves).order ≡ true
+    → times h (scene_after c moves).order ≡ 1
 once_after c moves h none there =
     let apart : AreApart c.order = rw none tt in
     times_once h (scene_after c moves).order (apart_run moves c apart) there

@@ -10,7 +10,8 @@ use Rattle.wf_scene.specs.declared.element.Element.{Element}
 use Rattle.wf_words.specs.Options.{◌>>=◌}
 use Rattle.wf_scene.specs.Values.{component, coordinate_of, extent_of, rect_of, flag_of, turn_of, filter_of, transparency_of, channel_of}
 use Rattle.wf_pixel.specs.Choice.{is_coordinate}
-use Rattle.wf_scene.specs.Elements.{change_of, with_dest, with_src, with_flip, with_turn, with_filter, with_transparency, with_alpha, with_source, with_mask}
+use Rattle.wf_scene.specs.Elements.{change_of, with_dest, with_src, with_flip, with_turn, with_filter, with_transparency, with_alpha,
+    with_source, with_mask}
 use Rattle.wf_scene.specs.Cached.{is_placed}
 
 -- a change that keeps the handle
@@ -22,7 +23,8 @@ abbrev pub KeepsPlace : (Element → Element) → Type 0
 KeepsPlace f = (e : Element) → IsTrue (is_placed e) → IsTrue (is_placed (f e))
 
 -- a change by a value keeps what each change by such a value keeps
-made_of : {A : Type 0} (Keeps : (Element → Element) → Type 0) (w : A → Element → Element) (o : Option A) (f : Element → Element) → ((a : A) → o ≡ Some a → Keeps (w a)) → option_map w o ≡ Some f → Keeps f
+made_of : {A : Type 0} (Keeps : (Element → Element) → Type 0) (w : A → Element → Element) (o : Option A) (f : Element → Element)
+    → ((a : A) → o ≡ Some a → Keeps (w a)) → option_map w o ≡ Some f → Keeps f
 made_of Keeps w None f keeps is = absurd cc
 made_of Keeps w (Some a) f keeps is = let same : w a ≡ f = cc in subst Keeps same (keeps a refl)
 
@@ -52,7 +54,8 @@ rect_in_range v r is =
     go (coordinate_of (component v 0)) (coordinate_of (component v 1)) (extent_of (component v 2)) (extent_of (component v 3)) refl refl is
   where
     go : (a b : Option ℤ) (c d : Option ℕ) → coordinate_of (component v 0) ≡ a → coordinate_of (component v 1) ≡ b
-        → (a >>= (λ x. b >>= (λ y. c >>= (λ w. d >>= (λ h. Some (record { x = x; y = y; w = w; h = h })))))) ≡ Some r → (is_coordinate r.x && is_coordinate r.y) ≡ true
+        → (a >>= (λ x. b >>= (λ y. c >>= (λ w. d >>= (λ h. Some (record { x = x; y = y; w = w; h = h })))))) ≡ Some r
+            → (is_coordinate r.x && is_coordinate r.y) ≡ true
     go (Some x) (Some y) (Some w) (Some h) ex ey made =
         let same : ◌≡◌ {A = Rect} (record { x = x; y = y; w = w; h = h }) r = cc in
         let both = and_from (is_coordinate x) (is_coordinate y) (in_range (component v 0) x ex) (in_range (component v 1) y ey) in

@@ -66,7 +66,8 @@ pub(crate) fn layer_of<L: Look>(look: &L, element: &Element) -> Result<Layer, u3
 /// The stream of an element's mask, 0 where no mask applies, or None where its mask is not live or has another size than
 /// the destination.
 fn mask_stream<L: Look>(look: &L, element: &Element) -> Option<u32>
-    ensures { let sight = L.sight look.now in result ≡ (if scene.is_covered sight element.now then Some (scene.mask_stream sight element.now) else None) }
+    ensures { let sight = L.sight look.now in
+        result ≡ (if scene.is_covered sight element.now then Some (scene.mask_stream sight element.now) else None) }
 {
     if !element.style.transparency.mask {
         return Some(0);

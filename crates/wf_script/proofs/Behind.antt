@@ -13,6 +13,7 @@ module _ {A : Type 0} where
   none_before (Ok others) = refl
   none_before (Err broken) = refl
 
-  pub joined : (done : List A) (x : A) (read : Result (List A) Rule) → behind done (read >>= (λ others. Ok (x ∷ others))) ≡ behind (done ++ x ∷ []) read
+  pub joined : (done : List A) (x : A) (read : Result (List A) Rule)
+      → behind done (read >>= (λ others. Ok (x ∷ others))) ≡ behind (done ++ x ∷ []) read
   joined done x (Ok others) = ap (λ (s : List A). Ok s) (sym (append_assoc done (x ∷ []) others))
   joined done x (Err broken) = refl

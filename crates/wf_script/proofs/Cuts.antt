@@ -1,5 +1,6 @@
 -- Texts that are cut into lines and words.
-use Rattle.std.proofs.Common.{◌≡◌, ◌≢◌, ◌∙◌, ℕ, ◌+◌, ◌<◌, ◌==◌, ◌⊎◌, inl, inr, Bool, not, Option, Some, None, MatchOption, Bor, List, [], ◌∷◌, ◌++◌, length, take, filter, position, unwrap_or, refl, sym, ap, arith, append-nil}
+use Rattle.std.proofs.Common.{◌≡◌, ◌≢◌, ◌∙◌, ℕ, ◌+◌, ◌<◌, ◌==◌, ◌⊎◌, inl, inr, Bool, not, Option, Some, None, MatchOption, Bor, List, [],
+    ◌∷◌, ◌++◌, length, take, filter, position, unwrap_or, refl, sym, ap, arith, append-nil}
 use Rattle.std.proofs.lemmas.Bool.{cases_lt, cases_Bool, lt-ltb, le-ltb, eqb-true}
 use Rattle.std.proofs.lemmas.List.{drop_all, take_all}
 use Rattle.std.proofs.lemmas.List.Splits.{slice_split_first, slice_split_none}
@@ -26,7 +27,8 @@ module _ (p : ℕ → Bool) where
     | inl here ↦ inr (slice_split_first p xs 0 here)
     | inr none ↦
         let all : take (position_or_len p xs) xs ≡ xs = take_all (position_or_len p xs) xs none in
-        inl (slice_split_none p xs (λ k d h. fails_before_first p xs k d (omega arith)) ∙ ap (λ (ys : List ℕ). ys ∷ []) (sym all), drop_all (position_or_len p xs + 1) xs (omega arith), all)
+        inl (slice_split_none p xs (λ k d h. fails_before_first p xs k d (omega arith)) ∙ ap (λ (ys : List ℕ). ys ∷ []) (sym all),
+            drop_all (position_or_len p xs + 1) xs (omega arith), all)
   ]
 
   -- there is a piece
@@ -37,7 +39,8 @@ module _ (p : ℕ → Bool) where
   ]
 
 -- the first line, and those behind it
-pub first_line : (text : List ℕ) → 0 < length text → lines_of text ≡ before_first (λ b. b == 10) text ∷ lines_of (after_first (λ b. b == 10) text)
+pub first_line : (text : List ℕ) → 0 < length text
+    → lines_of text ≡ before_first (λ b. b == 10) text ∷ lines_of (after_first (λ b. b == 10) text)
 unfolding lines_of
 first_line [] some = absurd (omega arith)
 first_line (x ∷ xs) some =
@@ -46,7 +49,8 @@ first_line (x ∷ xs) some =
     elim (first_piece p text) [
       | inl last ↦
           let end : without_empty_end (before_first p text ∷ []) ≡ before_first p text ∷ [] = rw last.2 refl in
-          ap without_empty_end last.0 ∙ end ∙ ap (λ (behind : List ℕ). before_first p text ∷ without_empty_end (slice_split p behind)) (sym last.1)
+          ap without_empty_end last.0 ∙ end ∙ ap (λ (behind : List ℕ). before_first p text ∷ without_empty_end (slice_split p behind))
+              (sym last.1)
       | inr more ↦
           let piece = some_piece p (after_first p text) in
           ap without_empty_end (more ∙ ap (λ (ys : List (List ℕ)). before_first p text ∷ ys) piece.2)
@@ -75,17 +79,21 @@ filter_first w ws = elim (cases_Bool (is_word w)) [
 cut_word : (text : List ℕ) → words_in text ≡ filter is_word (before_first is_blank text ∷ []) ++ words_in (after_first is_blank text)
 unfolding words_in
 cut_word text = elim (first_piece is_blank text) [
-  | inl last ↦ ap (filter is_word) last.0 ∙ sym (ap (λ (behind : List ℕ). filter is_word (before_first is_blank text ∷ []) ++ words_in behind) last.1 ∙ append-nil (filter is_word (before_first is_blank text ∷ [])))
+  | inl last ↦ ap (filter is_word) last.0
+      ∙ sym (ap (λ (behind : List ℕ). filter is_word (before_first is_blank text ∷ []) ++ words_in behind) last.1
+      ∙ append-nil (filter is_word (before_first is_blank text ∷ [])))
   | inr more ↦ ap (filter is_word) more ∙ filter_first (before_first is_blank text) (slice_split is_blank (after_first is_blank text))
 ]
 
 -- the first piece is a word
-pub next_is_word : (text word rest : List ℕ) → word ≡ before_first is_blank text → rest ≡ after_first is_blank text → 0 < length word → words_in text ≡ word ∷ words_in rest
+pub next_is_word : (text word rest : List ℕ) → word ≡ before_first is_blank text → rest ≡ after_first is_blank text → 0 < length word
+    → words_in text ≡ word ∷ words_in rest
 next_is_word text [] rest front behind some = absurd (omega arith)
 next_is_word text (b ∷ bs) rest front behind some = cut_word text ∙ rw (← front, ← behind) refl
 
 -- the first piece is none
-pub next_is_none : (text word rest : List ℕ) → word ≡ before_first is_blank text → rest ≡ after_first is_blank text → length word ≡ 0 → words_in text ≡ words_in rest
+pub next_is_none : (text word rest : List ℕ) → word ≡ before_first is_blank text → rest ≡ after_first is_blank text → length word ≡ 0
+    → words_in text ≡ words_in rest
 next_is_none text [] rest front behind none = cut_word text ∙ rw (← front, ← behind) refl
 next_is_none text (b ∷ bs) rest front behind none = absurd (omega arith)
 
@@ -102,9 +110,12 @@ no_return (x ∷ []) none = elim (cases_Bool (x == 13)) [
   | inl is ↦ absurd (none [] (ap (λ (b : ℕ). b ∷ []) (eqb-true x 13 is)))
   | inr isnt ↦ rw isnt refl
 ]
-no_return (x ∷ y ∷ ys) none = ap (λ (zs : List ℕ). x ∷ zs) (no_return (y ∷ ys) (λ front same. none (x ∷ front) (ap (λ (zs : List ℕ). x ∷ zs) same)))
+no_return (x ∷ y ∷ ys) none = ap (λ (zs : List ℕ). x ∷ zs)
+    (no_return (y ∷ ys) (λ front same. none (x ∷ front) (ap (λ (zs : List ℕ). x ∷ zs) same)))
 
 -- what is left of a line, where its end may have been found to be a carriage return
-pub without_ending : (line : Bor (List ℕ)) (found : Option (Bor (List ℕ))) → MatchOption found ((front : List ℕ) → line.now ≢ front ++ 13 ∷ []) (λ x. line.now ≡ x.now ++ 13 ∷ []) → (unwrap_or found line).now ≡ without_return line.now
+pub without_ending : (line : Bor (List ℕ)) (found : Option (Bor (List ℕ)))
+    → MatchOption found ((front : List ℕ) → line.now ≢ front ++ 13 ∷ []) (λ x. line.now ≡ x.now ++ 13 ∷ [])
+    → (unwrap_or found line).now ≡ without_return line.now
 without_ending line None none = sym (no_return line.now none)
 without_ending line (Some x) is = sym (ap without_return is ∙ return_dropped x.now)

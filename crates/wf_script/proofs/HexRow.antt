@@ -8,7 +8,8 @@ use Rattle.wf_script.specs.PaintWords.{hex_pixel, hex_pixels}
 use Rattle.wf_script.proofs.Behind.{behind, joined}
 
 -- eight digits are a pixel
-eight : (word : List ℕ) → 8 ≤ length word → hex_pixels word ≡ (hex_pixel (take 8 word) >>= (λ pixel. hex_pixels (drop 8 word) >>= (λ pixels. Ok (pixel ∷ pixels))))
+eight : (word : List ℕ) → 8 ≤ length word → hex_pixels word
+    ≡ (hex_pixel (take 8 word) >>= (λ pixel. hex_pixels (drop 8 word) >>= (λ pixels. Ok (pixel ∷ pixels))))
 unfolding hex_pixels
 eight (a ∷ b ∷ c ∷ d ∷ e ∷ f ∷ g ∷ h ∷ rest) long = refl
 eight _ long = absurd (omega arith)
@@ -21,13 +22,15 @@ too_short (a ∷ b ∷ c ∷ d ∷ e ∷ f ∷ g ∷ h ∷ rest) some short = ab
 too_short _ some short = refl
 
 -- one more pixel
-pub pixel_more : (done : List Rgba) (word digits left : List ℕ) (pixel : Rgba) → 8 ≤ length word → digits ≡ take 8 word → left ≡ drop 8 word → hex_pixel digits ≡ Ok pixel → behind done (hex_pixels word) ≡ behind (done ++ pixel ∷ []) (hex_pixels left)
+pub pixel_more : (done : List Rgba) (word digits left : List ℕ) (pixel : Rgba) → 8 ≤ length word → digits ≡ take 8 word → left ≡ drop 8 word
+    → hex_pixel digits ≡ Ok pixel → behind done (hex_pixels word) ≡ behind (done ++ pixel ∷ []) (hex_pixels left)
 pixel_more done word digits left pixel long front back is =
     let read : hex_pixels word ≡ (hex_pixels left >>= (λ pixels. Ok (pixel ∷ pixels))) = eight word long ∙ rw (← front, ← back, is) refl in
     ap (behind done) read ∙ joined done pixel (hex_pixels left)
 
 -- digits that are no pixel
-pub no_pixel : (done : List Rgba) (word digits : List ℕ) (broken : Rule) → 8 ≤ length word → digits ≡ take 8 word → hex_pixel digits ≡ Err broken → behind done (hex_pixels word) ≡ Err broken
+pub no_pixel : (done : List Rgba) (word digits : List ℕ) (broken : Rule) → 8 ≤ length word → digits ≡ take 8 word
+    → hex_pixel digits ≡ Err broken → behind done (hex_pixels word) ≡ Err broken
 no_pixel done word digits broken long front isnt =
     let read : hex_pixels word ≡ Err broken = eight word long ∙ rw (← front, isnt) refl in
     ap (behind done) read

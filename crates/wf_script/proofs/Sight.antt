@@ -1,5 +1,6 @@
 -- One more line: who sees which name behind it.
-use Rattle.std.proofs.Common.{◌≡◌, ◌∙◌, ℕ, ◌==◌, Bool, true, false, ◌&&◌, ◌||◌, List, [], ◌∷◌, ◌++◌, ◌<◌, Option, Some, cond, slice_index_or, refl, sym, ap, arith}
+use Rattle.std.proofs.Common.{◌≡◌, ◌∙◌, ℕ, ◌==◌, Bool, true, false, ◌&&◌, ◌||◌, List, [], ◌∷◌, ◌++◌, ◌<◌, Option, Some, cond,
+    slice_index_or, refl, sym, ap, arith}
 use Rattle.std.proofs.lemmas.List.Folds.{list_all-append, list_any-append}
 use Rattle.wf_script.specs.declared.line.Line.{Line}
 use Rattle.wf_script.specs.declared.name.Name.{Name}
@@ -15,7 +16,8 @@ alone : (z n : Bool) → (z && (n || false)) ≡ (z && n)
 alone z n = grind arith
 
 -- the setup binds what it bound, and what a line of it binds
-setup_more : (name : Name) (lines : List Line) (l : Line) → setup_binds name (lines ++ l ∷ []) ≡ (setup_binds name lines || (is_setup lines && ((l.client == 0) && is_name_in name l.name)))
+setup_more : (name : Name) (lines : List Line) (l : Line)
+    → setup_binds name (lines ++ l ∷ []) ≡ (setup_binds name lines || (is_setup lines && ((l.client == 0) && is_name_in name l.name)))
 setup_more name [] l = alone (l.client == 0) (is_name_in name l.name)
 setup_more name (x ∷ xs) l =
     ap (λ more. (x.client == 0) && (is_name_in name x.name || more)) (setup_more name xs l)
@@ -25,11 +27,15 @@ regroup : (s p z n a c : Bool) → ((s || (p && (z && n))) || (a || ((c && n) ||
 regroup s p z n a c = grind arith
 
 -- a client sees what it saw, and what a line of its own or of the setup binds
-visible_more : (lines : List Line) (l : Line) (client : ℕ) (name : Name) → is_visible (lines ++ l ∷ []) client name ≡ (is_visible lines client name || (is_name_in name l.name && ((is_setup lines && (l.client == 0)) || (l.client == client))))
+visible_more : (lines : List Line) (l : Line) (client : ℕ) (name : Name)
+    → is_visible (lines ++ l ∷ []) client name ≡ (is_visible lines client name
+    || (is_name_in name l.name && ((is_setup lines && (l.client == 0)) || (l.client == client))))
 visible_more lines l client name =
     ap (λ setup. setup || list_any (binds_for client name) (lines ++ l ∷ [])) (setup_more name lines l)
-    ∙ ap (λ own. (setup_binds name lines || (is_setup lines && ((l.client == 0) && is_name_in name l.name))) || own) (list_any-append (binds_for client name) lines (l ∷ []))
-    ∙ regroup (setup_binds name lines) (is_setup lines) (l.client == 0) (is_name_in name l.name) (list_any (binds_for client name) lines) (l.client == client)
+    ∙ ap (λ own. (setup_binds name lines || (is_setup lines && ((l.client == 0) && is_name_in name l.name))) || own)
+        (list_any-append (binds_for client name) lines (l ∷ []))
+    ∙ regroup (setup_binds name lines) (is_setup lines) (l.client == 0) (is_name_in name l.name) (list_any (binds_for client name) lines)
+        (l.client == client)
 
 and_alone : (s z : Bool) → (s && (z && true)) ≡ (s && z)
 and_alone s z = grind arith
@@ -37,7 +43,8 @@ and_alone s z = grind arith
 -- what is right for the lines is right for one more
 pub sees_more : (seen left : declared.Seen) (lines : List Line) (l : Line) →
     left.in_setup ≡ (seen.in_setup && (l.client == 0)) →
-    ((client : ℕ) (name : Name) → client < 8 → sees left client name ≡ (sees seen client name || (is_name_in name l.name && (left.in_setup || (l.client == client))))) →
+    ((client : ℕ) (name : Name) → client < 8 → sees left client name
+        ≡ (sees seen client name || (is_name_in name l.name && (left.in_setup || (l.client == client))))) →
     SeesAll seen lines → SeesAll left (lines ++ l ∷ [])
 sees_more seen left lines l setup more right =
     let still : left.in_setup ≡ (is_setup lines && (l.client == 0)) = setup ∙ ap (λ s. s && (l.client == 0)) right.setup in

@@ -7,7 +7,8 @@ use Rattle.wf_script.specs.Grammar.{sizes}
 use Rattle.wf_script.specs.Words.{Word, size_of}
 
 -- one more size
-pub size_more : (done : List Size) (size : Size) (w : Word) (ws : List Word) → size_of w ≡ Some size → behind done (sizes (w ∷ ws)) ≡ behind (done ++ size ∷ []) (sizes ws)
+pub size_more : (done : List Size) (size : Size) (w : Word) (ws : List Word) → size_of w ≡ Some size
+    → behind done (sizes (w ∷ ws)) ≡ behind (done ++ size ∷ []) (sizes ws)
 unfolding sizes
 size_more done size w ws is = rw is (joined done size (sizes ws))
 

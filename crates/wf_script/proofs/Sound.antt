@@ -1,5 +1,6 @@
 -- What is read keeps the ranges: ports that may be declared, clients and paints in their ranges.
-use Rattle.std.proofs.Common.{◌≡◌, ◌∙◌, ℕ, ◌+◌, ◌-◌, ◌<◌, ◌≤◌, Bool, true, false, not, ◌&&◌, ◌||◌, ◌==◌, nat_lt, nat_le, List, [], ◌∷◌, ◌++◌, length, codes, Option, Some, None, Result, Ok, Err, IsTrue, refl, length-append, sym, ap, subst, unwrap_or, arith}
+use Rattle.std.proofs.Common.{◌≡◌, ◌∙◌, ℕ, ◌+◌, ◌-◌, ◌<◌, ◌≤◌, Bool, true, false, not, ◌&&◌, ◌||◌, ◌==◌, nat_lt, nat_le, List, [], ◌∷◌,
+    ◌++◌, length, codes, Option, Some, None, Result, Ok, Err, IsTrue, refl, length-append, sym, ap, subst, unwrap_or, arith}
 use Rattle.std.specs.Prelude.{if◌then◌else◌, is_some}
 use Rattle.std.specs.List.{list_all, before_first, after_first}
 use Rattle.std.specs.Str.{bytes_eq, byte}
@@ -16,7 +17,9 @@ use Rattle.wf_script.specs.declared.line.Line.{Line}
 use Rattle.wf_script.specs.declared.rule.Rule.{Rule}
 use Rattle.wf_script.specs.declared.rule.Rule.TheVariants as rule
 use Rattle.wf_script.specs.Forms.{arguments, forms}
-use Rattle.wf_script.specs.Grammar.{Reading, Parts, alone, at_line, bound_name, has_its_name, is_its_client, is_taken, line_words, parts_of, has_lines, has_ports, is_mode_count, end_line, event_line, line_of, no_event_here, no_pipes_here, no_port_here, nothing_read, pipes_line, port_line, read_line, read_lines, script_of, sizes}
+use Rattle.wf_script.specs.Grammar.{Reading, Parts, alone, at_line, bound_name, has_its_name, is_its_client, is_taken, line_words,
+    parts_of, has_lines, has_ports, is_mode_count, end_line, event_line, line_of, no_event_here, no_pipes_here, no_port_here, nothing_read,
+    pipes_line, port_line, read_line, read_lines, script_of, sizes}
 use Rattle.wf_script.specs.Script.{IsScript, is_line, may_paint}
 use Rattle.wf_script.specs.Visible.{is_visible}
 use Rattle.wf_script.specs.Words.{Word, is_allowed, without_comment, without_return, is_word, client_of, count_in, sides, size_of, look_up}
@@ -43,9 +46,11 @@ goes_on r p q done same = let is : p ≡ q = cc in subst (λ (x : Reading). Goes
 
 size_sound : (w : Word) (s : Size) → size_of w ≡ Some s → has_sides s ≡ true
 unfolding size_of
-size_sound w s h = of_sides (count_in 1 1024 (before_first (λ b. b == byte "x") w)) (count_in 1 1024 (after_first (λ b. b == byte "x") w)) refl refl h
+size_sound w s h = of_sides (count_in 1 1024 (before_first (λ b. b == byte "x") w)) (count_in 1 1024 (after_first (λ b. b == byte "x") w))
+    refl refl h
   where
-    of_sides : (a b : Option ℕ) → count_in 1 1024 (before_first (λ b. b == byte "x") w) ≡ a → count_in 1 1024 (after_first (λ b. b == byte "x") w) ≡ b → sides a b ≡ Some s → has_sides s ≡ true
+    of_sides : (a b : Option ℕ) → count_in 1 1024 (before_first (λ b. b == byte "x") w) ≡ a
+        → count_in 1 1024 (after_first (λ b. b == byte "x") w) ≡ b → sides a b ≡ Some s → has_sides s ≡ true
     of_sides None b ha hb h = absurd cc
     of_sides (Some a) None ha hb h = absurd cc
     of_sides (Some a) (Some b) ha hb h =
@@ -53,17 +58,21 @@ size_sound w s h = of_sides (count_in 1 1024 (before_first (λ b. b == byte "x")
         let second = count_within 1 1024 (after_first (λ b. b == byte "x") w) b hb in
         let is : record { w = a; h = b } ≡ s = cc in
         subst (λ (x : Size). has_sides x ≡ true) is
-        (and_from (is_side a) (is_side b) (and_from (nat_le 1 a) (nat_le a 1024) (at_most 1 a first.0) (at_most a 1024 first.1)) (and_from (nat_le 1 b) (nat_le b 1024) (at_most 1 b second.0) (at_most b 1024 second.1)))
+        (and_from (is_side a) (is_side b) (and_from (nat_le 1 a) (nat_le a 1024) (at_most 1 a first.0) (at_most a 1024 first.1))
+            (and_from (nat_le 1 b) (nat_le b 1024) (at_most 1 b second.0) (at_most b 1024 second.1)))
 
 sizes_sound : (ws : List Word) (read : List Size) → sizes ws ≡ Ok read → (list_all has_sides read ≡ true) × (length read ≡ length ws)
 unfolding sizes
-sizes_sound [] read h = let none : [] ≡ read = cc in (subst (λ (x : List Size). list_all has_sides x ≡ true) none refl, sym (ap length none))
+sizes_sound [] read h = let none : [] ≡ read = cc in
+    (subst (λ (x : List Size). list_all has_sides x ≡ true) none refl, sym (ap length none))
 sizes_sound (w ∷ ws) read h =
     let size = bind_ok (found_or rule.Word (size_of w)) _ read h in
     let others = bind_ok (sizes ws) _ read size.2 in
     let all : size.0 ∷ others.0 ≡ read = cc in
     let later = sizes_sound ws others.0 others.1 in
-    (subst (λ (x : List Size). list_all has_sides x ≡ true) all (and_from (has_sides size.0) (list_all has_sides others.0) (size_sound w size.0 (found_ok rule.Word (size_of w) size.0 size.1)) later.0), omega (arith, ap length all, later.1))
+    (subst (λ (x : List Size). list_all has_sides x ≡ true) all
+        (and_from (has_sides size.0) (list_all has_sides others.0) (size_sound w size.0 (found_ok rule.Word (size_of w) size.0 size.1))
+        later.0), omega (arith, ap length all, later.1))
 
 all_more : {A : Type 0} (p : A → Bool) (xs : List A) (x : A) → list_all p xs ≡ true → p x ≡ true → list_all p (xs ++ x ∷ []) ≡ true
 all_more p xs x all one =
@@ -75,8 +84,10 @@ port_sound r left ws sound h =
     let here = bind_ok (refuse_if rule.Place (no_port_here r)) _ left h in
     let count = bind_ok (refuse_if rule.Count (not (is_mode_count (length ws)))) _ left here.2 in
     let modes = bind_ok (sizes ws) _ left count.2 in
-    let free = none_of_four r.ended (is_some r.pipes) (has_lines r) (not (nat_lt (length r.modes) 4)) (passed rule.Place (no_port_here r) here.0 here.1) in
-    let counted = and_parts (nat_le 1 (length ws)) (nat_le (length ws) 4) (not_false (is_mode_count (length ws)) (passed rule.Count (not (is_mode_count (length ws))) count.0 count.1)) in
+    let free = none_of_four r.ended (is_some r.pipes) (has_lines r) (not (nat_lt (length r.modes) 4))
+        (passed rule.Place (no_port_here r) here.0 here.1) in
+    let counted = and_parts (nat_le 1 (length ws)) (nat_le (length ws) 4)
+        (not_false (is_mode_count (length ws)) (passed rule.Count (not (is_mode_count (length ws))) count.0 count.1)) in
     let read = sizes_sound ws modes.0 modes.1 in
     let new : Modes = record { sizes = record { items = modes.0 } } in
     let low : 1 ≤ length modes.0 = omega (arith, leb-true 1 (length ws) counted.0, read.1) in
@@ -85,7 +96,8 @@ port_sound r left ws sound h =
     goes_on r (record r { modes = r.modes ++ new ∷ [] }) left (record {
       sound = record {
         modes = all_more may_have r.modes new sound.modes
-            (all_three (nat_le 1 (length modes.0)) (nat_le (length modes.0) 4) (list_all has_sides modes.0) (at_most 1 (length modes.0) low) (at_most (length modes.0) 4 high) read.0);
+            (all_three (nat_le 1 (length modes.0)) (nat_le (length modes.0) 4) (list_all has_sides modes.0) (at_most 1 (length modes.0) low)
+                (at_most (length modes.0) 4 high) read.0);
         few = omega (arith, room, length-append r.modes (new ∷ []));
         pipes = sound.pipes;
         lines = sound.lines;
@@ -133,7 +145,8 @@ end_sound r left ws sound h =
     second false b h = h
     second true b h = absurd cc
 
-parts_are : (p q : Parts) → AreWords p.arguments → (let r : Result Parts Rule = Ok p in let s : Result Parts Rule = Ok q in r ≡ s) → AreWords q.arguments
+parts_are : (p q : Parts) → AreWords p.arguments → (let r : Result Parts Rule = Ok p in let s : Result Parts Rule = Ok q in r ≡ s)
+    → AreWords q.arguments
 parts_are p q are same = let is : p ≡ q = cc in subst (λ (x : Parts). AreWords x.arguments) is are
 
 parts_words : (ws : List Word) (parts : Parts) → AreWords ws → parts_of ws ≡ Ok parts → AreWords parts.arguments
@@ -152,11 +165,13 @@ parts_words (v ∷ w ∷ u ∷ us) parts words h =
     let named : Parts = record { name = Some v; verb = u; arguments = us } in
     let read : Bool → Result Parts Rule = λ b. if b then Ok named else Ok plain in
     elim (bytes_eq w (codes "=")) as (λ b. read b ≡ Ok parts → AreWords parts.arguments) [
-      | true ↦ λ same. parts_are named parts (and_parts (is_word u) (list_all is_word us) (and_parts (is_word w) (list_all is_word (u ∷ us)) behind).1).1 same
+      | true ↦ λ same. parts_are named parts (and_parts (is_word u) (list_all is_word us)
+          (and_parts (is_word w) (list_all is_word (u ∷ us)) behind).1).1 same
       | false ↦ λ same. parts_are plain parts behind same
     ] h
 
-event_sound : (r left : Reading) (client : ℕ) (ws : List Word) → client < 8 → AreWords ws → IsSoundSoFar r → event_line r client ws ≡ Ok left → GoesOn r left
+event_sound : (r left : Reading) (client : ℕ) (ws : List Word) → client < 8 → AreWords ws → IsSoundSoFar r
+    → event_line r client ws ≡ Ok left → GoesOn r left
 unfolding event_line
 event_sound r left client ws small words sound h =
     let parts = bind_ok (parts_of ws) _ left h in
@@ -184,8 +199,10 @@ client_small : (w : Word) (n : ℕ) → client_of w ≡ Some n → n < 8
 client_small [] n h = absurd cc
 client_small (b ∷ c ∷ bs) n h = absurd cc
 client_small (b ∷ []) n h =
-    elim (nat_le (byte "0") b && nat_le b (byte "7")) as (λ t. (nat_le (byte "0") b && nat_le b (byte "7")) ≡ t → (if t then Some (b - byte "0") else None) ≡ Some n → n < 8) [
-      | true ↦ λ yes same. (let within = and_parts (nat_le (byte "0") b) (nat_le b (byte "7")) yes in let high = leb-true b (byte "7") within.1 in let is : b - byte "0" ≡ n = cc in omega arith)
+    elim (nat_le (byte "0") b && nat_le b (byte "7")) as (λ t. (nat_le (byte "0") b && nat_le b (byte "7")) ≡ t
+        → (if t then Some (b - byte "0") else None) ≡ Some n → n < 8) [
+      | true ↦ λ yes same. (let within = and_parts (nat_le (byte "0") b) (nat_le b (byte "7")) yes in
+          let high = leb-true b (byte "7") within.1 in let is : b - byte "0" ≡ n = cc in omega arith)
       | false ↦ λ no same. absurd cc
     ] refl h
 
@@ -196,11 +213,15 @@ words_sound r left (w ∷ ws) words sound h =
     let behind = (and_parts (is_word w) (list_all is_word ws) words).1 in
     let event = λ (e : (found_or rule.Client (client_of w) >>= (λ client. event_line r client ws)) ≡ Ok left). (
     let client = bind_ok (found_or rule.Client (client_of w)) _ left e in
-    event_sound r left client.0 ws (client_small w client.0 (found_ok rule.Client (client_of w) client.0 client.1)) behind sound client.2) in
+    event_sound r left client.0 ws (client_small w client.0 (found_ok rule.Client (client_of w) client.0 client.1)) behind sound
+        client.2) in
     by_word (bytes_eq w (codes "port")) (bytes_eq w (codes "pipes")) (bytes_eq w (codes "end")) event behind h
   where
-    by_word : (port pipes end : Bool) → ((found_or rule.Client (client_of w) >>= (λ client. event_line r client ws)) ≡ Ok left → GoesOn r left) → AreWords ws
-        → (if port then port_line r ws else (if pipes then pipes_line r ws else (if end then end_line r ws else (found_or rule.Client (client_of w) >>= (λ client. event_line r client ws))))) ≡ Ok left → GoesOn r left
+    by_word : (port pipes end : Bool) → ((found_or rule.Client (client_of w) >>= (λ client. event_line r client ws)) ≡ Ok left
+        → GoesOn r left) → AreWords ws
+        → (if port then port_line r ws else (if pipes then pipes_line r ws else
+            (if end then end_line r ws else (found_or rule.Client (client_of w) >>= (λ client. event_line r client ws))))) ≡ Ok left
+            → GoesOn r left
     by_word true pipes end event are e = port_sound r left ws sound e
     by_word false true end event are e = pipes_sound r left ws sound e
     by_word false false true event are e = end_sound r left ws sound e
@@ -217,11 +238,14 @@ at_line_ok n (Ok r) left h = let is : r ≡ left = cc in ap (λ (x : Reading). O
 at_line_ok n (Err broken) left h = absurd cc
 
 -- the lines of a text that is read to its end
-lines_sound : (n : ℕ) (r left : Reading) (ls : List (List ℕ)) → IsSoundSoFar r → length r.lines + 2 ≤ n → n ≤ 16385 → read_lines n r ls ≡ Ok left → IsSoundSoFar left × (left.ended ≡ true) × (length left.lines ≤ 16383)
+lines_sound : (n : ℕ) (r left : Reading) (ls : List (List ℕ)) → IsSoundSoFar r → length r.lines + 2 ≤ n → n ≤ 16385
+    → read_lines n r ls ≡ Ok left → IsSoundSoFar left × (left.ended ≡ true) × (length left.lines ≤ 16383)
 unfolding read_lines
 lines_sound n r left [] sound few most h =
-    elim r.ended as (λ b. r.ended ≡ b → (if b then Ok r else Err (fault.NoEnd n)) ≡ Ok left → IsSoundSoFar left × (left.ended ≡ true) × (length left.lines ≤ 16383)) [
-      | true ↦ λ ended same. (let is : r ≡ left = cc in subst (λ (x : Reading). IsSoundSoFar x × (x.ended ≡ true) × (length x.lines ≤ 16383)) is (sound, ended, omega arith))
+    elim r.ended as (λ b. r.ended ≡ b → (if b then Ok r else Err (fault.NoEnd n)) ≡ Ok left → IsSoundSoFar left × (left.ended ≡ true)
+        × (length left.lines ≤ 16383)) [
+      | true ↦ λ ended same. (let is : r ≡ left = cc in subst (λ (x : Reading). IsSoundSoFar x × (x.ended ≡ true)
+          × (length x.lines ≤ 16383)) is (sound, ended, omega arith))
       | false ↦ λ no same. absurd cc
     ] refl h
 lines_sound n r left (l ∷ ls) sound few most h =
@@ -240,7 +264,8 @@ script_sound r ls h =
     let all = lines_sound 2 nothing_read r ls nothing_sound (omega arith) (omega arith) h in
     record {
       ports = all_four (nat_le 1 (length r.modes)) (nat_le (length r.modes) 4) (list_all may_have r.modes) (nat_le (unwrap_or r.pipes 0) 8)
-          (at_most 1 (length r.modes) (all.0.ended all.1)) (at_most (length r.modes) 4 all.0.few) all.0.modes (at_most (unwrap_or r.pipes 0) 8 all.0.pipes);
+          (at_most 1 (length r.modes) (all.0.ended all.1)) (at_most (length r.modes) 4 all.0.few) all.0.modes
+              (at_most (unwrap_or r.pipes 0) 8 all.0.pipes);
       lines = all.0.lines;
       few = omega (arith, all.2);
     }

@@ -29,7 +29,8 @@ SizesAre (Err broken) read = read ≡ Err broken
 
 -- these parts of a line were found
 abbrev pub FindsParts : Result parts.Parts Rule → Result Parts Rule → Type 0
-FindsParts (Ok p) read = read ≡ Ok (record { name = option_map (λ w. w.now) p.name; verb = p.verb.now; arguments = words_in p.arguments.now })
+FindsParts (Ok p) read =
+    read ≡ Ok (record { name = option_map (λ w. w.now) p.name; verb = p.verb.now; arguments = words_in p.arguments.now })
 FindsParts (Err broken) read = read ≡ Err broken
 
 -- the fault of a line with a number

@@ -1,6 +1,7 @@
 //! The names that are bound so far, and who sees them.
 
-ghost use Rattle.std.specs.Prelude.{◌≡◌, ◌<◌, ◌++◌, ◌∷◌, ◌==◌, ◌||◌, ◌&&◌, [], ℕ, List, false, length, slice_index_or, OnOk, map, option_map, option_to_list};
+ghost use Rattle.std.specs.Prelude.{◌≡◌, ◌<◌, ◌++◌, ◌∷◌, ◌==◌, ◌||◌, ◌&&◌, [], ℕ, List, false, length, slice_index_or, OnOk, map,
+    option_map, option_to_list};
 ghost use Rattle.std.specs.List.{list_all, list_any};
 ghost use Rattle.wf_script.specs.declared.line.Line.{Line};
 ghost use Rattle.wf_script.specs.Given.{names_among};
@@ -86,7 +87,8 @@ impl<'a> Seen<'a> {
     /// Takes the line of a client in, with the name that it binds.
     pub(crate) fn take_line(&mut self, client: u8, name: Option<&'a [u8]>) -> Result<(), NoMemory>
         requires { client < CLIENTS }
-        ensures { OnOk result ((lines : List Line) (line : Line) → line.client ≡ client → line.name ≡ option_map (λ w. w.now) name.entry → SeesAll self.old lines → SeesAll self.new (lines ++ line ∷ [])) }
+        ensures { OnOk result ((lines : List Line) (line : Line) → line.client ≡ client → line.name ≡ option_map (λ w. w.now) name.entry
+            → SeesAll self.old lines → SeesAll self.new (lines ++ line ∷ [])) }
     {
         let in_setup = stays_setup(self.in_setup, client);
         self.bind(client, in_setup, name)?;
@@ -97,7 +99,9 @@ impl<'a> Seen<'a> {
     /// Binds the name of a client's line, in the setup or behind it, if there is one.
     fn bind(&mut self, client: u8, in_setup: bool, name: Option<&'a [u8]>) -> Result<(), NoMemory>
         requires { client < CLIENTS }
-        ensures { OnOk result ((other : ℕ) (word : List ℕ) → other < CLIENTS → sees self.new other word ≡ (sees self.old other word || (is_name_in word (option_map (λ w. w.now) name.entry) && (in_setup || (client == other))))) }
+        ensures { OnOk result ((other : ℕ) (word : List ℕ) → other < CLIENTS
+            → sees self.new other word ≡ (sees self.old other word
+            || (is_name_in word (option_map (λ w. w.now) name.entry) && (in_setup || (client == other))))) }
     {
         let Some(name) = name else {
             return Ok(());
@@ -111,7 +115,8 @@ impl<'a> Seen<'a> {
     fn clients_with(&self, client: u8, in_setup: bool, name: &'a [u8]) -> [bool; 8]
         requires { client < CLIENTS }
         ensures length { length result ≡ CLIENTS }
-        ensures seen { (other : ℕ) → other < CLIENTS → slice_index_or result other false ≡ (sees self.now other name.now || (in_setup || (client == other))) }
+        ensures seen { (other : ℕ) → other < CLIENTS → slice_index_or result other false
+            ≡ (sees self.now other name.now || (in_setup || (client == other))) }
     {
         if in_setup {
             return [true; 8];

@@ -1,5 +1,6 @@
 -- The handle table against the streams.
-use Rattle.std.proofs.Common.{◌≡◌, ℕ, ◌<◌, ◌≤◌, Bool, true, false, cond, ◌==◌, not, ◌&&◌, ◌||◌, List, [], ◌∷◌, ◌++◌, map, None, Some, refl, sym, ap, subst, ◌∙◌, arith}
+use Rattle.std.proofs.Common.{◌≡◌, ℕ, ◌<◌, ◌≤◌, Bool, true, false, cond, ◌==◌, not, ◌&&◌, ◌||◌, List, [], ◌∷◌, ◌++◌, map, None, Some, refl,
+    sym, ap, subst, ◌∙◌, arith}
 use Rattle.std.specs.List.{filter, count_by}
 use Rattle.std.specs.Option.{option_map, is_some}
 use Rattle.std.proofs.lemmas.Bool.Decides.{nat_tests}
@@ -10,7 +11,8 @@ use Rattle.wf_life.specs.declared.Kind.{Kind}
 use Rattle.wf_life.specs.declared.Kind.TheVariants as kind
 use Rattle.wf_life.specs.Handles.{Live, IsRising, same_kind, key_of, is_live, live_count, without}
 use Rattle.wf_stream.specs.Buffers.{Buffers}
-use Rattle.wf_stream.specs.Streams.{KeptStream, IsNumbered, is_stream, stream_of, number_of, has_handle, hand_over, under_handle, unnamed, change_stream, without_number}
+use Rattle.wf_stream.specs.Streams.{KeptStream, IsNumbered, is_stream, stream_of, number_of, has_handle, hand_over, under_handle, unnamed,
+    change_stream, without_number}
 use Rattle.wf_stream.specs.Joined.{is_of_stream, stream_handles, others_of, live_of, live_streams}
 use Rattle.wf_stream.proofs.Shelves.{change_below, numbered_room}
 
@@ -52,7 +54,8 @@ key_of_entries h (s ∷ streams) =
     let later = key_of_entries h streams in
     grind (arith, nat_tests, later)
 
-pub number_found : (h : ℕ) (live : List Live) (streams : List KeptStream) → stream_handles live ≡ live_streams streams → key_of h kind.Stream live ≡ number_of h streams
+pub number_found : (h : ℕ) (live : List Live) (streams : List KeptStream) → stream_handles live ≡ live_streams streams
+    → key_of h kind.Stream live ≡ number_of h streams
 number_found h live streams tied =
     key_of_streams h live ∙ ap (key_of h kind.Stream) tied ∙ key_of_entries h streams
 
@@ -63,10 +66,12 @@ key_of_others h k (l ∷ live) other =
     let apart = λ (is : is_stream l.kind ≡ true). entry_other k l.kind other is in
     grind (arith, nat_tests, later, apart)
 
-pub key_found : (h : ℕ) (k : Kind) (live : List Live) (streams : List KeptStream) → stream_handles live ≡ live_streams streams → key_of h k live ≡ cond (is_stream k) (number_of h streams) (key_of h k (others_of live))
+pub key_found : (h : ℕ) (k : Kind) (live : List Live) (streams : List KeptStream) → stream_handles live ≡ live_streams streams
+    → key_of h k live ≡ cond (is_stream k) (number_of h streams) (key_of h k (others_of live))
 key_found h k live streams tied =
     elim (is_stream k) as (λ b. is_stream k ≡ b → key_of h k live ≡ cond b (number_of h streams) (key_of h k (others_of live))) [
-      | true ↦ λ is. subst (λ (x : Kind). key_of h x live ≡ number_of h streams) (sym (is_stream_is k is)) (number_found h live streams tied)
+      | true ↦ λ is. subst (λ (x : Kind). key_of h x live ≡ number_of h streams) (sym (is_stream_is k is))
+          (number_found h live streams tied)
       | false ↦ λ other. key_of_others h k live other
     ] refl
 
@@ -97,10 +102,13 @@ count_others k (l ∷ live) other =
     let part = sum_by-cons (λ (x : Live). cond (same_kind x.kind k) 1 0) l (others_of live) in
     grind (arith, nat_tests, later, apart, whole, part)
 
-pub count_found : (k : Kind) (live : List Live) (streams : List KeptStream) → stream_handles live ≡ live_streams streams → live_count k live ≡ cond (is_stream k) (count_by has_handle streams) (live_count k (others_of live))
+pub count_found : (k : Kind) (live : List Live) (streams : List KeptStream) → stream_handles live ≡ live_streams streams
+    → live_count k live ≡ cond (is_stream k) (count_by has_handle streams) (live_count k (others_of live))
 count_found k live streams tied =
-    elim (is_stream k) as (λ b. is_stream k ≡ b → live_count k live ≡ cond b (count_by has_handle streams) (live_count k (others_of live))) [
-      | true ↦ λ is. subst (λ (x : Kind). live_count x live ≡ count_by has_handle streams) (sym (is_stream_is k is)) (count_streams live ∙ ap (live_count kind.Stream) tied ∙ count_entries streams)
+    elim (is_stream k) as (λ b. is_stream k ≡ b → live_count k live
+        ≡ cond b (count_by has_handle streams) (live_count k (others_of live))) [
+      | true ↦ λ is. subst (λ (x : Kind). live_count x live ≡ count_by has_handle streams) (sym (is_stream_is k is)) (count_streams live
+          ∙ ap (live_count kind.Stream) tied ∙ count_entries streams)
       | false ↦ λ other. count_others k live other
     ] refl
 
@@ -118,7 +126,8 @@ live_entries h (s ∷ streams) =
     let later = live_entries h streams in
     grind (arith, nat_tests, later)
 
-pub live_found : (h : ℕ) (live : List Live) (streams : List KeptStream) → stream_handles live ≡ live_streams streams → is_live h live ≡ is_some (stream_of h streams) || is_live h (others_of live)
+pub live_found : (h : ℕ) (live : List Live) (streams : List KeptStream) → stream_handles live ≡ live_streams streams
+    → is_live h live ≡ is_some (stream_of h streams) || is_live h (others_of live)
 live_found h live streams tied =
     live_split h live ∙ ap (λ (b : Bool). b || is_live h (others_of live)) (ap (is_live h) tied ∙ live_entries h streams)
 
@@ -133,7 +142,8 @@ pub rising_filter : (low high : ℕ) (p : Live → Bool) (live : List Live) → 
 rising_filter low high p [] rising = rising
 rising_filter low high p (l ∷ live) rising =
     let later = rising_filter l.handle high p live rising.1 in
-    elim (p l) as (λ b. IsRising low (cond b (l ∷ filter p live) (filter p live)) high) [ true ↦ (rising.0, later) | false ↦ rising_lower l.handle low high (filter p live) later (omega arith) ]
+    elim (p l) as (λ b. IsRising low (cond b (l ∷ filter p live) (filter p live)) high) [ true ↦ (rising.0, later) | false ↦ rising_lower
+        l.handle low high (filter p live) later (omega arith) ]
 
 -- a handle that lives is above the bound
 pub live_above : (low high h : ℕ) (live : List Live) → IsRising low live high → is_live h live ≡ true → low < h
@@ -148,31 +158,41 @@ data First (low high : ℕ) (s : KeptStream) (streams : List KeptStream) : Type 
   bare : s.handle ≡ 0 → First low high s streams
   named : low < s.handle → IsRising s.handle (live_streams streams) high → First low high s streams
 
-first_of_streams : (low high : ℕ) (s : KeptStream) (streams : List KeptStream) → IsRising low (live_streams (s ∷ streams)) high → First low high s streams
+first_of_streams : (low high : ℕ) (s : KeptStream) (streams : List KeptStream) → IsRising low (live_streams (s ∷ streams)) high
+    → First low high s streams
 first_of_streams low high s streams rising =
-    elim (s.handle == 0) as (λ b. (s.handle == 0) ≡ b → IsRising low (map live_of (cond (not b) (s ∷ filter has_handle streams) (filter has_handle streams))) high → First low high s streams) [
+    elim (s.handle == 0) as (λ b. (s.handle == 0) ≡ b
+        → IsRising low (map live_of (cond (not b) (s ∷ filter has_handle streams) (filter has_handle streams))) high
+        → First low high s streams) [
       | true ↦ λ is under. bare (grind (arith, nat_tests))
       | false ↦ λ is under. named under.0 under.1
     ] refl rising
 
-pub rest_of_streams : (low high : ℕ) (s : KeptStream) (streams : List KeptStream) → IsRising low (live_streams (s ∷ streams)) high → IsRising low (live_streams streams) high
+pub rest_of_streams : (low high : ℕ) (s : KeptStream) (streams : List KeptStream) → IsRising low (live_streams (s ∷ streams)) high
+    → IsRising low (live_streams streams) high
 rest_of_streams low high s streams rising =
-    elim (s.handle == 0) as (λ b. IsRising low (map live_of (cond (not b) (s ∷ filter has_handle streams) (filter has_handle streams))) high → IsRising low (live_streams streams) high) [
+    elim (s.handle == 0) as (λ b. IsRising low (map live_of (cond (not b) (s ∷ filter has_handle streams) (filter has_handle streams))) high
+        → IsRising low (live_streams streams) high) [
       | true ↦ λ under. under
       | false ↦ λ under. rising_lower s.handle low high (live_streams streams) under.1 (omega (arith, under.0))
     ] rising
 
 -- a first stream is not under a handle of those behind it
-pub handle_other : (low high h : ℕ) (s : KeptStream) (streams : List KeptStream) → IsRising low (live_streams (s ∷ streams)) high → 0 < h → is_live h (live_streams streams) ≡ true → (s.handle == h) ≡ false
+pub handle_other : (low high h : ℕ) (s : KeptStream) (streams : List KeptStream) → IsRising low (live_streams (s ∷ streams)) high → 0 < h
+    → is_live h (live_streams streams) ≡ true → (s.handle == h) ≡ false
 handle_other low high h s streams rising some live =
-    elim (first_of_streams low high s streams rising) [ bare is ↦ grind (arith, nat_tests) | named above more ↦ (let up = live_above s.handle high h (live_streams streams) more live in grind (arith, nat_tests, up)) ]
+    elim (first_of_streams low high s streams rising) [ bare is ↦ grind (arith, nat_tests) | named above
+        more ↦ (let up = live_above s.handle high h (live_streams streams) more live in grind (arith, nat_tests, up)) ]
 
 -- a handle below all names nothing
-unnamed_below : (low high h : ℕ) (streams : List KeptStream) → IsRising low (live_streams streams) high → 0 < h → h ≤ low → map (unnamed h) streams ≡ streams
+unnamed_below : (low high h : ℕ) (streams : List KeptStream) → IsRising low (live_streams streams) high → 0 < h → h ≤ low
+    → map (unnamed h) streams ≡ streams
 unnamed_below low high h [] rising some under = refl
 unnamed_below low high h (s ∷ streams) rising some under =
     let later = unnamed_below low high h streams (rest_of_streams low high s streams rising) some under in
-    let apart : (s.handle == h) ≡ false = elim (first_of_streams low high s streams rising) [ bare is ↦ grind (arith, nat_tests) | named above more ↦ grind (arith, nat_tests) ] in
+    let apart : (s.handle == h) ≡ false =
+        elim (first_of_streams low high s streams rising) [ bare is ↦ grind (arith, nat_tests) | named above more ↦ grind (arith, nat_tests)
+        ] in
     grind (arith, nat_tests, later, apart)
 
 -- the number that is found is above the bound
@@ -201,26 +221,33 @@ found_some h n (s ∷ streams) found =
     grind (arith, nat_tests, later)
 
 -- the stream that is found is the only one under its handle
-pub unnamed_found : (low high bottom top h n : ℕ) (streams : List KeptStream) → IsNumbered low streams high → IsRising bottom (live_streams streams) top → number_of h streams ≡ Some n → hand_over n 0 streams ≡ map (unnamed h) streams
+pub unnamed_found : (low high bottom top h n : ℕ) (streams : List KeptStream) → IsNumbered low streams high
+    → IsRising bottom (live_streams streams) top → number_of h streams ≡ Some n → hand_over n 0 streams ≡ map (unnamed h) streams
 unnamed_found low high bottom top h n [] rising under found = cc
 unnamed_found low high bottom top h n (s ∷ streams) rising under found =
-    elim ((s.handle == h) && not (h == 0)) as (λ b. ((s.handle == h) && not (h == 0)) ≡ b → option_map (λ (x : KeptStream). x.number) (cond b (Some s) (stream_of h streams)) ≡ Some n → hand_over n 0 (s ∷ streams) ≡ map (unnamed h) (s ∷ streams)) [
+    elim ((s.handle == h) && not (h == 0)) as (λ b. ((s.handle == h) && not (h == 0)) ≡ b
+        → option_map (λ (x : KeptStream). x.number) (cond b (Some s) (stream_of h streams)) ≡ Some n
+        → hand_over n 0 (s ∷ streams) ≡ map (unnamed h) (s ∷ streams)) [
       | true ↦ λ is here. (
           let same : s.handle ≡ h = grind (arith, nat_tests) in
           let some : 0 < h = grind (arith, nat_tests) in
           let number : s.number ≡ n = cc in
           let handed : hand_over n 0 streams ≡ streams = change_below s.number high n (under_handle 0) streams rising.1 (omega arith) in
-          let rest : map (unnamed h) streams ≡ streams = elim (first_of_streams bottom top s streams under) [ bare zero ↦ absurd (omega arith) | named above more ↦ unnamed_below s.handle top h streams more some (omega arith) ] in
+          let rest : map (unnamed h) streams ≡ streams =
+              elim (first_of_streams bottom top s streams under) [ bare zero ↦ absurd (omega arith) | named above more ↦ unnamed_below
+              s.handle top h streams more some (omega arith) ] in
           grind (arith, nat_tests, handed, rest))
       | false ↦ λ isnt found_later. (
           let above = number_above s.number high h n streams rising.1 found_later in
           let some = found_some h n streams found_later in
-          let later = unnamed_found s.number high bottom top h n streams rising.1 (rest_of_streams bottom top s streams under) found_later in
+          let later = unnamed_found s.number high bottom top h n streams rising.1 (rest_of_streams bottom top s streams under)
+              found_later in
           grind (arith, nat_tests, above, later, some))
     ] refl found
 
 -- the handles of streams rise, as all do
-pub rising_streams : (made : ℕ) (live : List Live) (streams : List KeptStream) → IsRising 0 live made → stream_handles live ≡ live_streams streams → IsRising 0 (live_streams streams) made
+pub rising_streams : (made : ℕ) (live : List Live) (streams : List KeptStream) → IsRising 0 live made
+    → stream_handles live ≡ live_streams streams → IsRising 0 (live_streams streams) made
 rising_streams made live streams rising tied =
     subst (λ (ls : List Live). IsRising 0 ls made) tied (rising_filter 0 made is_of_stream live rising)
 
@@ -240,22 +267,27 @@ without_entries h (s ∷ streams) =
     grind (arith, nat_tests, later)
 
 -- the handle table and the streams after a handle died
-pub killed_tied : (h : ℕ) (live : List Live) (streams : List KeptStream) → stream_handles live ≡ live_streams streams → stream_handles (without h live) ≡ live_streams (map (unnamed h) streams)
+pub killed_tied : (h : ℕ) (live : List Live) (streams : List KeptStream) → stream_handles live ≡ live_streams streams
+    → stream_handles (without h live) ≡ live_streams (map (unnamed h) streams)
 killed_tied h live streams tied =
     filter_both is_of_stream _ live ∙ ap (without h) tied ∙ without_entries h streams
 
 pub killed_others : (h : ℕ) (live : List Live) → others_of (without h live) ≡ without h (others_of live)
 killed_others h live = filter_both _ _ live
 
-pub numbered_unnamed : (low high h : ℕ) (streams : List KeptStream) → IsNumbered low streams high → IsNumbered low (map (unnamed h) streams) high
+pub numbered_unnamed : (low high h : ℕ) (streams : List KeptStream) → IsNumbered low streams high
+    → IsNumbered low (map (unnamed h) streams) high
 numbered_unnamed low high h [] rising = rising
 numbered_unnamed low high h (s ∷ streams) rising =
     let later = numbered_unnamed s.number high h streams rising.1 in
-    elim (s.handle == h) as (λ b. (low < (cond b (under_handle 0 s) s).number) × IsNumbered (cond b (under_handle 0 s) s).number (map (unnamed h) streams) high) [ true ↦ (rising.0, later) | false ↦ (rising.0, later) ]
+    elim (s.handle == h) as (λ b. (low < (cond b (under_handle 0 s) s).number)
+        × IsNumbered (cond b (under_handle 0 s) s).number (map (unnamed h) streams) high) [ true ↦ (rising.0, later) | false ↦
+        (rising.0, later) ]
 
 -- a loan
 
-pub changed_entries : (n : ℕ) (w : Buffers) (streams : List KeptStream) → live_streams (change_stream n (λ _. w) streams) ≡ live_streams streams
+pub changed_entries : (n : ℕ) (w : Buffers) (streams : List KeptStream)
+    → live_streams (change_stream n (λ _. w) streams) ≡ live_streams streams
 changed_entries n w [] = refl
 changed_entries n w (s ∷ streams) =
     let later = changed_entries n w streams in
@@ -263,17 +295,21 @@ changed_entries n w (s ∷ streams) =
 
 -- a new stream
 
-pub entries_push : (streams : List KeptStream) (s : KeptStream) → live_streams (streams ++ s ∷ []) ≡ live_streams streams ++ live_streams (s ∷ [])
-entries_push streams s = ap (map live_of) (filter-append has_handle streams (s ∷ [])) ∙ map-append live_of (filter has_handle streams) (filter has_handle (s ∷ []))
+pub entries_push : (streams : List KeptStream) (s : KeptStream)
+    → live_streams (streams ++ s ∷ []) ≡ live_streams streams ++ live_streams (s ∷ [])
+entries_push streams s = ap (map live_of) (filter-append has_handle streams (s ∷ []))
+    ∙ map-append live_of (filter has_handle streams) (filter has_handle (s ∷ []))
 
-pub handed_last : (low high h : ℕ) (streams : List KeptStream) (s : KeptStream) → IsNumbered low streams high → high < s.number → hand_over s.number h (streams ++ s ∷ []) ≡ streams ++ under_handle h s ∷ []
+pub handed_last : (low high h : ℕ) (streams : List KeptStream) (s : KeptStream) → IsNumbered low streams high → high < s.number
+    → hand_over s.number h (streams ++ s ∷ []) ≡ streams ++ under_handle h s ∷ []
 handed_last low high h [] s rising above = grind (arith, nat_tests)
 handed_last low high h (x ∷ streams) s rising above =
     let later = handed_last x.number high h streams s rising.1 above in
     let room = numbered_room x.number high streams rising.1 in
     grind (arith, nat_tests, later, room)
 
-pub without_last : (low high : ℕ) (streams : List KeptStream) (s : KeptStream) → IsNumbered low streams high → high < s.number → without_number s.number (streams ++ s ∷ []) ≡ streams
+pub without_last : (low high : ℕ) (streams : List KeptStream) (s : KeptStream) → IsNumbered low streams high → high < s.number
+    → without_number s.number (streams ++ s ∷ []) ≡ streams
 without_last low high [] s rising above = grind (arith, nat_tests)
 without_last low high (x ∷ streams) s rising above =
     let later = without_last x.number high streams s rising.1 above in
@@ -286,10 +322,12 @@ screen_tied streams s zero =
     let none : live_streams (s ∷ []) ≡ [] = grind (arith, nat_tests) in
     entries_push streams s ∙ ap (λ (ls : List Live). live_streams streams ++ ls) none ∙ append-nil (live_streams streams)
 
-pub made_tied : (live : List Live) (streams : List KeptStream) (s : KeptStream) → stream_handles live ≡ live_streams streams → 0 < s.handle → stream_handles (live ++ live_of s ∷ []) ≡ live_streams (streams ++ s ∷ [])
+pub made_tied : (live : List Live) (streams : List KeptStream) (s : KeptStream) → stream_handles live ≡ live_streams streams → 0 < s.handle
+    → stream_handles (live ++ live_of s ∷ []) ≡ live_streams (streams ++ s ∷ [])
 made_tied live streams s tied some =
     let one : live_streams (s ∷ []) ≡ live_of s ∷ [] = grind (arith, nat_tests) in
-    filter-append is_of_stream live (live_of s ∷ []) ∙ ap (λ (ls : List Live). ls ++ live_of s ∷ []) tied ∙ ap (λ (ls : List Live). live_streams streams ++ ls) (sym one) ∙ sym (entries_push streams s)
+    filter-append is_of_stream live (live_of s ∷ []) ∙ ap (λ (ls : List Live). ls ++ live_of s ∷ []) tied
+        ∙ ap (λ (ls : List Live). live_streams streams ++ ls) (sym one) ∙ sym (entries_push streams s)
 
 pub made_others : (live : List Live) (s : KeptStream) → others_of (live ++ live_of s ∷ []) ≡ others_of live
 made_others live s =

@@ -1,5 +1,6 @@
 -- The marks of the places, against the marked streams.
-use Rattle.std.proofs.Common.{◌≡◌, ℕ, ◌<◌, ◌≤◌, Bool, true, false, cond, ◌==◌, not, ◌||◌, List, [], ◌∷◌, ◌++◌, map, filter, find, Option, option_map, None, Some, IsSome, refl, ap, ◌∙◌, arith}
+use Rattle.std.proofs.Common.{◌≡◌, ℕ, ◌<◌, ◌≤◌, Bool, true, false, cond, ◌==◌, not, ◌||◌, List, [], ◌∷◌, ◌++◌, map, filter, find, Option,
+    option_map, None, Some, IsSome, refl, ap, ◌∙◌, arith}
 use Rattle.std.specs.Map.{remove_entry}
 use Rattle.std.proofs.lemmas.Bool.Decides.{nat_tests}
 use Rattle.wf_words.specs.Keyed.{is_in}
@@ -48,7 +49,8 @@ cleared_marks [] = refl
 cleared_marks (e ∷ es) = cleared_marks es
 
 -- and the numbers of those that have names of their own are marks too, where those are marked
-pub marks_own : (n : ℕ) (p : Slots) (es : Places) → is_in n (marks_of (remarked (is_marked_or_own p) es)) ≡ (is_in n (marks_of es) || is_own n (shelved p es))
+pub marks_own : (n : ℕ) (p : Slots) (es : Places) → is_in n (marks_of (remarked (is_marked_or_own p) es))
+    ≡ (is_in n (marks_of es) || is_own n (shelved p es))
 marks_own n p [] = refl
 marks_own n p (e ∷ es) =
     let later = marks_own n p es in
@@ -60,10 +62,12 @@ marks_own n p (e ∷ es) =
 pub mark_view : (n : ℕ) (b : Bool) (p : Slots) (es : Places) → shelved p (placed n (with_mark b) es) ≡ shelved p es
 mark_view n b p [] = refl
 mark_view n b p (e ∷ es) =
-    elim (at n e.0) as (λ c. shelved p (cond c ((e.0, with_mark b e.1) ∷ es) (e ∷ placed n (with_mark b) es)) ≡ shelved p (e ∷ es)) [ true ↦ refl | false ↦ ap (λ (ss : List KeptStream). kept_stream p e ∷ ss) (mark_view n b p es) ]
+    elim (at n e.0) as (λ c. shelved p (cond c ((e.0, with_mark b e.1) ∷ es) (e ∷ placed n (with_mark b) es))
+        ≡ shelved p (e ∷ es)) [ true ↦ refl | false ↦ ap (λ (ss : List KeptStream). kept_stream p e ∷ ss) (mark_view n b p es) ]
 
 -- and that number is a mark too
-pub marks_marked : (m n : ℕ) (p : Slots) (es : Places) → IsSome (stream_at n (shelved p es)) → is_in m (marks_of (placed n (with_mark true) es)) ≡ (is_in m (marks_of es) || (n == m))
+pub marks_marked : (m n : ℕ) (p : Slots) (es : Places) → IsSome (stream_at n (shelved p es))
+    → is_in m (marks_of (placed n (with_mark true) es)) ≡ (is_in m (marks_of es) || (n == m))
 marks_marked m n p [] kept = cc
 marks_marked m n p (e ∷ es) kept =
     let later = marks_marked m n p es in
@@ -112,14 +116,16 @@ abbrev AreMarks : List ℕ → Places → Type 0
 AreMarks marks [] = Unit {0}
 AreMarks marks (e ∷ es) = (is_in e.0 marks ≡ e.1.marked) × AreMarks marks es
 
-first_of : (p : Slots) (marks : List ℕ) (es : Places) → AreMarks marks es → first_unmarked marks (shelved p es) ≡ option_map (kept_stream p) (find is_bare es)
+first_of : (p : Slots) (marks : List ℕ) (es : Places) → AreMarks marks es
+    → first_unmarked marks (shelved p es) ≡ option_map (kept_stream p) (find is_bare es)
 first_of p marks [] are = refl
 first_of p marks (e ∷ es) are =
     let here = are.0 in
     let later = first_of p marks es are.1 in
     grind (arith, here, later)
 
-marks_more : (low high n : ℕ) (p : Slots) (marks : List ℕ) (es : Places) → IsNumbered low (shelved p es) high → n ≤ low → AreMarks marks es → AreMarks (n ∷ marks) es
+marks_more : (low high n : ℕ) (p : Slots) (marks : List ℕ) (es : Places) → IsNumbered low (shelved p es) high → n ≤ low → AreMarks marks es
+    → AreMarks (n ∷ marks) es
 marks_more low high n p marks [] rising under are = tt
 marks_more low high n p marks (e ∷ es) rising under are =
     let first = rising.0 in
@@ -132,13 +138,19 @@ marks_are : (low high : ℕ) (p : Slots) (es : Places) → IsNumbered low (shelv
 marks_are low high p [] rising = tt
 marks_are low high p (e ∷ es) rising =
     let later = marks_are e.0 high p es rising.1 in
-    elim (e.1.marked) as (λ b. (is_in e.0 (map (λ (x : ℕ × Place). x.0) (cond b (e ∷ filter (λ (x : ℕ × Place). x.1.marked) es) (filter (λ (x : ℕ × Place). x.1.marked) es))) ≡ b) × AreMarks (map (λ (x : ℕ × Place). x.0) (cond b (e ∷ filter (λ (x : ℕ × Place). x.1.marked) es) (filter (λ (x : ℕ × Place). x.1.marked) es))) es) [
+    elim (e.1.marked)
+        as (λ b. (is_in e.0
+        (map (λ (x : ℕ × Place). x.0) (cond b (e ∷ filter (λ (x : ℕ × Place). x.1.marked) es) (filter (λ (x : ℕ × Place). x.1.marked) es)))
+        ≡ b) × AreMarks
+        (map (λ (x : ℕ × Place). x.0) (cond b (e ∷ filter (λ (x : ℕ × Place). x.1.marked) es) (filter (λ (x : ℕ × Place). x.1.marked) es)))
+        es) [
       | true ↦ (grind (arith, nat_tests), marks_more e.0 high e.0 p (marks_of es) es rising.1 (omega arith) later)
       | false ↦ (marks_below e.0 high e.0 p es rising.1 (omega arith), later)
     ]
 
 -- is that of the first stream that is not marked
-first_view : (low high : ℕ) (p : Slots) (es : Places) → IsNumbered low (shelved p es) high → first_unmarked (marks_of es) (shelved p es) ≡ option_map (kept_stream p) (find is_bare es)
+first_view : (low high : ℕ) (p : Slots) (es : Places) → IsNumbered low (shelved p es) high
+    → first_unmarked (marks_of es) (shelved p es) ≡ option_map (kept_stream p) (find is_bare es)
 first_view low high p es rising = first_of p (marks_of es) es (marks_are low high p es rising)
 
 -- the number and the handle of an entry
@@ -150,5 +162,6 @@ named_once p None = refl
 named_once p (Some e) = refl
 
 -- and names the same
-pub first_names : (low high : ℕ) (p : Slots) (es : Places) → IsNumbered low (shelved p es) high → option_map names_of (first_unmarked (marks_of es) (shelved p es)) ≡ option_map entry_names (find is_bare es)
+pub first_names : (low high : ℕ) (p : Slots) (es : Places) → IsNumbered low (shelved p es) high
+    → option_map names_of (first_unmarked (marks_of es) (shelved p es)) ≡ option_map entry_names (find is_bare es)
 first_names low high p es rising = ap (option_map names_of) (first_view low high p es rising) ∙ named_once p (find is_bare es)

@@ -25,6 +25,7 @@ product_small w h p b ws hs ps bs =
     omega (arith, mul-le-mul_right h ws, mul-le-mul_left (w * h) ps, mul-le-mul_left (w * h * p) bs)
 
 -- no stream has more than 16 MiB
-pub stream_small : (size : Size) (format : Format) (buffers : ℕ) → IsTrue (has_sides size) → buffers ≤ 4 → size.w * size.h * pixel_bytes format * buffers ≤ 16777216
+pub stream_small : (size : Size) (format : Format) (buffers : ℕ) → IsTrue (has_sides size) → buffers ≤ 4
+    → size.w * size.h * pixel_bytes format * buffers ≤ 16777216
 stream_small size format buffers sides most =
     product_small size.w size.h (pixel_bytes format) buffers (width_small size sides) (height_small size sides) (pixel_small format) most

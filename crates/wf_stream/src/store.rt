@@ -1,6 +1,7 @@
 //! The store: the handles of all objects, and the streams by number.
 
-ghost use Rattle.std.specs.Prelude.{◌≡◌, ◌↔◌, ℕ, ◌+◌, ◌≤◌, ◌||◌, ◌==◌, [], not, map, Some, option_map, option_copied, IfOk, OnOk, OnErr, IsErrOf, IsSome, IsTrue, IsFalse};
+ghost use Rattle.std.specs.Prelude.{◌≡◌, ◌↔◌, ℕ, ◌+◌, ◌≤◌, ◌||◌, ◌==◌, [], not, map, Some, option_map, option_copied, IfOk, OnOk, OnErr,
+    IsErrOf, IsSome, IsTrue, IsFalse};
 ghost use Rattle.std.specs.Option.{option_copied_mut};
 ghost use Rattle.std.specs.Result.{result_ok};
 ghost use Rattle.std.specs.Borrow.{sem};
@@ -8,7 +9,9 @@ ghost use Rattle.wf_words.specs.Keyed.{is_in};
 ghost use Rattle.wf_pixel.specs.Choice.{has_sides};
 ghost use Rattle.wf_life.specs.Handles.{is_full, is_live, without};
 ghost use Rattle.wf_stream.specs.Buffers.{fresh};
-ghost use Rattle.wf_stream.specs.Streams.{held, empty, with_screen, with_live_stream, with_other, has_no_room, number_of, key_in, is_alive, is_stream, count_in, killed, stream_at, stream_of, unnamed, buffers_at, IsNumbered, first_unmarked, names_of, handle_at, without_number, swept, is_own};
+ghost use Rattle.wf_stream.specs.Streams.{held, empty, with_screen, with_live_stream, with_other, has_no_room, number_of, key_in, is_alive,
+    is_stream, count_in, killed, stream_at, stream_of, unnamed, buffers_at, IsNumbered, first_unmarked, names_of, handle_at,
+    without_number, swept, is_own};
 
 use crate::Held;
 use crate::stream::{Stream, bytes_of};
@@ -98,7 +101,8 @@ impl Store {
         requires most { buffers ≤ 4 }
         ensures handle { IfOk result (λ handle. handle ≡ self.old.made + 1) }
         ensures made { OnOk result (self.new ≡ with_live_stream (fresh size format buffers) self.old) }
-        ensures limit { IsErrOf result MakeStop.Limit ↔ IsTrue (has_no_room (fresh size format buffers) self.old.streams || is_full self.old.made) }
+        ensures limit { IsErrOf result MakeStop.Limit ↔ IsTrue (has_no_room (fresh size format buffers) self.old.streams
+            || is_full self.old.made) }
         ensures refused { OnErr result (self.new ≡ self.old) }
     {
         if has_no_room(&self.streams, size, format, buffers) || self.handles.full() {
@@ -158,7 +162,8 @@ impl Store {
         requires { IsTrue (is_alive handle self.old) }
         ensures killed { self.new ≡ killed handle self.old }
         ensures other { IsTrue (is_live handle self.old.others) → self.new ≡ record self.old { others = without handle self.old.others } }
-        ensures stream { IsSome (stream_of handle self.old.streams) → self.new ≡ record self.old { streams = map (unnamed handle) self.old.streams } }
+        ensures stream { IsSome (stream_of handle self.old.streams)
+            → self.new ≡ record self.old { streams = map (unnamed handle) self.old.streams } }
     {
         let found = self.handles.find(handle, Kind::Stream);
         self.handles.kill(handle);

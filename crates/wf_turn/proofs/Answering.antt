@@ -21,19 +21,22 @@ use Rattle.wf_turn.specs.declared.stage.Leg.{Leg}
 use Rattle.wf_turn.specs.declared.stage.Leg.TheVariants as leg
 use Rattle.wf_turn.specs.declared.stage.Stage.{Stage}
 use Rattle.wf_turn.specs.declared.stage.Stage.TheVariants as stage
-use Rattle.wf_turn.specs.Program.{Program, first_line, given_canvas, handed, kept_canvas, kept_first, kept_job, painted_job, line_done, ticking, took, took_at, took_canvas, took_first, took_frame, took_job, took_leg, worked}
+use Rattle.wf_turn.specs.Program.{Program, first_line, given_canvas, handed, kept_canvas, kept_first, kept_job, painted_job, line_done,
+    ticking, took, took_at, took_canvas, took_first, took_frame, took_job, took_leg, worked}
 use Rattle.wf_turn.specs.Turns.{frames_of, shown}
 
 -- what a call carried out is no longer asked for
 pub took_handed : (p : Program) (reply : Reply) → took (handed p) reply ≡ took p reply
 took_handed p reply = of_line (first_line p) refl
   where
-    of_verb : (l : Line) (v : Verb) → took_first (record p { canvas = kept_first v p.canvas }) (record l { verb = v }) reply ≡ took_first p (record l { verb = v }) reply
+    of_verb : (l : Line) (v : Verb) → took_first (record p { canvas = kept_first v p.canvas }) (record l { verb = v }) reply
+        ≡ took_first p (record l { verb = v }) reply
     of_verb l verb.Post = refl
     of_verb l verb.Discard = refl
     of_verb l _ = refl
 
-    of_stage : (l : Line) (s : Stage) → took_at (record p { canvas = kept_canvas (Some l) s p.canvas; job = kept_job (Some l) s p.job }) l reply s ≡ took_at p l reply s
+    of_stage : (l : Line) (s : Stage)
+        → took_at (record p { canvas = kept_canvas (Some l) s p.canvas; job = kept_job (Some l) s p.job }) l reply s ≡ took_at p l reply s
     of_stage l stage.Fresh = of_verb l l.verb
     of_stage l stage.Posting = refl
     of_stage l (stage.Ticking m) = refl
@@ -46,7 +49,8 @@ took_handed p reply = of_line (first_line p) refl
 -- a Job comes to the same picture, whatever its image held
 same_work : (is_new : Bool) (wanted job : Job) → SameJob is_new wanted job → painted_job job ≡ painted_job wanted
 same_work is_new wanted job same =
-    let of : ℕ → JobKind → Scene → Images → Format → Job = λ n k s c f. record { number = n; kind = k; scene = s; contents = c; image = picture s c f } in
+    let of : ℕ → JobKind → Scene → Images → Format → Job =
+        λ n k s c f. record { number = n; kind = k; scene = s; contents = c; image = picture s c f } in
     ap (λ (n : ℕ). of n job.kind job.scene job.contents job.image.format) same.number
     ∙ ap (λ (k : JobKind). of wanted.number k job.scene job.contents job.image.format) same.kind
     ∙ ap (λ (s : Scene). of wanted.number wanted.kind s job.contents job.image.format) same.scene
@@ -73,9 +77,11 @@ same_canvas is_new given (payload.Canvas canvas) same = ap given_canvas same
 abbrev pub outcome : Program → Program × List Frame
 outcome p = (worked p, frames_of p)
 
-same_job : (p : Program) (is_new : Bool) (given wanted : Payload) (l : Leg) → SamePayload is_new wanted given → outcome (took_job p given l) ≡ outcome (took_job p wanted l)
+same_job : (p : Program) (is_new : Bool) (given wanted : Payload) (l : Leg) → SamePayload is_new wanted given
+    → outcome (took_job p given l) ≡ outcome (took_job p wanted l)
 same_job p is_new (payload.Job job) (payload.Job wanted) l same =
-    let of : JobKind → Job → Program × List Frame = λ k j. (record p { job = Some j; unpainted = false; stage = stage.Ending l }, shown k p.tick j) in
+    let of : JobKind → Job → Program
+        × List Frame = λ k j. (record p { job = Some j; unpainted = false; stage = stage.Ending l }, shown k p.tick j) in
     ap (λ (k : JobKind). of k (painted_job job)) same.kind ∙ ap (of wanted.kind) (same_work is_new wanted job same)
 same_job p is_new payload.Nothing (payload.Job wanted) l same = absurd cc
 same_job p is_new (payload.Canvas canvas) (payload.Job wanted) l same = absurd cc
@@ -95,7 +101,8 @@ module _ (p : Program) (given wanted : Reply) (same : IsSame given wanted) where
       ∙ same_job p (is_ok_code given.code) given.payload wanted.payload (leg.Contexts (asked + 1) wanted.value) same.payload
   same_leg (leg.Ports port) = same_job p (is_ok_code given.code) given.payload wanted.payload (leg.Ports (port + 1)) same.payload
 
-  same_verb : (l : Line) (v : Verb) → outcome (took_first p (record l { verb = v }) given) ≡ outcome (took_first p (record l { verb = v }) wanted)
+  same_verb : (l : Line) (v : Verb) → outcome (took_first p (record l { verb = v }) given)
+      ≡ outcome (took_first p (record l { verb = v }) wanted)
   same_verb l (verb.Acquire s) = with_canvas
   same_verb l verb.Post = with_canvas
   same_verb l verb.Discard = with_canvas

@@ -13,7 +13,8 @@ use Rattle.wf_turn.specs.declared.stage.Stage.{Stage}
 use Rattle.wf_turn.specs.declared.stage.Stage.TheVariants as stage
 use Rattle.wf_turn.specs.declared.stage.Wanted.{Wanted}
 use Rattle.wf_turn.specs.Playing.{Ends, EndsAt}
-use Rattle.wf_turn.specs.Program.{Program, first_line, given_canvas, go_on, line_done, next, plain, took, took_canvas, took_frame, took_job, worked, asked_for, waiting}
+use Rattle.wf_turn.specs.Program.{Program, first_line, given_canvas, go_on, line_done, next, plain, took, took_canvas, took_frame,
+    took_job, worked, asked_for, waiting}
 use Rattle.wf_turn.specs.Turns.{frames_of}
 use Rattle.wf_turn.proofs.Cases.{turn_case, asks_begin}
 use Rattle.wf_turn.proofs.Own.{own_job}
@@ -69,7 +70,8 @@ module _ (p : Program) (h : State) (client : ℕ) (m : Bool) (free : h.frame ≡
         frame = λ s paint.
             at_still (call.Acquire s) refl (λ reply. took_frame p paint (given_canvas reply.payload))
             (λ reply. frame_painted p painted paint (given_canvas reply.payload));
-        asks = λ l tick s leg_of at. at_question (asked_for l).call (asks_begin l) (record p { tick = tick; stage = s }) leg_of painted refl;
+        asks = λ l tick s leg_of at. at_question (asked_for l).call (asks_begin l) (record p { tick = tick; stage = s }) leg_of painted
+            refl;
         ended = λ job held l. at_end job l;
       }) asks
 
@@ -77,14 +79,16 @@ pub nothing_shown : (q : Program) → q.unpainted ≡ false → frames_of q ≡ 
 nothing_shown q painted = rw painted refl
 
 -- a turn of the program that ends the running frame
-module _ (p : Program) (h : State) (client : ℕ) (m : Bool) (w : Wanted) (f : Running) (runs : h.frame ≡ Some f) (ends : Ends f p) (asks : next p ≡ Some w) where
+module _ (p : Program) (h : State) (client : ℕ) (m : Bool) (w : Wanted) (f : Running) (runs : h.frame ≡ Some f) (ends : Ends f p)
+    (asks : next p ≡ Some w) where
   -- it does not wait, no frame runs behind it, and it shows nothing
   pub record Ended : Type 0 where
     pub plain_is : w.wait ≡ false
     pub free : (step h client w.call m).0.frame ≡ None
     pub shows : frames_of (took p (step h client w.call m).1) ≡ []
 
-  at_job : (l : Line) (leg : Leg) (o : Option Job) → first_line p ≡ Some l → p.stage ≡ stage.Ending leg → p.job ≡ o → EndsAt o f (stage.Ending leg) → Ended
+  at_job : (l : Line) (leg : Leg) (o : Option Job) → first_line p ≡ Some l → p.stage ≡ stage.Ending leg → p.job ≡ o
+      → EndsAt o f (stage.Ending leg) → Ended
   unfolding step act
   at_job l leg None is at job own = absurd own
   at_job l leg (Some j) is at job own =

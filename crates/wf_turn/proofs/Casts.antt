@@ -1,5 +1,6 @@
 -- The eight programs of a show: one of them changed, and names handed on.
-use Rattle.std.proofs.Common.{◌≡◌, ◌∙◌, ℕ, zero, suc, ◌+◌, ◌-◌, Bool, true, false, not, cond, ◌&&◌, List, [], ◌∷◌, map, Option, Some, None, refl, sym, ap, subst, arith, set, get_or}
+use Rattle.std.proofs.Common.{◌≡◌, ◌∙◌, ℕ, zero, suc, ◌+◌, ◌-◌, Bool, true, false, not, cond, ◌&&◌, List, [], ◌∷◌, map, Option, Some, None,
+    refl, sym, ap, subst, arith, set, get_or}
 use Rattle.std.specs.Prelude.{slice_get, sum_by}
 use Rattle.std.specs.Option.{IfSome}
 use Rattle.std.proofs.lemmas.List.Sums.{sum_by-cons}
@@ -18,7 +19,8 @@ pub record IsOf (script : PlainScript) (client : ℕ) (p : Program) : Type 0 whe
   pub client_is : p.client ≡ client
   pub fit : IsFit p
 
-pub at_client : (script : PlainScript) (k : ℕ) (ps : List Program) (i : ℕ) (p : Program) → AreOf script k ps → slice_get ps i ≡ Some p → IsOf script (k + i) p
+pub at_client : (script : PlainScript) (k : ℕ) (ps : List Program) (i : ℕ) (p : Program) → AreOf script k ps → slice_get ps i ≡ Some p
+    → IsOf script (k + i) p
 at_client script k [] i p are found = absurd cc
 at_client script k (q ∷ ps) zero p are found =
     let same : q ≡ p = cc in
@@ -27,14 +29,17 @@ at_client script k (q ∷ ps) (suc i) p are found =
     let at : k + 1 + i ≡ k + suc i = omega arith in
     subst (λ (n : ℕ). IsOf script n p) at (at_client script (k + 1) ps i p are.3 found)
 
-pub are_set : (script : PlainScript) (k : ℕ) (ps : List Program) (i : ℕ) (p q : Program) → AreOf script k ps → slice_get ps i ≡ Some p → q.script ≡ p.script → q.client ≡ p.client → IsFit q → AreOf script k (set ps i q)
+pub are_set : (script : PlainScript) (k : ℕ) (ps : List Program) (i : ℕ) (p q : Program) → AreOf script k ps → slice_get ps i ≡ Some p
+    → q.script ≡ p.script → q.client ≡ p.client → IsFit q → AreOf script k (set ps i q)
 are_set script k [] i p q are found script_is client_is fit = tt
 are_set script k (r ∷ ps) zero p q are found script_is client_is fit =
     let same : p ≡ r = cc in
     (script_is ∙ ap (λ (x : Program). x.script) same ∙ are.0, client_is ∙ ap (λ (x : Program). x.client) same ∙ are.1, fit, are.3)
-are_set script k (r ∷ ps) (suc i) p q are found script_is client_is fit = (are.0, are.1, are.2, are_set script (k + 1) ps i p q are.3 found script_is client_is fit)
+are_set script k (r ∷ ps) (suc i) p q are found script_is client_is fit =
+    (are.0, are.1, are.2, are_set script (k + 1) ps i p q are.3 found script_is client_is fit)
 
-are_mapped : (script : PlainScript) (clock : Program) (k : ℕ) (ps : List Program) → AreOf script k ps → AreOf script k (map (taught clock) ps)
+are_mapped : (script : PlainScript) (clock : Program) (k : ℕ) (ps : List Program) → AreOf script k ps
+    → AreOf script k (map (taught clock) ps)
 are_mapped script clock k [] are = tt
 are_mapped script clock k (p ∷ ps) are = (are.0, are.1, fit_taught clock p are.2, are_mapped script clock (k + 1) ps are.3)
 
@@ -44,13 +49,15 @@ are_taught script k (clock ∷ others) are = (are.0, are.1, are.2, are_mapped sc
 
 pub are_handed : (script : PlainScript) (before now : List Program) → AreOf script 0 now → AreOf script 0 (handed_on before now)
 are_handed script before now are =
-    elim (is_setting_up before && not (is_setting_up now)) as (λ b. AreOf script 0 (cond b (all_taught now) now)) [ true ↦ are_taught script 0 now are | false ↦ are ]
+    elim (is_setting_up before && not (is_setting_up now))
+        as (λ b. AreOf script 0 (cond b (all_taught now) now)) [ true ↦ are_taught script 0 now are | false ↦ are ]
 
 -- what names do not change is the same of the programs that learned
 module _ {A : Type 0} (f : Program → A) (same : (clock p : Program) → f (taught clock p) ≡ f p) where
   mapped_same : (clock : Program) (ps : List Program) → map f (map (taught clock) ps) ≡ map f ps
   mapped_same clock [] = refl
-  mapped_same clock (p ∷ ps) = ap (λ (x : A). x ∷ map f (map (taught clock) ps)) (same clock p) ∙ ap (λ (xs : List A). f p ∷ xs) (mapped_same clock ps)
+  mapped_same clock (p ∷ ps) = ap (λ (x : A). x ∷ map f (map (taught clock) ps)) (same clock p)
+      ∙ ap (λ (xs : List A). f p ∷ xs) (mapped_same clock ps)
 
   taught_same : (ps : List Program) → map f (all_taught ps) ≡ map f ps
   taught_same [] = refl
@@ -58,14 +65,16 @@ module _ {A : Type 0} (f : Program → A) (same : (clock p : Program) → f (tau
 
   pub handed_same : (before now : List Program) → map f (handed_on before now) ≡ map f now
   handed_same before now =
-      elim (is_setting_up before && not (is_setting_up now)) as (λ b. map f (cond b (all_taught now) now) ≡ map f now) [ true ↦ taught_same now | false ↦ refl ]
+      elim (is_setting_up before && not (is_setting_up now))
+          as (λ b. map f (cond b (all_taught now) now) ≡ map f now) [ true ↦ taught_same now | false ↦ refl ]
 
 sum_map : (ps : List Program) → all_left ps ≡ sum_by (λ (n : ℕ). n) (map left ps)
 sum_map [] = refl
 sum_map (p ∷ ps) = sum_by-cons left p ps ∙ ap (λ (n : ℕ). left p + n) (sum_map ps) ∙ sym (sum_by-cons (λ (n : ℕ). n) (left p) (map left ps))
 
 pub left_handed : (before now : List Program) → all_left (handed_on before now) ≡ all_left now
-left_handed before now = sum_map (handed_on before now) ∙ ap (λ (ns : List ℕ). sum_by (λ (n : ℕ). n) ns) (handed_same left (λ clock p. refl) before now) ∙ sym (sum_map now)
+left_handed before now = sum_map (handed_on before now)
+    ∙ ap (λ (ns : List ℕ). sum_by (λ (n : ℕ). n) ns) (handed_same left (λ clock p. refl) before now) ∙ sym (sum_map now)
 
 pub left_set : (ps : List Program) (i : ℕ) (p q : Program) → slice_get ps i ≡ Some p → all_left (set ps i q) + left p ≡ all_left ps + left q
 left_set [] i p q found = absurd cc
@@ -77,22 +86,26 @@ left_set (r ∷ ps) (suc i) p q found = omega (arith, left_set ps i p q found, s
 
 -- where the clock's setup is as it was, nothing is handed on
 pub not_handed : (before now : List Program) → is_setting_up now ≡ is_setting_up before → handed_on before now ≡ now
-not_handed before now same = rw same (elim (is_setting_up before) as (λ b. cond (b && not b) (all_taught now) now ≡ now) [ true ↦ refl | false ↦ refl ])
+not_handed before now same =
+    rw same (elim (is_setting_up before) as (λ b. cond (b && not b) (all_taught now) now ≡ now) [ true ↦ refl | false ↦ refl ])
 
-pub setup_set : (ps : List Program) (i : ℕ) (p q : Program) → slice_get ps i ≡ Some p → in_setup q ≡ in_setup p → is_setting_up (set ps i q) ≡ is_setting_up ps
+pub setup_set : (ps : List Program) (i : ℕ) (p q : Program) → slice_get ps i ≡ Some p → in_setup q ≡ in_setup p
+    → is_setting_up (set ps i q) ≡ is_setting_up ps
 setup_set [] i p q found same = refl
 setup_set (r ∷ ps) zero p q found same = (let is : p ≡ r = cc in same ∙ ap in_setup is)
 setup_set (r ∷ ps) (suc i) p q found same = refl
 
 -- the program of a client after names were handed on
-pub handed_get : (P : Program → Type 0) → ((clock p : Program) → P p → P (taught clock p)) → (before now : List Program) (i : ℕ) (q : Program) → slice_get now i ≡ Some q → P q → IfSome (slice_get (handed_on before now) i) P
+pub handed_get : (P : Program → Type 0) → ((clock p : Program) → P p → P (taught clock p))
+    → (before now : List Program) (i : ℕ) (q : Program) → slice_get now i ≡ Some q → P q → IfSome (slice_get (handed_on before now) i) P
 handed_get P keeps before now i q found holds =
     elim (is_setting_up before && not (is_setting_up now)) as (λ b. IfSome (slice_get (cond b (all_taught now) now) i) P) [
       | true ↦ taught_get now i q found holds
       | false ↦ rw found holds
     ]
   where
-    mapped_get : (clock : Program) (ps : List Program) (j : ℕ) (r : Program) → slice_get ps j ≡ Some r → P r → IfSome (slice_get (map (taught clock) ps) j) P
+    mapped_get : (clock : Program) (ps : List Program) (j : ℕ) (r : Program) → slice_get ps j ≡ Some r → P r
+        → IfSome (slice_get (map (taught clock) ps) j) P
     mapped_get clock ps j r found holds = rw (get_map (taught clock) ps j r found) (keeps clock r holds)
 
     taught_get : (ps : List Program) (j : ℕ) (r : Program) → slice_get ps j ≡ Some r → P r → IfSome (slice_get (all_taught ps) j) P
@@ -100,20 +113,24 @@ handed_get P keeps before now i q found holds =
     taught_get (clock ∷ others) zero r found holds = (let same : r ≡ clock = cc in subst P same holds)
     taught_get (clock ∷ others) (suc j) r found holds = mapped_get clock others j r found holds
 
-pub shown_handed : (painted : Bool) (before now : List Program) (i : ℕ) (q : Program) → slice_get now i ≡ Some q → shown_by painted (handed_on before now) i ≡ frames_if painted q
+pub shown_handed : (painted : Bool) (before now : List Program) (i : ℕ) (q : Program) → slice_get now i ≡ Some q
+    → shown_by painted (handed_on before now) i ≡ frames_if painted q
 shown_handed painted before now i q found =
-    elim (is_setting_up before && not (is_setting_up now)) as (λ b. shown_by painted (cond b (all_taught now) now) i ≡ frames_if painted q) [
+    elim (is_setting_up before && not (is_setting_up now))
+        as (λ b. shown_by painted (cond b (all_taught now) now) i ≡ frames_if painted q) [
       | true ↦ taught_shown now i q found
       | false ↦ rw found refl
     ]
   where
-    taught_shown : (ps : List Program) (j : ℕ) (r : Program) → slice_get ps j ≡ Some r → shown_by painted (all_taught ps) j ≡ frames_if painted r
+    taught_shown : (ps : List Program) (j : ℕ) (r : Program) → slice_get ps j ≡ Some r
+        → shown_by painted (all_taught ps) j ≡ frames_if painted r
     taught_shown [] j r found = absurd cc
     taught_shown (clock ∷ others) zero r found = (let same : clock ≡ r = cc in ap (frames_if painted) same)
     taught_shown (clock ∷ others) (suc j) r found = rw (get_map (taught clock) others j r found) refl
 
 -- the program of another client than the clock's
-pub other_is : (clock : Program) (others : List Program) (client : ℕ) (d : Program) → (client ≡ 0 → ⊥) → d ≡ get_or others (client - 1) d → (o : Option Program) → slice_get (clock ∷ others) client ≡ o → IfSome o (λ p. p ≡ d)
+pub other_is : (clock : Program) (others : List Program) (client : ℕ) (d : Program) → (client ≡ 0 → ⊥) → d ≡ get_or others (client - 1) d
+    → (o : Option Program) → slice_get (clock ∷ others) client ≡ o → IfSome o (λ p. p ≡ d)
 other_is clock others zero d apart is o found = absurd (apart refl)
 other_is clock others (suc k) d apart is None found = tt
 other_is clock others (suc k) d apart is (Some p) found =
@@ -125,6 +142,7 @@ other_is clock others (suc k) d apart is (Some p) found =
     there (q ∷ ps) zero some = cc
     there (q ∷ ps) (suc i) some = there ps i some
 
-pub other_set : (clock : Program) (others : List Program) (client : ℕ) (q : Program) → (client ≡ 0 → ⊥) → clock ∷ set others (client - 1) q ≡ set (clock ∷ others) client q
+pub other_set : (clock : Program) (others : List Program) (client : ℕ) (q : Program) → (client ≡ 0 → ⊥)
+    → clock ∷ set others (client - 1) q ≡ set (clock ∷ others) client q
 other_set clock others zero q apart = absurd (apart refl)
 other_set clock others (suc k) q apart = (let at : suc k - 1 ≡ k = omega arith in ap (λ (n : ℕ). clock ∷ set others n q) at)

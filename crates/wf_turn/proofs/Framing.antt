@@ -15,14 +15,16 @@ abbrev behind : List Frame → Option (Show × Turn) → Option (Show × Turn)
 behind front None = None
 behind front (Some done) = Some (record done.0 { frames = front ++ done.0.frames }, done.1)
 
-turn_behind : (front : List Frame) (show : Show) (client : ℕ) (m : Bool) → turn (with_frames front show) client m ≡ behind front (turn (with_frames [] show) client m)
+turn_behind : (front : List Frame) (show : Show) (client : ℕ) (m : Bool)
+    → turn (with_frames front show) client m ≡ behind front (turn (with_frames [] show) client m)
 unfolding turn
 turn_behind front show client m = of_program (program_at show client) refl
   where
     Same : Type 0
     Same = turn (with_frames front show) client m ≡ behind front (turn (with_frames [] show) client m)
 
-    of_wait : (p : Program) (w : Wanted) → program_at show client ≡ Some p → next p ≡ Some w → (b : Bool) → (w.wait && is_running show.state) ≡ b → Same
+    of_wait : (p : Program) (w : Wanted) → program_at show client ≡ Some p → next p ≡ Some w → (b : Bool)
+        → (w.wait && is_running show.state) ≡ b → Same
     of_wait p w at asks true waits = rw (at, asks, waits) refl
     of_wait p w at asks false waits = rw (at, asks, waits) refl
 
@@ -35,6 +37,7 @@ turn_behind front show client m = of_program (program_at show client) refl
     of_program (Some p) at = of_wanted p at (next p) refl
 
 -- a turn shows its frames behind those that were shown before
-pub next_behind : (front frames : List Frame) (show after : Show) (t : Turn) → TurnsTo show t frames after → IsNextTurn (with_frames front show) t (with_frames (front ++ frames) after)
+pub next_behind : (front frames : List Frame) (show after : Show) (t : Turn) → TurnsTo show t frames after
+    → IsNextTurn (with_frames front show) t (with_frames (front ++ frames) after)
 next_behind front frames show after t turns =
     record { first = turns.first; taken = turn_behind front show t.client (is_marked t) ∙ ap (behind front) turns.taken }

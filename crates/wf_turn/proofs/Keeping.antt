@@ -1,5 +1,6 @@
 -- What an answer leaves of a program: all but its lines, its names, what it holds, its stage and its tick.
-use Rattle.std.proofs.Common.{◌≡◌, ℕ, ◌+◌, Bool, true, false, not, cond, ◌==◌, ◌||◌, List, [], ◌∷◌, Option, Some, None, refl, sym, ap, subst}
+use Rattle.std.proofs.Common.{◌≡◌, ℕ, ◌+◌, Bool, true, false, not, cond, ◌==◌, ◌||◌, List, [], ◌∷◌, Option, Some, None, refl, sym, ap,
+    subst}
 use Rattle.std.specs.Prelude.{nat_lt}
 use Rattle.std.specs.Option.{option_map}
 use Rattle.wf_image.specs.declared.canvas.Canvas.{Canvas}
@@ -17,7 +18,8 @@ use Rattle.wf_turn.specs.declared.stage.Leg.TheVariants as leg
 use Rattle.wf_turn.specs.declared.stage.Stage.{Stage}
 use Rattle.wf_turn.specs.declared.stage.Stage.TheVariants as stage
 use Rattle.wf_turn.specs.Names.{bound_name}
-use Rattle.wf_turn.specs.Program.{Program, at_port, before, bound, first_line, given_canvas, go_on, line_done, painted_canvas, painted_job, port_count, skipped, ticking, took, took_at, took_first, took_frame, took_job, took_leg, worked}
+use Rattle.wf_turn.specs.Program.{Program, at_port, before, bound, first_line, given_canvas, go_on, line_done, painted_canvas, painted_job,
+    port_count, skipped, ticking, took, took_at, took_first, took_frame, took_job, took_leg, worked}
 
 -- a program whose changing parts are these
 abbrev pub changed : Program → List (ℕ × Line) → List (Name × ℕ) → Option Canvas → Option Job → Bool → Stage → ℕ → Program
@@ -25,7 +27,9 @@ changed p lines own canvas job unpainted stage tick =
     record p { lines = lines; own = own; canvas = canvas; job = job; unpainted = unpainted; stage = stage; tick = tick }
 
 -- what does not speak of the changing parts stays true
-module _ (P : Program → Type 0) (keeps : (p : Program) (lines : List (ℕ × Line)) (own : List (Name × ℕ)) (canvas : Option Canvas) (job : Option Job) (unpainted : Bool) (s : Stage) (tick : ℕ) → P p → P (changed p lines own canvas job unpainted s tick)) where
+module _ (P : Program
+    → Type 0) (keeps : (p : Program) (lines : List (ℕ × Line)) (own : List (Name × ℕ)) (canvas : Option Canvas) (job : Option Job)
+    (unpainted : Bool) (s : Stage) (tick : ℕ) → P p → P (changed p lines own canvas job unpainted s tick)) where
   keeps_done : (p : Program) (v : ℕ) → P p → P (line_done p v)
   keeps_done p v holds = of_lines p.lines refl
     where
@@ -34,19 +38,24 @@ module _ (P : Program → Type 0) (keeps : (p : Program) (lines : List (ℕ × L
           let same : line_done p v ≡ record p { lines = [] } = ap (λ (ms : List (ℕ × Line)). line_done (record p { lines = ms }) v) is in
           subst P (sym same) (keeps p [] p.own p.canvas p.job p.unpainted p.stage p.tick holds)
       of_lines (l ∷ ls) is =
-          let same : line_done p v ≡ before (record p { own = bound (bound_name l.1) v p.own }) ls = ap (λ (ms : List (ℕ × Line)). line_done (record p { lines = ms }) v) is in
-          subst P (sym same) (keeps p (skipped p.canvas ls).1 (bound (bound_name l.1) v p.own) (skipped p.canvas ls).0 p.job p.unpainted stage.Fresh p.tick holds)
+          let same : line_done p v ≡ before (record p { own = bound (bound_name l.1) v p.own }) ls =
+              ap (λ (ms : List (ℕ × Line)). line_done (record p { lines = ms }) v) is in
+          subst P (sym same) (keeps p (skipped p.canvas ls).1 (bound (bound_name l.1) v p.own) (skipped p.canvas ls).0 p.job p.unpainted
+              stage.Fresh p.tick holds)
 
   keeps_at : (p : Program) (s : Stage) → P p → P (record p { stage = s })
   keeps_at p s holds = keeps p p.lines p.own p.canvas p.job p.unpainted s p.tick holds
 
   keeps_port : (p : Program) (port : ℕ) → P p → P (at_port p port)
   keeps_port p port holds =
-      elim (nat_lt (port_count p) port) as (λ b. P (cond b (line_done p 0) (record p { stage = stage.Ticking (leg.Ports port) }))) [ true ↦ keeps_done p 0 holds | false ↦ keeps_at p _ holds ]
+      elim (nat_lt (port_count p) port) as (λ b. P (cond b (line_done p 0) (record p { stage = stage.Ticking (leg.Ports port) }))) [
+          true ↦ keeps_done p 0 holds | false ↦ keeps_at p _ holds ]
 
   keeps_on : (p : Program) (l : Leg) → P p → P (go_on p l)
   keeps_on p (leg.Contexts asked last) holds =
-      elim ((last == 0) || not (nat_lt asked 16)) as (λ b. P (cond b (at_port p 1) (record p { stage = stage.Ticking (leg.Contexts asked last) }))) [ true ↦ keeps_port p 1 holds | false ↦ keeps_at p _ holds ]
+      elim ((last == 0) || not (nat_lt asked 16)) as (λ b. P
+          (cond b (at_port p 1) (record p { stage = stage.Ticking (leg.Contexts asked last) }))) [ true ↦ keeps_port p 1 holds | false ↦
+          keeps_at p _ holds ]
   keeps_on p (leg.Ports port) holds = keeps_port p port holds
 
   keeps_job : (p : Program) (given : Payload) (l : Leg) → P p → P (took_job p given l)
@@ -55,11 +64,13 @@ module _ (P : Program → Type 0) (keeps : (p : Program) (lines : List (ℕ × L
   keeps_job p (payload.Canvas canvas) l holds = keeps_on p l holds
 
   keeps_canvas : (p : Program) (canvas : Option Canvas) → P p → P (line_done (record p { canvas = canvas }) 0)
-  keeps_canvas p canvas holds = keeps_done (record p { canvas = canvas }) 0 (keeps p p.lines p.own canvas p.job p.unpainted p.stage p.tick holds)
+  keeps_canvas p canvas holds = keeps_done (record p { canvas = canvas }) 0
+      (keeps p p.lines p.own canvas p.job p.unpainted p.stage p.tick holds)
 
   keeps_frame : (p : Program) (paint : Paint) (canvas : Option Canvas) → P p → P (took_frame p paint canvas)
   keeps_frame p paint None holds = keeps_done p 0 holds
-  keeps_frame p paint (Some canvas) holds = keeps p p.lines p.own (Some (painted_canvas paint canvas)) p.job p.unpainted stage.Posting p.tick holds
+  keeps_frame p paint (Some canvas) holds = keeps p p.lines p.own (Some (painted_canvas paint canvas)) p.job p.unpainted stage.Posting
+      p.tick holds
 
   keeps_first : (p : Program) (l : Line) (v : Verb) (reply : Reply) → P p → P (took_first p (record l { verb = v }) reply)
   keeps_first p l (verb.Acquire s) reply holds = keeps_canvas p (given_canvas reply.payload) holds
@@ -67,7 +78,8 @@ module _ (P : Program → Type 0) (keeps : (p : Program) (lines : List (ℕ × L
   keeps_first p l verb.Discard reply holds = keeps_canvas p (given_canvas reply.payload) holds
   keeps_first p l (verb.Frame s paint) reply holds = keeps_frame p paint (given_canvas reply.payload) holds
   keeps_first p l verb.Tick reply holds =
-      keeps_job (ticking p) reply.payload (leg.Contexts 1 reply.value) (keeps p p.lines p.own p.canvas p.job p.unpainted (stage.Ticking (leg.Contexts 0 0)) (p.tick + 1) holds)
+      keeps_job (ticking p) reply.payload (leg.Contexts 1 reply.value)
+          (keeps p p.lines p.own p.canvas p.job p.unpainted (stage.Ticking (leg.Contexts 0 0)) (p.tick + 1) holds)
   keeps_first p l _ reply holds = keeps_done p reply.value holds
 
   keeps_leg : (p : Program) (reply : Reply) (l : Leg) → P p → P (took_leg p reply l)
@@ -78,7 +90,8 @@ module _ (P : Program → Type 0) (keeps : (p : Program) (lines : List (ℕ × L
   keeps_stage p l reply stage.Fresh holds = keeps_first p l l.verb reply holds
   keeps_stage p l reply stage.Posting holds = keeps_canvas p (given_canvas reply.payload) holds
   keeps_stage p l reply (stage.Ticking m) holds = keeps_leg p reply m holds
-  keeps_stage p l reply (stage.Ending m) holds = keeps_on (record p { job = None; unpainted = false }) m (keeps p p.lines p.own p.canvas None false p.stage p.tick holds)
+  keeps_stage p l reply (stage.Ending m) holds = keeps_on (record p { job = None; unpainted = false }) m
+      (keeps p p.lines p.own p.canvas None false p.stage p.tick holds)
 
   pub keeps_took : (p : Program) (reply : Reply) → P p → P (took p reply)
   keeps_took p reply holds = of_line (first_line p) refl
@@ -98,11 +111,15 @@ module _ (P : Program → Type 0) (keeps : (p : Program) (lines : List (ℕ × L
 pub same_script : (p : Program) (reply : Reply) → (worked (took p reply)).script ≡ p.script
 same_script p reply =
     let P : Program → Type 0 = λ q. q.script ≡ p.script in
-    let keeps = λ (q : Program) (lines : List (ℕ × Line)) (own : List (Name × ℕ)) (canvas : Option Canvas) (job : Option Job) (unpainted : Bool) (s : Stage) (tick : ℕ) (h : q.script ≡ p.script). h in
+    let keeps =
+        λ (q : Program) (lines : List (ℕ × Line)) (own : List (Name × ℕ)) (canvas : Option Canvas) (job : Option Job)
+          (unpainted : Bool) (s : Stage) (tick : ℕ) (h : q.script ≡ p.script). h in
     keeps_worked P keeps (took p reply) (keeps_took P keeps p reply refl)
 
 pub same_client : (p : Program) (reply : Reply) → (worked (took p reply)).client ≡ p.client
 same_client p reply =
     let P : Program → Type 0 = λ q. q.client ≡ p.client in
-    let keeps = λ (q : Program) (lines : List (ℕ × Line)) (own : List (Name × ℕ)) (canvas : Option Canvas) (job : Option Job) (unpainted : Bool) (s : Stage) (tick : ℕ) (h : q.client ≡ p.client). h in
+    let keeps =
+        λ (q : Program) (lines : List (ℕ × Line)) (own : List (Name × ℕ)) (canvas : Option Canvas) (job : Option Job)
+          (unpainted : Bool) (s : Stage) (tick : ℕ) (h : q.client ≡ p.client). h in
     keeps_worked P keeps (took p reply) (keeps_took P keeps p reply refl)

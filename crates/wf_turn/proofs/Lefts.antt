@@ -1,5 +1,6 @@
 -- Each answer leaves a program with fewer events to make.
-use Rattle.std.proofs.Common.{◌≡◌, ◌∙◌, ℕ, ◌+◌, ◌*◌, ◌-◌, ◌≤◌, ◌==◌, true, false, not, cond, ◌||◌, List, [], ◌∷◌, Option, Some, None, refl, sym, ap, subst, arith, IsTrue}
+use Rattle.std.proofs.Common.{◌≡◌, ◌∙◌, ℕ, ◌+◌, ◌*◌, ◌-◌, ◌≤◌, ◌==◌, true, false, not, cond, ◌||◌, List, [], ◌∷◌, Option, Some, None, refl,
+    sym, ap, subst, arith, IsTrue}
 use Rattle.std.specs.Prelude.{nat_lt}
 use Rattle.std.specs.Option.{is_some, option_map, IfSome}
 use Rattle.std.proofs.lemmas.List.Sums.{sum_by-cons}
@@ -16,17 +17,20 @@ use Rattle.wf_turn.specs.declared.stage.Leg.TheVariants as leg
 use Rattle.wf_turn.specs.declared.stage.Stage.{Stage}
 use Rattle.wf_turn.specs.declared.stage.Stage.TheVariants as stage
 use Rattle.wf_turn.specs.Names.{bound_name}
-use Rattle.wf_turn.specs.Program.{Program, asked_next, at_port, before, bound, first_line, first_of, given_canvas, go_on, is_event, line_done, painted_job, port_count, silent, skipped, ticking, took, took_at, took_first, took_frame, took_job, took_leg, worked}
+use Rattle.wf_turn.specs.Program.{Program, asked_next, at_port, before, bound, first_line, first_of, given_canvas, go_on, is_event,
+    line_done, painted_job, port_count, silent, skipped, ticking, took, took_at, took_first, took_frame, took_job, took_leg, worked}
 use Rattle.wf_turn.specs.Quota.{left, leg_left, line_quota, lines_left, stage_left}
 use Rattle.wf_turn.specs.Ready.{IsAsking, IsAt, IsFit}
 
 one_line : (l : ℕ × Line) (ls : List (ℕ × Line)) → lines_left (l ∷ ls) ≡ line_quota l.1.verb + lines_left ls
 one_line l ls = sum_by-cons (λ (m : ℕ × Line). line_quota m.1.verb) l ls
 
-left_skipped : (p : Program) (canvas : Option Canvas) (ls : List (ℕ × Line)) → left (record p { canvas = (skipped canvas ls).0; lines = (skipped canvas ls).1; stage = stage.Fresh }) ≤ lines_left ls
+left_skipped : (p : Program) (canvas : Option Canvas) (ls : List (ℕ × Line))
+    → left (record p { canvas = (skipped canvas ls).0; lines = (skipped canvas ls).1; stage = stage.Fresh }) ≤ lines_left ls
 left_skipped p canvas [] = omega arith
 left_skipped p canvas (l ∷ ls) =
-    elim (is_event (is_some canvas) l.1.verb) as (λ b. Left (cond b (canvas, l ∷ ls) (skipped (silent l.1.verb canvas) ls)) ≤ lines_left (l ∷ ls)) [
+    elim (is_event (is_some canvas) l.1.verb) as (λ b. Left (cond b (canvas, l ∷ ls) (skipped (silent l.1.verb canvas) ls)) ≤ lines_left (l
+        ∷ ls)) [
       | true ↦ omega (arith, one_line l ls)
       | false ↦ (let rest = left_skipped p (silent l.1.verb canvas) ls in omega (arith, rest, one_line l ls))
     ]
@@ -47,14 +51,18 @@ module _ (p : Program) (l : ℕ × Line) (ls : List (ℕ × Line)) where
 
   left_ports : (port : ℕ) → left (at_port at_line port) ≤ 2 * (port_count p + 1 - port) + lines_left ls
   left_ports port =
-      elim (nat_lt (port_count p) port) as (λ b. left (cond b (line_done at_line 0) (record at_line { stage = stage.Ticking (leg.Ports port) })) ≤ 2 * (port_count p + 1 - port) + lines_left ls) [
+      elim (nat_lt (port_count p) port)
+          as (λ b. left (cond b (line_done at_line 0) (record at_line { stage = stage.Ticking (leg.Ports port) })) ≤
+          2 * (port_count p + 1 - port) + lines_left ls) [
         | true ↦ omega (arith, left_done 0)
         | false ↦ omega arith
       ]
 
   left_asked : (asked last : ℕ) → left (asked_next at_line asked last) ≤ 2 * (16 - asked) + 2 * port_count p + lines_left ls
   left_asked asked last =
-      elim ((last == 0) || not (nat_lt asked 16)) as (λ b. left (cond b (at_port at_line 1) (record at_line { stage = stage.Ticking (leg.Contexts asked last) })) ≤ 2 * (16 - asked) + 2 * port_count p + lines_left ls) [
+      elim ((last == 0) || not (nat_lt asked 16)) as (λ b. left
+          (cond b (at_port at_line 1) (record at_line { stage = stage.Ticking (leg.Contexts asked last) })) ≤
+          2 * (16 - asked) + 2 * port_count p + lines_left ls) [
         | true ↦ omega (arith, left_ports 1)
         | false ↦ omega arith
       ]
@@ -72,7 +80,8 @@ module _ (p : Program) (l : ℕ × Line) (ls : List (ℕ × Line)) where
   left_frame paint None = omega (arith, left_done 0)
   left_frame paint (Some canvas) = omega arith
 
-left_first : (p : Program) (l : ℕ × Line) (ls : List (ℕ × Line)) (v : Verb) (reply : Reply) → IsTrue (is_event (is_some p.canvas) v) → port_count p ≤ 4
+left_first : (p : Program) (l : ℕ × Line) (ls : List (ℕ × Line)) (v : Verb) (reply : Reply) → IsTrue (is_event (is_some p.canvas) v)
+    → port_count p ≤ 4
     → left (took_first (record p { lines = l ∷ ls }) (record l.1 { verb = v }) reply) + 1 ≤ line_quota v + lines_left ls
 left_first p l ls (verb.Acquire s) reply event few = omega (arith, left_done (record p { canvas = given_canvas reply.payload }) l ls 0)
 left_first p l ls verb.Post reply event few = omega (arith, left_done (record p { canvas = given_canvas reply.payload }) l ls 0)
@@ -82,11 +91,14 @@ left_first p l ls (verb.Frame s paint) reply event few = omega (arith, left_fram
 left_first p l ls verb.Tick reply event few = omega (arith, few, left_job (ticking p) l ls reply.payload (leg.Contexts 1 reply.value))
 left_first p l ls _ reply event few = omega (arith, left_done p l ls reply.value)
 
-left_leg : (p : Program) (l : ℕ × Line) (ls : List (ℕ × Line)) (m : Leg) (reply : Reply) → IsAsking (port_count p) m → left (took_leg (record p { lines = l ∷ ls }) reply m) + 1 ≤ leg_left (port_count p) m + lines_left ls
-left_leg p l ls (leg.Contexts asked last) reply asking = omega (arith, asking, left_job p l ls reply.payload (leg.Contexts (asked + 1) reply.value))
+left_leg : (p : Program) (l : ℕ × Line) (ls : List (ℕ × Line)) (m : Leg) (reply : Reply) → IsAsking (port_count p) m
+    → left (took_leg (record p { lines = l ∷ ls }) reply m) + 1 ≤ leg_left (port_count p) m + lines_left ls
+left_leg p l ls (leg.Contexts asked last) reply asking =
+    omega (arith, asking, left_job p l ls reply.payload (leg.Contexts (asked + 1) reply.value))
 left_leg p l ls (leg.Ports port) reply asking = omega (arith, asking, left_job p l ls reply.payload (leg.Ports (port + 1)))
 
-left_at : (p : Program) (l : ℕ × Line) (ls : List (ℕ × Line)) (s : Stage) (reply : Reply) → IsAt (record p { lines = l ∷ ls }) l.1 s → port_count p ≤ 4
+left_at : (p : Program) (l : ℕ × Line) (ls : List (ℕ × Line)) (s : Stage) (reply : Reply) → IsAt (record p { lines = l ∷ ls }) l.1 s
+    → port_count p ≤ 4
     → left (took_at (record p { lines = l ∷ ls }) l.1 reply s) + 1 ≤ stage_left (port_count p) l.1.verb s + lines_left ls
 left_at p l ls stage.Fresh reply at few = left_first p l ls l.1.verb reply at few
 left_at p l ls stage.Posting reply at few = omega (arith, left_done (record p { canvas = given_canvas reply.payload }) l ls 0)
@@ -94,7 +106,9 @@ left_at p l ls (stage.Ticking m) reply at few = left_leg p l ls m reply at
 left_at p l ls (stage.Ending m) reply at few = omega (arith, left_on (record p { job = None; unpainted = false }) l ls m)
 
 left_worked : (p : Program) → left (worked p) ≡ left p
-left_worked p = elim p.unpainted as (λ b. left (cond b (record p { job = option_map painted_job p.job; unpainted = false }) p) ≡ left p) [ true ↦ refl | false ↦ refl ]
+left_worked p =
+    elim p.unpainted as (λ b. left (cond b (record p { job = option_map painted_job p.job; unpainted = false }) p)
+    ≡ left p) [ true ↦ refl | false ↦ refl ]
 
 -- each answer is one event less
 pub left_took : (p : Program) (l : Line) (reply : Reply) → IsFit p → first_line p ≡ Some l → left (worked (took p reply)) + 1 ≤ left p
@@ -104,7 +118,8 @@ left_took p l reply fit is = of_lines p.lines refl
     of_lines [] none = (let no : None ≡ Some l = ap first_of (sym none) ∙ is in absurd cc)
     of_lines (m ∷ ls) some =
         let same : p ≡ record p { lines = m ∷ ls } = ap (λ (ms : List (ℕ × Line)). record p { lines = ms }) some in
-        let at : IsAt (record p { lines = m ∷ ls }) m.1 p.stage = subst (λ (ms : List (ℕ × Line)). IfSome (first_of ms) (λ k. IsAt (record p { lines = ms }) k p.stage)) some fit.at in
+        let at : IsAt (record p { lines = m ∷ ls }) m.1 p.stage =
+            subst (λ (ms : List (ℕ × Line)). IfSome (first_of ms) (λ k. IsAt (record p { lines = ms }) k p.stage)) some fit.at in
         let less = left_at p m ls p.stage reply at fit.ports in
         let full : left (worked (took (record p { lines = m ∷ ls }) reply)) + 1 ≤ left (record p { lines = m ∷ ls }) =
         rw (left_worked (took (record p { lines = m ∷ ls }) reply)) (omega (arith, less)) in

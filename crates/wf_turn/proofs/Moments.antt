@@ -1,7 +1,6 @@
 -- Each frame of an order is what a port shows at a moment of it.
-use Rattle.std.proofs.Common.{◌≡◌, ℕ, Bool, true, false, cond, List, [], ◌++◌, Option, Some, None, refl, sym, subst, get_or, Ok, ap}
+use Rattle.std.proofs.Common.{◌≡◌, ℕ, Bool, false, List, [], ◌++◌, Option, Some, None, refl, sym, subst, get_or, Ok, ap}
 use Rattle.std.specs.Prelude.{pos, All}
-use Rattle.std.specs.Option.{option_map}
 use Rattle.std.proofs.lemmas.List.Elements.{All-append, All-cons, All-nil}
 use Rattle.wf_calls.specs.declared.call.Call.{Call}
 use Rattle.wf_calls.specs.declared.call.Call.TheVariants as call
@@ -19,11 +18,13 @@ use Rattle.wf_turn.specs.declared.stage.Leg.TheVariants as leg
 use Rattle.wf_turn.specs.declared.stage.Wanted.{Wanted}
 use Rattle.wf_turn.specs.Moments.{Begins, IsOfMoment}
 use Rattle.wf_turn.specs.Play.{frames_after, is_marked, replay}
-use Rattle.wf_turn.specs.Program.{given_canvas, go_on, line_done, next, painted_job, Program, took, took_canvas, took_frame, took_job, worked, plain, asked_for}
+use Rattle.wf_turn.specs.Program.{given_canvas, go_on, line_done, next, painted_job, Program, took, took_canvas, took_frame, took_job,
+    worked, plain, asked_for}
 use Rattle.wf_turn.specs.Turns.{Show, frames_of, shown, turn, program_at}
 use Rattle.wf_turn.proofs.Begins.{nothing_shown}
 use Rattle.wf_turn.proofs.Cases.{turn_case, IsTick, asks_begin}
 use Rattle.wf_turn.proofs.Holding.{Holds, AllHold, handed_hold, opening_hold}
+use Rattle.wf_turn.proofs.Works.{worked_painted}
 use Rattle.wf_turn.proofs.Painting.{canvas_painted, frame_painted, IsPainted, done_painted, on_painted}
 use Rattle.wf_turn.proofs.Replays.{Step, at_step, order_keeps, taken_turn, turn_of}
 use Rattle.wf_words.specs.Each.{each_at}
@@ -31,13 +32,9 @@ use Rattle.wf_turn.specs.declared.stage.Stage.{Stage}
 use Rattle.wf_model.specs.Beginnings.{by_begin, next_is, port_is}
 use Rattle.wf_calls.specs.Replies.{bare}
 
--- between two turns no program has a Job to paint
-worked_painted : (p : Program) → (worked p).unpainted ≡ false
-worked_painted p =
-    elim p.unpainted as (λ b. p.unpainted ≡ b → (cond b (record p { job = option_map painted_job p.job; unpainted = false }) p).unpainted ≡ false) [ true ↦ λ was. refl | false ↦ λ was. was ] refl
-
 -- the turn of a program: what it shows behind the answer, the entry of the answer tells
-module _ (show : Show) (client : ℕ) (m : Bool) (p : Program) (stands : program_at show client ≡ Some p) (painted : p.unpainted ≡ false) where
+module _ (show : Show) (client : ℕ) (m : Bool) (p : Program) (stands : program_at show client ≡ Some p) (painted : p.unpainted ≡ false)
+    where
   abbrev h : State
   h = show.state
 
@@ -110,7 +107,8 @@ record Adds (show after : Show) (t : Turn) : Type 0 where
   behind : after.frames ≡ show.frames ++ frames
   begun : All (λ f. Begins f show t) frames
 
-turn_adds : (show : Show) (client : ℕ) (m : Bool) (done : Show × Turn) → AllHold IsPainted show.programs → turn show client m ≡ Some done → Adds show done.0 done.1
+turn_adds : (show : Show) (client : ℕ) (m : Bool) (done : Show × Turn) → AllHold IsPainted show.programs → turn show client m ≡ Some done
+    → Adds show done.0 done.1
 turn_adds show client m done are taken =
     let t = turn_of show client m done taken in
     let reply : Reply = (step show.state client t.wanted.call m).1 in
@@ -132,16 +130,21 @@ module _ (script : PlainScript) (order : List Turn) where
   turn_keeps : (show after : Show) → Step script order show after → AreOfMoments show → AreOfMoments after
   turn_keeps show after step are =
       let t : Turn = step.entry in
-      let adds = turn_adds show t.client (is_marked t) (after, t) are.painted (taken_turn t (turn show t.client (is_marked t)) after step.takes) in
+      let adds = turn_adds show t.client (is_marked t) (after, t) are.painted
+          (taken_turn t (turn show t.client (is_marked t)) after step.takes) in
       let own : (f : Frame) → Begins f show t → IsOfMoment script order f = λ f begins. at_step (Begins f) step begins in
       record {
         painted = adds.painted;
-        frames = subst (All (IsOfMoment script order)) (sym adds.behind) (All-append (IsOfMoment script order) show.frames adds.frames are.frames (λ k d within. own (get_or adds.frames k d) (adds.begun k d within)));
+        frames = subst (All (IsOfMoment script order)) (sym adds.behind)
+            (All-append (IsOfMoment script order) show.frames adds.frames are.frames
+            (λ k d within. own (get_or adds.frames k d) (adds.begun k d within)));
       }
 
   pub of_moments : All (IsOfMoment script order) (frames_after (replay script order))
   of_moments =
       elim (replay script order) as (λ (o : Option Show). replay script order ≡ o → All (IsOfMoment script order) (frames_after o)) [
         | None ↦ λ none. All-nil (IsOfMoment script order)
-        | Some last ↦ λ is. (order_keeps script order AreOfMoments turn_keeps (record { painted = opening_hold IsPainted refl script 0 8; frames = All-nil (IsOfMoment script order) }) last is).frames
+        | Some last ↦
+            λ is. (order_keeps script order AreOfMoments turn_keeps
+            (record { painted = opening_hold IsPainted refl script 0 8; frames = All-nil (IsOfMoment script order) }) last is).frames
       ] refl

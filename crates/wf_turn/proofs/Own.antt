@@ -14,7 +14,8 @@ use Rattle.wf_image.specs.Contents.{image_of}
 use Rattle.wf_stream.specs.Streams.{KeptStream, stream_at}
 use Rattle.wf_calls.specs.declared.call.JobKind.{JobKind}
 use Rattle.wf_calls.specs.declared.call.JobKind.TheVariants as kind
-use Rattle.wf_model.specs.Frames.{Beginning, content_shape, has_shape, is_of_frame, job_of, newest_images, newest_of, running_of, same_kind, scene_streams}
+use Rattle.wf_model.specs.Frames.{Beginning, content_shape, has_shape, is_of_frame, job_of, newest_images, newest_of, running_of,
+    same_kind, scene_streams}
 use Rattle.wf_model.specs.Picture.{Images}
 use Rattle.wf_model.specs.State.{State}
 use Rattle.wf_turn.specs.Program.{painted_job}
@@ -33,7 +34,8 @@ no_image n (k ∷ ns) streams absent =
       | false ↦ λ apart. of_newest apart (no_image n ns streams (rw apart at absent)) (newest_of (stream_at k streams)) refl
     ] refl
   where
-    of_newest : (k == n) ≡ false → image_of n (newest_images ns streams) ≡ None → (o : Option Bitmap) → newest_of (stream_at k streams) ≡ o → image_of n (newest_images (k ∷ ns) streams) ≡ None
+    of_newest : (k == n) ≡ false → image_of n (newest_images ns streams) ≡ None → (o : Option Bitmap) → newest_of (stream_at k streams) ≡ o
+        → image_of n (newest_images (k ∷ ns) streams) ≡ None
     of_newest apart rest None is = rw is rest
     of_newest apart rest (Some image) is = rw (is, apart) rest
 
@@ -41,7 +43,8 @@ newest_apart : (ns : List ℕ) (streams : List KeptStream) → NoneTwice ns → 
 newest_apart [] streams none = tt
 newest_apart (n ∷ ns) streams none = of_newest (newest_apart ns streams none.1) (newest_of (stream_at n streams)) refl
   where
-    of_newest : Apart (newest_images ns streams) → (o : Option Bitmap) → newest_of (stream_at n streams) ≡ o → Apart (newest_images (n ∷ ns) streams)
+    of_newest : Apart (newest_images ns streams) → (o : Option Bitmap) → newest_of (stream_at n streams) ≡ o
+        → Apart (newest_images (n ∷ ns) streams)
     of_newest rest None is = rw is rest
     of_newest rest (Some image) is = rw is (no_image n ns streams none.0, rest)
 
@@ -59,7 +62,8 @@ same_kinds (kind.Context handle target) = rw (eq-eqb handle handle refl, eq-eqb 
 same_kinds (kind.Port p) = eq-eqb p p refl
 
 -- of images that stand apart, each has its own shape, among more images too
-all_shaped : (xs : Images) → Apart xs → (whole : Images) → ((n : ℕ) (i : Bitmap) → image_of n xs ≡ Some i → image_of n whole ≡ Some i) → list_all (λ c. has_shape (image_of c.stream whole) c) (map content_shape xs) ≡ true
+all_shaped : (xs : Images) → Apart xs → (whole : Images) → ((n : ℕ) (i : Bitmap) → image_of n xs ≡ Some i → image_of n whole ≡ Some i)
+    → list_all (λ c. has_shape (image_of c.stream whole) c) (map content_shape xs) ≡ true
 all_shaped [] apart whole within = refl
 all_shaped (p ∷ xs) apart whole within =
     let here : (p.0 == p.0) ≡ true = eq-eqb p.0 p.0 refl in
@@ -70,7 +74,8 @@ all_shaped (p ∷ xs) apart whole within =
     more : (n : ℕ) (i : Bitmap) → image_of n xs ≡ Some i → image_of n (p ∷ xs) ≡ Some i
     more n i found =
         elim (p.0 == n) as (λ b. (p.0 == n) ≡ b → image_of n (p ∷ xs) ≡ Some i) [
-          | true ↦ λ here. absurd (let same : p.0 ≡ n = grind (arith, nat_tests, here) in let no : image_of n xs ≡ None = subst (λ (k : ℕ). image_of k xs ≡ None) same apart.0 in cc)
+          | true ↦ λ here. absurd (let same : p.0 ≡ n = grind (arith, nat_tests, here) in
+              let no : image_of n xs ≡ None = subst (λ (k : ℕ). image_of k xs ≡ None) same apart.0 in cc)
           | false ↦ λ other. rw other found
         ] refl
 

@@ -26,17 +26,20 @@ abbrev JobIsOk : Reply → Type 0
 JobIsOk wanted = (job : Job) → wanted.payload ≡ payload.Job job → wanted.code ≡ code.Ok
 
 -- a Job that comes with an answer as wanted comes with one that is wanted
-wanted_job : (is_new : Bool) (wanted : Payload) (job : Job) → SamePayload is_new wanted (payload.Job job) → (j : Job) × (wanted ≡ payload.Job j)
+wanted_job : (is_new : Bool) (wanted : Payload) (job : Job) → SamePayload is_new wanted (payload.Job job) → (j : Job)
+    × (wanted ≡ payload.Job j)
 wanted_job is_new (payload.Job j) job same = (j, refl)
 wanted_job is_new payload.Nothing job same = absurd cc
 wanted_job is_new (payload.Canvas canvas) job same = absurd cc
 
 carried : (wanted given : Reply) (job : Job) → JobIsOk wanted → IsAnswer wanted given → given.payload ≡ payload.Job job → IsPaintable job
 carried wanted given job ok answer has =
-    let same : SamePayload (is_ok_code given.code) wanted.payload (payload.Job job) = subst (λ (x : Payload). SamePayload (is_ok_code given.code) wanted.payload x) has answer.payload in
+    let same : SamePayload (is_ok_code given.code) wanted.payload (payload.Job job) =
+        subst (λ (x : Payload). SamePayload (is_ok_code given.code) wanted.payload x) has answer.payload in
     let j = wanted_job (is_ok_code given.code) wanted.payload job same in
     let is : is_ok_code given.code ≡ true = ap is_ok_code (answer.code ∙ ok j.0 j.1) in
-    let carries : CarriesPaintable (is_ok_code given.code) (payload.Job job) = subst (λ (x : Payload). CarriesPaintable (is_ok_code given.code) x) has answer.paintable in
+    let carries : CarriesPaintable (is_ok_code given.code) (payload.Job job) =
+        subst (λ (x : Payload). CarriesPaintable (is_ok_code given.code) x) has answer.paintable in
     rw is at carries
 
 -- a Job that comes with the answer to a call that begins a frame can be painted
@@ -61,7 +64,8 @@ on_painted p painted l = on_holds IsPainted p l painted
 abbrev CanBePainted : Option Job → Bool → Type 0
 CanBePainted job unpainted = IsTrue unpainted → IfSome job IsPaintable
 
-pub took_work : (p : Program) (h : State) (client : ℕ) (w : Wanted) (reply : Reply) → p.unpainted ≡ false → MayAnswer h client w.call reply → next p ≡ Some w → IsWork (took p reply)
+pub took_work : (p : Program) (h : State) (client : ℕ) (w : Wanted) (reply : Reply) → p.unpainted ≡ false → MayAnswer h client w.call reply
+    → next p ≡ Some w → IsWork (took p reply)
 took_work p h client w reply painted may asks =
     took_holds CanBePainted (λ unpainted. tt) p w reply (λ unpainted. absurd (cc (painted, unpainted)))
     (λ begins job has unpainted. begun_paintable h client w.call reply job begins may has) asks

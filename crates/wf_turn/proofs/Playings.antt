@@ -1,5 +1,6 @@
 -- Turns that are played one after another, and their frames.
-use Rattle.std.proofs.Common.{◌≡◌, ◌∙◌, ℕ, ◌+◌, ◌*◌, ◌<◌, ◌≤◌, ◌^◌, Bool, true, false, ◌⊎◌, inl, inr, List, [], ◌∷◌, ◌++◌, length, Option, Some, None, refl, sym, ap, subst, arith, append_assoc, append-nil}
+use Rattle.std.proofs.Common.{◌≡◌, ◌∙◌, ℕ, ◌+◌, ◌*◌, ◌<◌, ◌≤◌, ◌^◌, Bool, true, false, ◌⊎◌, inl, inr, List, [], ◌∷◌, ◌++◌, length, Option,
+    Some, None, refl, sym, ap, subst, arith, append_assoc, append-nil}
 use Rattle.std.specs.Prelude.{flat_map, slice_get}
 use Rattle.std.specs.Option.{IsSome}
 use Rattle.std.proofs.lemmas.List.{length-append}
@@ -12,7 +13,9 @@ use Rattle.wf_film.specs.Film.{Frame, frame_bytes, frame_of}
 use Rattle.wf_io.specs.Bytes.{Puts, PutsPart}
 use Rattle.wf_io.specs.Parts.{puts_both, stops_late}
 use Rattle.wf_model.specs.State.{Running}
-use Rattle.wf_turn.specs.Playing.{PlaysTurn, PlaysTurns, StopsTurn, StopsTurns, Turned, TurnsTo, frames_if, job_frames, shown_by, with_frames}
+use Rattle.wf_turn.specs.Playing.{ArePainted, PlaysTurn, PlaysTurns, StopsTurn, StopsTurns, Turned, TurnsTo, frames_if, job_frames,
+    shown_by,
+    with_frames}
 use Rattle.wf_turn.specs.Program.{Program}
 use Rattle.wf_turn.specs.Quota.{all_left}
 use Rattle.wf_turn.specs.Serial.{IsRun}
@@ -22,34 +25,44 @@ use Rattle.wf_turn.proofs.Framing.{next_behind}
 
 module _ {K : Type 0} (took : K → List ℕ → Type 0) where
   -- turns were played, and there is room for those that are left
-  pub record IsPlaying (old new : K) (was written : ℕ) (start now : Show) (played : List Turn) (most room before_faults faults : ℕ) : Type 0 where
+  pub record IsPlaying (old new : K) (was written : ℕ) (start now : Show) (played : List Turn) (most room before_faults faults : ℕ) : Type 0
+      where
     pub plays : PlaysTurns took old new was written start now played
     pub fits : length played + all_left now.programs ≤ room
     pub many : length played + all_left now.programs ≤ most
     pub few : written + all_left now.programs * 4194314 < 2 ^ 62
     pub later : before_faults ≤ faults
+    pub painted : ArePainted now.programs
 
   flat_one : (frames more : List Frame) → flat_map frame_bytes (frames ++ more) ≡ flat_map frame_bytes frames ++ flat_map frame_bytes more
   flat_one frames more = flat_map-append frame_bytes frames more
 
   -- before the first turn
   pub none_played : (k : K) (was : ℕ) (start : Show) → PlaysTurns took k k was was start start []
-  none_played k was start = record { frames = []; run = refl; put = λ before t. subst (took k) (sym (append-nil before)) t; written_is = omega arith }
+  none_played k was start = record { frames = []; run = refl; put = λ before t. subst (took k) (sym (append-nil before)) t;
+      written_is = omega arith }
 
   -- one turn more
-  pub one_played : (a b c : K) (was middle written : ℕ) (start last now : Show) (played after : List Turn) → PlaysTurns took a b was middle start last played → PlaysTurn took b c middle written last now played after → PlaysTurns took a c was written start now after
+  pub one_played : (a b c : K) (was middle written : ℕ) (start last now : Show) (played after : List Turn)
+      → PlaysTurns took a b was middle start last played → PlaysTurn took b c middle written last now played after
+      → PlaysTurns took a c was written start now after
   one_played a b c was middle written start last now played after so_far one =
       record {
         frames = so_far.frames ++ one.frames;
         run =
             subst (λ (ts : List Turn). IsRun (with_frames [] start) ts (with_frames (so_far.frames ++ one.frames) now)) (sym one.after_is)
-            (run_more (with_frames [] start) (with_frames so_far.frames last) (with_frames (so_far.frames ++ one.frames) now) played one.turn so_far.run (next_behind so_far.frames one.frames last now one.turn one.next));
-        put = subst (λ (bytes : List ℕ). Puts took a c bytes) (sym (flat_one so_far.frames one.frames)) (puts_both took a b c (flat_map frame_bytes so_far.frames) (flat_map frame_bytes one.frames) so_far.put one.put);
-        written_is = omega (arith, so_far.written_is, one.written_is, ap length (flat_one so_far.frames one.frames), length-append (flat_map frame_bytes so_far.frames) (flat_map frame_bytes one.frames));
+            (run_more (with_frames [] start) (with_frames so_far.frames last) (with_frames (so_far.frames ++ one.frames) now) played
+                one.turn so_far.run (next_behind so_far.frames one.frames last now one.turn one.next));
+        put = subst (λ (bytes : List ℕ). Puts took a c bytes) (sym (flat_one so_far.frames one.frames))
+            (puts_both took a b c (flat_map frame_bytes so_far.frames) (flat_map frame_bytes one.frames) so_far.put one.put);
+        written_is = omega (arith, so_far.written_is, one.written_is, ap length (flat_one so_far.frames one.frames),
+            length-append (flat_map frame_bytes so_far.frames) (flat_map frame_bytes one.frames));
       }
 
   -- a turn whose frame was not put whole
-  pub one_stopped : (a b c : K) (was middle written : ℕ) (start last now : Show) (played after : List Turn) → PlaysTurns took a b was middle start last played → StopsTurn took b c middle written last now played after → StopsTurns took a c was written start now after
+  pub one_stopped : (a b c : K) (was middle written : ℕ) (start last now : Show) (played after : List Turn)
+      → PlaysTurns took a b was middle start last played → StopsTurn took b c middle written last now played after
+      → StopsTurns took a c was written start now after
   one_stopped a b c was middle written start last now played after so_far stop =
       let one : flat_map frame_bytes (stop.frame ∷ []) ≡ frame_bytes stop.frame = append-nil (frame_bytes stop.frame) in
       record {
@@ -66,13 +79,16 @@ module _ {K : Type 0} (took : K → List ℕ → Type 0) where
         own = stop.own;
         played_is = stop.after_is;
         part =
-            subst (λ (bytes : List ℕ). PutsPart took a c was bytes written) (sym (flat_one so_far.frames (stop.frame ∷ []) ∙ ap (λ (bytes : List ℕ). flat_map frame_bytes so_far.frames ++ bytes) one))
-            (stops_late took a b c was middle (flat_map frame_bytes so_far.frames) (frame_bytes stop.frame) written so_far.put so_far.written_is stop.part);
+            subst (λ (bytes : List ℕ). PutsPart took a c was bytes written)
+                (sym (flat_one so_far.frames (stop.frame ∷ []) ∙ ap (λ (bytes : List ℕ). flat_map frame_bytes so_far.frames ++ bytes) one))
+            (stops_late took a b c was middle (flat_map frame_bytes so_far.frames) (frame_bytes stop.frame) written so_far.put
+                so_far.written_is stop.part);
         least = omega (arith, so_far.written_is, stop.part.least);
       }
 
 -- what is shown is one frame at most
-pub one_shown : (painted : Bool) (ps : List Program) (client : ℕ) → (shown_by painted ps client ≡ []) ⊎ ((f : Frame) × (shown_by painted ps client ≡ f ∷ []))
+pub one_shown : (painted : Bool) (ps : List Program) (client : ℕ)
+    → (shown_by painted ps client ≡ []) ⊎ ((f : Frame) × (shown_by painted ps client ≡ f ∷ []))
 one_shown painted ps client = of_program (slice_get ps client) refl
   where
     of_kind : (k : JobKind) (tick : ℕ) (job : Job) → (shown k tick job ≡ []) ⊎ ((f : Frame) × (shown k tick job ≡ f ∷ []))
@@ -87,17 +103,22 @@ one_shown painted ps client = of_program (slice_get ps client) refl
     of_painted true p = of_job p p.job refl
     of_painted false p = inl refl
 
-    of_program : (o : Option Program) → slice_get ps client ≡ o → (shown_by painted ps client ≡ []) ⊎ ((f : Frame) × (shown_by painted ps client ≡ f ∷ []))
+    of_program : (o : Option Program) → slice_get ps client ≡ o
+        → (shown_by painted ps client ≡ []) ⊎ ((f : Frame) × (shown_by painted ps client ≡ f ∷ []))
     of_program None is = inl (rw is refl)
     of_program (Some p) is = elim (of_painted painted p) [ inl none ↦ inl (rw is none) | inr one ↦ inr (one.0, rw is one.1) ]
 
 -- a frame that was not put whole, and the end of it
-pub stopped : {K : Type 0} (took : K → List ℕ → Type 0) (k a : K) (was written : ℕ) (show middle now : Show) (client : ℕ) (t u : Turn) (painted ended : Bool) (played first after : List Turn) → painted ≡ true
-    → Turned show client middle t painted → Turned middle client now u ended → PutsPart took k a was (flat_map frame_bytes (shown_by true middle.programs client)) written
+pub stopped : {K : Type 0} (took : K → List ℕ → Type 0) (k a : K) (was written : ℕ) (show middle now : Show) (client : ℕ) (t u : Turn)
+    (painted ended : Bool) (played first after : List Turn) → painted ≡ true
+    → Turned show client middle t painted → Turned middle client now u ended
+        → PutsPart took k a was (flat_map frame_bytes (shown_by true middle.programs client)) written
     → first ≡ played ++ t ∷ [] → after ≡ first ++ u ∷ [] → StopsTurn took k a was written show now played after
 stopped took k a was written show middle now client t u painted ended played first after paints begins ends part first_is after_is =
     elim (one_shown true middle.programs client) [
-      | inl none ↦ absurd (let short = part.short in let nothing : length (flat_map frame_bytes (shown_by true middle.programs client)) ≡ 0 = ap (λ (fs : List Frame). length (flat_map frame_bytes fs)) none in omega (arith, part.least, short, nothing))
+      | inl none ↦
+          absurd (let short = part.short in let nothing : length (flat_map frame_bytes (shown_by true middle.programs client))
+          ≡ 0 = ap (λ (fs : List Frame). length (flat_map frame_bytes fs)) none in omega (arith, part.least, short, nothing))
       | inr one ↦ of_frame one.0 one.1
     ]
   where
@@ -114,9 +135,11 @@ stopped took k a was written show middle now client t u painted ended played fir
           ended = subst (λ (fs : List Frame). TurnsTo middle u fs now) (ends.ended runs) ends.next;
           own = ends.client_is ∙ sym begins.client_is;
           after_is = after_is ∙ ap (λ (ts : List Turn). ts ++ u ∷ []) first_is ∙ append_assoc played (t ∷ []) (u ∷ []);
-          part = subst (λ (bytes : List ℕ). PutsPart took k a was bytes written) (ap (λ (fs : List Frame). flat_map frame_bytes fs) is ∙ append-nil (frame_bytes f)) part;
+          part = subst (λ (bytes : List ℕ). PutsPart took k a was bytes written) (ap (λ (fs : List Frame). flat_map frame_bytes fs) is
+              ∙ append-nil (frame_bytes f)) part;
         }
       where
-        of_running : (o : Option Running) → middle.state.frame ≡ o → shown_by painted middle.programs client ≡ f ∷ [] → IsSome middle.state.frame
+        of_running : (o : Option Running) → middle.state.frame ≡ o → shown_by painted middle.programs client ≡ f ∷ []
+            → IsSome middle.state.frame
         of_running None free shows = absurd (let no : [] ≡ f ∷ [] = sym (begins.begun free) ∙ shows in cc)
         of_running (Some r) runs shows = rw runs refl

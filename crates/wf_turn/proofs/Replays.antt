@@ -1,5 +1,6 @@
 -- What each turn keeps holds in every show that an order reaches.
-use Rattle.std.proofs.Common.{◌≡◌, ◌∙◌, ℕ, Bool, true, false, not, cond, ◌&&◌, ◌==◌, List, [], ◌∷◌, ◌++◌, Option, Some, None, refl, sym, ap, subst, append_assoc}
+use Rattle.std.proofs.Common.{◌≡◌, ◌∙◌, ℕ, Bool, true, false, not, cond, ◌&&◌, ◌==◌, List, [], ◌∷◌, ◌++◌, Option, Some, None, refl, sym,
+    ap, subst, append_assoc}
 use Rattle.std.specs.Prelude.{slice_get}
 use Rattle.std.specs.Option.{unwrap_or}
 use Rattle.std.proofs.lemmas.Bool.{and_parts, eqb-true}
@@ -36,12 +37,14 @@ taken_turn t (Some done) after is = of_same (same_turn done.1 t) refl
 abbrev pub next_show : Show → Turn → Option Show
 next_show show t = replay_turn t (turn show t.client (is_marked t))
 
-replay_step : (show : Show) (t : Turn) (ts : List Turn) (o : Option Show) → next_show show t ≡ o → replay_from show (t ∷ ts) ≡ elim o as (λ _. Option Show) [ None ↦ None | Some after ↦ replay_from after ts ]
+replay_step : (show : Show) (t : Turn) (ts : List Turn) (o : Option Show) → next_show show t ≡ o
+    → replay_from show (t ∷ ts) ≡ elim o as (λ _. Option Show) [ None ↦ None | Some after ↦ replay_from after ts ]
 unfolding replay_from
 replay_step show t ts o is = ap (λ (x : Option Show). elim x as (λ _. Option Show) [ None ↦ None | Some after ↦ replay_from after ts ]) is
 
 -- an entry more is a turn more
-replay_more : (start show after : Show) (ts : List Turn) (t : Turn) → replay_from start ts ≡ Some show → next_show show t ≡ Some after → replay_from start (ts ++ t ∷ []) ≡ Some after
+replay_more : (start show after : Show) (ts : List Turn) (t : Turn) → replay_from start ts ≡ Some show → next_show show t ≡ Some after
+    → replay_from start (ts ++ t ∷ []) ≡ Some after
 replay_more start show after [] t reached is =
     let same : Some start ≡ Some show = sym (nothing_replayed start) ∙ reached in
     let own : start ≡ show = ap (λ (o : Option Show). unwrap_or o show) same in
@@ -49,7 +52,8 @@ replay_more start show after [] t reached is =
 replay_more start show after (u ∷ us) t reached is =
     elim (next_show start u) as (λ (o : Option Show). next_show start u ≡ o → replay_from start (u ∷ us ++ t ∷ []) ≡ Some after) [
       | None ↦ λ none. absurd (let no : None ≡ Some show = sym (replay_step start u us None none) ∙ reached in cc)
-      | Some s ↦ λ some. replay_step start u (us ++ t ∷ []) (Some s) some ∙ replay_more s show after us t (sym (replay_step start u us (Some s) some) ∙ reached) is
+      | Some s ↦ λ some. replay_step start u (us ++ t ∷ []) (Some s) some
+          ∙ replay_more s show after us t (sym (replay_step start u us (Some s) some) ∙ reached) is
     ] refl
 
 -- a turn of the order: the entries before it and behind it, and the show that it leaves
@@ -62,20 +66,26 @@ pub record Step (script : PlainScript) (order : List Turn) (show after : Show) :
   pub takes : next_show show entry ≡ Some after
 
 -- what holds at its moment holds at one entry of the order
-pub at_step : {script : PlainScript} {order : List Turn} {show after : Show} (Holds : Show → Turn → Type 0) (s : Step script order show after) → Holds show s.entry
+pub at_step : {script : PlainScript} {order : List Turn} {show after : Show} (Holds : Show → Turn
+    → Type 0) (s : Step script order show after) → Holds show s.entry
     → At script order Holds
-at_step {show = show} Holds s holds = record { earlier = s.earlier; entry = s.entry; later = s.later; cut = s.cut; moment = show; reached = s.reached; holds = holds }
+at_step {show = show} Holds s holds = record { earlier = s.earlier; entry = s.entry; later = s.later; cut = s.cut; moment = show;
+    reached = s.reached; holds = holds }
 
-module _ (script : PlainScript) (order : List Turn) (Holds : Show → Type 0) (keeps : (show after : Show) → Step script order show after → Holds show → Holds after) where
-  rest_keeps : (later earlier : List Turn) (show last : Show) → order ≡ earlier ++ later → replay script earlier ≡ Some show → Holds show → replay_from show later ≡ Some last → Holds last
+module _ (script : PlainScript) (order : List Turn) (Holds : Show → Type 0) (keeps : (show after : Show) → Step script order show after
+    → Holds show → Holds after) where
+  rest_keeps : (later earlier : List Turn) (show last : Show) → order ≡ earlier ++ later → replay script earlier ≡ Some show → Holds show
+      → replay_from show later ≡ Some last → Holds last
   rest_keeps [] earlier show last cut reached holds is =
       let same : Some show ≡ Some last = sym (nothing_replayed show) ∙ is in
       subst Holds (ap (λ (o : Option Show). unwrap_or o last) same) holds
   rest_keeps (t ∷ later) earlier show last cut reached holds is =
       elim (next_show show t) as (λ (o : Option Show). next_show show t ≡ o → Holds last) [
         | None ↦ λ none. absurd (let no : None ≡ Some last = sym (replay_step show t later None none) ∙ is in cc)
-        | Some after ↦ λ some. rest_keeps later (earlier ++ t ∷ []) after last (cut ∙ sym (append_assoc earlier (t ∷ []) later)) (replay_more (opening_show script) show after earlier t reached some)
-            (keeps show after (record { earlier = earlier; entry = t; later = later; cut = cut; reached = reached; takes = some }) holds) (sym (replay_step show t later (Some after) some) ∙ is)
+        | Some after ↦ λ some. rest_keeps later (earlier ++ t ∷ []) after last (cut ∙ sym (append_assoc earlier (t ∷ []) later))
+            (replay_more (opening_show script) show after earlier t reached some)
+            (keeps show after (record { earlier = earlier; entry = t; later = later; cut = cut; reached = reached; takes = some }) holds)
+                (sym (replay_step show t later (Some after) some) ∙ is)
       ] refl
 
   pub order_keeps : Holds (opening_show script) → (last : Show) → replay script order ≡ Some last → Holds last
@@ -92,17 +102,20 @@ pub record TurnOf (show : Show) (client : ℕ) (m : Bool) (done : Show × Turn) 
 
 own_program : (show : Show) (client : ℕ) (p : Program) → program_at show client ≡ Some p → slice_get show.programs client ≡ Some p
 own_program show client p at =
-    elim (not (client == 0) && is_setting_up show.programs) as (λ b. cond b None (slice_get show.programs client) ≡ Some p → slice_get show.programs client ≡ Some p) [ true ↦ λ e. absurd cc | false ↦ λ e. e ] at
+    elim (not (client == 0) && is_setting_up show.programs) as (λ b. cond b None (slice_get show.programs client) ≡ Some p
+        → slice_get show.programs client ≡ Some p) [ true ↦ λ e. absurd cc | false ↦ λ e. e ] at
 
 pub turn_of : (show : Show) (client : ℕ) (m : Bool) (done : Show × Turn) → turn show client m ≡ Some done → TurnOf show client m done
 unfolding turn
 turn_of show client m done taken = of_program (program_at show client) refl
   where
-    of_wait : (p : Program) (w : Wanted) → program_at show client ≡ Some p → next p ≡ Some w → (b : Bool) → (w.wait && is_running show.state) ≡ b → TurnOf show client m done
+    of_wait : (p : Program) (w : Wanted) → program_at show client ≡ Some p → next p ≡ Some w → (b : Bool)
+        → (w.wait && is_running show.state) ≡ b → TurnOf show client m done
     of_wait p w at asks true waits = absurd (let no : None ≡ Some done = rw (at, asks, waits) at taken in cc)
     of_wait p w at asks false waits =
         let same : Some (answered show client p (step show.state client w.call m)) ≡ Some done = rw (at, asks, waits) at taken in
-        record { program = p; wanted = w; stands = at; own = own_program show client p at; asks = asks; is = ap (λ (o : Option (Show × Turn)). unwrap_or o done) same }
+        record { program = p; wanted = w; stands = at; own = own_program show client p at; asks = asks;
+            is = ap (λ (o : Option (Show × Turn)). unwrap_or o done) same }
 
     of_wanted : (p : Program) → program_at show client ≡ Some p → (o : Option Wanted) → next p ≡ o → TurnOf show client m done
     of_wanted p at None asks = absurd (let no : None ≡ Some done = rw (at, asks) at taken in cc)

@@ -1,5 +1,5 @@
 -- Worked scripts: what the plain machine and the plain player make of them.
-use Rattle.std.proofs.Common.{◌≡◌, ℕ, List, [], ◌∷◌, map, Option, Some, None, codes, length, pos, refl}
+use Rattle.std.proofs.Common.{◌≡◌, ℕ, List, [], ◌∷◌, ◌++◌, map, Option, Some, None, codes, length, pos, refl, sym, subst}
 use Rattle.wf_pixel.specs.declared.Rgba.{Rgba}
 use Rattle.wf_pixel.specs.declared.Size.{Size}
 use Rattle.wf_pixel.specs.declared.Format.TheVariants.{Rgba8}
@@ -18,7 +18,10 @@ use Rattle.wf_script.specs.declared.line.Verb.{Verb}
 use Rattle.wf_script.specs.declared.line.Verb.TheVariants as verb
 use Rattle.wf_script.specs.declared.name.Name.{Name}
 use Rattle.wf_script.specs.Script.{PlainScript}
-use Rattle.wf_turn.specs.Turns.{turn}
+use Rattle.wf_calls.specs.declared.call.Call.TheVariants as call
+use Rattle.wf_turn.specs.Moments.{Begins, IsOfMoment}
+use Rattle.wf_turn.specs.Program.{Program, next, program, waiting}
+use Rattle.wf_turn.specs.Turns.{Show, opening_show, turn}
 use Rattle.wf_turn.specs.Play.{serial_from, serial_order, replay_from, film, frames_after, replay}
 
 abbrev line : ℕ → Verb → Line
@@ -86,9 +89,12 @@ set attr to = line 0 (verb.ElementSet d e attr to)
 abbrev composed : PlainScript
 composed =
     on_port (record { w = 4; h = 2 })
-    (made d verb.DeviceNew ∷ made c (verb.ScreenContext d (pos 1)) ∷ new_stream ∷ made x (verb.SourceNew d c s) ∷ made e (verb.ElementNew d c)
-    ∷ set element.Source (value.Handle x) ∷ set element.SrcRect (value.Numbers (pos 0 ∷ pos 0 ∷ pos 1 ∷ pos 1 ∷ [])) ∷ set element.Dest (value.Numbers (pos 0 ∷ pos 0 ∷ pos 4 ∷ pos 2 ∷ []))
-    ∷ line 0 (verb.ElementInsert d e None) ∷ line 0 (verb.Commit d c) ∷ line 0 (verb.Activate d c) ∷ line 0 (verb.Frame s (Fill grey)) ∷ line 0 verb.Tick ∷ [])
+    (made d verb.DeviceNew ∷ made c (verb.ScreenContext d (pos 1)) ∷ new_stream ∷ made x (verb.SourceNew d c s)
+        ∷ made e (verb.ElementNew d c)
+    ∷ set element.Source (value.Handle x) ∷ set element.SrcRect (value.Numbers (pos 0 ∷ pos 0 ∷ pos 1 ∷ pos 1 ∷ []))
+        ∷ set element.Dest (value.Numbers (pos 0 ∷ pos 0 ∷ pos 4 ∷ pos 2 ∷ []))
+    ∷ line 0 (verb.ElementInsert d e None) ∷ line 0 (verb.Commit d c) ∷ line 0 (verb.Activate d c) ∷ line 0 (verb.Frame s (Fill grey))
+        ∷ line 0 verb.Tick ∷ [])
 
 abbrev composed_order : List Turn
 composed_order = map (entry 0 0) (1 ∷ 2 ∷ 3 ∷ 4 ∷ 5 ∷ 0 ∷ 0 ∷ 0 ∷ 0 ∷ 0 ∷ 0 ∷ 0 ∷ 0 ∷ 2 ∷ 0 ∷ 0 ∷ 1 ∷ 0 ∷ [])
@@ -103,7 +109,8 @@ grey_screen =
       port = 1;
       tick = 1;
       size = record { w = 4; h = 2 };
-      pixels = 9 ∷ 9 ∷ 9 ∷ 255 ∷ 9 ∷ 9 ∷ 9 ∷ 255 ∷ 9 ∷ 9 ∷ 9 ∷ 255 ∷ 9 ∷ 9 ∷ 9 ∷ 255 ∷ 9 ∷ 9 ∷ 9 ∷ 255 ∷ 9 ∷ 9 ∷ 9 ∷ 255 ∷ 9 ∷ 9 ∷ 9 ∷ 255 ∷ 9 ∷ 9 ∷ 9 ∷ 255 ∷ [];
+      pixels = 9 ∷ 9 ∷ 9 ∷ 255 ∷ 9 ∷ 9 ∷ 9 ∷ 255 ∷ 9 ∷ 9 ∷ 9 ∷ 255 ∷ 9 ∷ 9 ∷ 9 ∷ 255 ∷ 9 ∷ 9 ∷ 9 ∷ 255 ∷ 9 ∷ 9 ∷ 9 ∷ 255 ∷ 9 ∷ 9 ∷ 9 ∷ 255
+          ∷ 9 ∷ 9 ∷ 9 ∷ 255 ∷ [];
     }
 
 composed_frames : frames_after (replay composed composed_order) ≡ grey_screen ∷ []
@@ -113,3 +120,49 @@ composed_frames = refl
 composed_film : length (film composed composed_order) ≡ 160
 unfolding replay_from turn step act drawn
 composed_film = refl
+
+-- a device, and a tick without any scene: the creation of the device tells 1, and so does the Begin of port 1. The frame
+-- is of the moment of that Begin, and not of the creation
+abbrev created : PlainScript
+created = on_port (record { w = 1; h = 1 }) (made d verb.DeviceNew ∷ line 0 verb.Tick ∷ [])
+
+abbrev before_port : List Turn
+before_port = entry 0 0 1 ∷ entry 0 0 0 ∷ []
+
+abbrev created_order : List Turn
+created_order = before_port ++ entry 0 0 1 ∷ entry 0 0 0 ∷ []
+
+abbrev black : Frame
+black = record { port = 1; tick = 1; size = record { w = 1; h = 1 }; pixels = 0 ∷ 0 ∷ 0 ∷ 255 ∷ [] }
+
+created_frames : frames_after (replay created created_order) ≡ black ∷ []
+unfolding replay_from turn step act drawn
+created_frames = refl
+
+-- the show after an order that can be replayed, or the opening one, and its clock's program
+abbrev show_after : List Turn → Show
+show_after order = elim (replay created order) as (λ _. Show) [ None ↦ opening_show created | Some show ↦ show ]
+
+abbrev clock_of : List Program → Program
+clock_of [] = program created 0
+clock_of (clock ∷ others) = clock
+
+begun_at_port : Begins black (show_after before_port) (entry 0 0 1)
+unfolding replay_from turn step act drawn
+begun_at_port =
+    record { asks = record { program = clock_of (show_after before_port).programs; own = refl; next_is = refl }; tick = refl; code = refl;
+        value = refl; shows = refl }
+
+created_moment : IsOfMoment created created_order black
+unfolding replay_from turn step act drawn
+created_moment =
+    record { earlier = before_port; entry = entry 0 0 1; later = entry 0 0 0 ∷ []; cut = refl; moment = show_after before_port;
+        reached = refl; holds = begun_at_port }
+
+not_at_creation : Begins black (opening_show created) (entry 0 0 1) → ⊥
+not_at_creation begins =
+    let own : Some (program created 0) ≡ Some begins.asks.program = begins.asks.own in
+    let is : program created 0 ≡ begins.asks.program = cc in
+    let next : next (program created 0) ≡ Some (waiting (call.BeginPort (pos 1))) =
+        subst (λ (p : Program). next p ≡ Some (waiting (call.BeginPort (pos 1)))) (sym is) begins.asks.next_is in
+    absurd cc

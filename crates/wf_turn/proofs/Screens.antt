@@ -1,5 +1,6 @@
 -- Each image of a screen, after any order, was composed of a context's committed scene.
-use Rattle.std.proofs.Common.{◌≡◌, ◌∙◌, ℕ, ◌+◌, Bool, true, false, cond, List, [], ◌∷◌, map, length, Option, Some, None, refl, sym, subst, arith, Ok, pos}
+use Rattle.std.proofs.Common.{◌≡◌, ◌∙◌, ℕ, ◌+◌, Bool, true, false, cond, List, [], ◌∷◌, map, length, Option, Some, None, refl, sym, subst,
+    arith, Ok, pos}
 use Rattle.std.specs.Prelude.{nat_le, zip}
 use Rattle.std.specs.List.{range_with_len}
 use Rattle.std.specs.Option.{IfSome}
@@ -24,7 +25,8 @@ use Rattle.wf_turn.specs.declared.stage.Leg.{Leg}
 use Rattle.wf_turn.specs.declared.stage.Leg.TheVariants as leg
 use Rattle.wf_turn.specs.Moments.{Composes, IsComposed, image_after}
 use Rattle.wf_turn.specs.Play.{is_marked, replay}
-use Rattle.wf_turn.specs.Program.{Program, next, painted_job, took, worked, took_canvas, asked_for, plain, line_done, took_frame, given_canvas, took_job}
+use Rattle.wf_turn.specs.Program.{Program, next, painted_job, took, worked, took_canvas, asked_for, plain, line_done, took_frame,
+    given_canvas, took_job}
 use Rattle.wf_turn.specs.Turns.{Show, opening_show, turn, program_at}
 use Rattle.wf_turn.proofs.Cases.{turn_case, asks_begin}
 use Rattle.wf_turn.proofs.Holding.{AllHold, handed_hold, opening_hold, took_holds, Holds}
@@ -48,7 +50,8 @@ module _ (n : ℕ) (Composed : ℕ → Bitmap → Type 0) where
   worked_brings : (p : Program) → WillBring p.job p.unpainted → Brings (worked p).job (worked p).unpainted
   worked_brings p will = by_parts p.unpainted p.job will
     where
-      by_parts : (b : Bool) (o : Option Job) → WillBring o b → Brings (worked (record p { job = o; unpainted = b })).job (worked (record p { job = o; unpainted = b })).unpainted
+      by_parts : (b : Bool) (o : Option Job) → WillBring o b
+          → Brings (worked (record p { job = o; unpainted = b })).job (worked (record p { job = o; unpainted = b })).unpainted
       by_parts true None will = (refl, tt)
       by_parts true (Some job) will = (refl, will)
       by_parts false o will = (refl, will)
@@ -169,24 +172,31 @@ module _ (n : ℕ) (Composed : ℕ → Bitmap → Type 0) where
   opening_fine (m ∷ ms) i = (λ up. record { bare = refl; drawn = λ out. absurd cc; ready = tt; read = tt }, opening_fine ms (i + 1))
 
 module _ (script : PlainScript) (order : List Turn) where
-  step_composed : (show after : Show) → Step script order show after → AreComposed (length script.ports.modes.items) (IsComposed script order) show → AreComposed (length script.ports.modes.items) (IsComposed script order) after
+  step_composed : (show after : Show) → Step script order show after
+      → AreComposed (length script.ports.modes.items) (IsComposed script order) show
+      → AreComposed (length script.ports.modes.items) (IsComposed script order) after
   step_composed show after s are =
       let t : Turn = s.entry in
-      turn_composed (length script.ports.modes.items) (IsComposed script order) show t.client (is_marked t) (after, t) (taken_turn t (turn show t.client (is_marked t)) after s.takes)
+      turn_composed (length script.ports.modes.items) (IsComposed script order) show t.client (is_marked t) (after, t)
+          (taken_turn t (turn show t.client (is_marked t)) after s.takes)
       (λ stream image told. at_step (Composes stream image) s told) are
 
   opening_composed : AreComposed (length script.ports.modes.items) (IsComposed script order) (opening_show script)
   opening_composed =
       record {
-        state = record { streams = opening_fine (length script.ports.modes.items) (IsComposed script order) script.ports.modes.items 1; numbered = grind (arith, nat_tests) };
+        state = record { streams = opening_fine (length script.ports.modes.items) (IsComposed script order) script.ports.modes.items 1;
+            numbered = grind (arith, nat_tests) };
         programs = opening_hold (Brings (length script.ports.modes.items) (IsComposed script order)) (refl, tt) script 0 8;
       }
 
-  pub screens_composed : (port : ℕ) (image : Bitmap) → nat_le port (length script.ports.modes.items) ≡ true → image_after port (replay script order) ≡ Some image → IsComposed script order port image
+  pub screens_composed : (port : ℕ) (image : Bitmap) → nat_le port (length script.ports.modes.items) ≡ true
+      → image_after port (replay script order) ≡ Some image → IsComposed script order port image
   screens_composed port image declared has = of_show (replay script order) refl has
     where
       of_show : (o : Option Show) → replay script order ≡ o → image_after port o ≡ Some image → IsComposed script order port image
       of_show None none has = absurd cc
       of_show (Some last) is has =
-          let are = order_keeps script order (AreComposed (length script.ports.modes.items) (IsComposed script order)) step_composed opening_composed last is in
-          screen_composed (length script.ports.modes.items) (IsComposed script order) last.state.frame port last.state.streams image are.state.streams declared has
+          let are = order_keeps script order (AreComposed (length script.ports.modes.items) (IsComposed script order)) step_composed
+              opening_composed last is in
+          screen_composed (length script.ports.modes.items) (IsComposed script order) last.state.frame port last.state.streams image
+              are.state.streams declared has

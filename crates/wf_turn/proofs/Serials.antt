@@ -1,5 +1,6 @@
 -- Serial play: a run of turns is a replay, and the beginning of the serial order.
-use Rattle.std.proofs.Common.{◌≡◌, ◌∙◌, ℕ, zero, suc, ◌+◌, ◌*◌, ◌-◌, ◌<◌, ◌≤◌, ◌==◌, true, false, cond, List, [], ◌∷◌, ◌++◌, map, length, Option, Some, None, refl, sym, ap, subst, arith, append-nil}
+use Rattle.std.proofs.Common.{◌≡◌, ◌∙◌, ℕ, zero, suc, ◌+◌, ◌*◌, ◌-◌, ◌<◌, ◌≤◌, ◌==◌, true, false, cond, List, [], ◌∷◌, ◌++◌, map, length,
+    Option, Some, None, refl, sym, ap, subst, arith, append-nil}
 use Rattle.std.specs.Prelude.{filter}
 use Rattle.std.specs.List.{enumerate_from}
 use Rattle.std.specs.Option.{IsSomeAnd}
@@ -8,7 +9,8 @@ use Rattle.std.proofs.lemmas.Bool.Decides.{nat_tests}
 use Rattle.wf_words.specs.Keyed.{is_in}
 use Rattle.wf_calls.specs.declared.order.Turn.{Turn}
 use Rattle.wf_script.specs.Script.{PlainScript}
-use Rattle.wf_turn.specs.Play.{IsComplete, first_client, is_marked, marks, replay, replay_from, replay_turn, same_turn, serial_from, serial_order}
+use Rattle.wf_turn.specs.Play.{IsComplete, first_client, is_marked, marks, replay, replay_from, replay_turn, same_turn, serial_from,
+    serial_order}
 use Rattle.wf_turn.specs.Program.{place_of}
 use Rattle.wf_turn.specs.Serial.{BeginsSerial, IsNextTurn, IsRun, IsSerial}
 use Rattle.wf_turn.specs.Turns.{Show, opening_show, turn}
@@ -18,7 +20,8 @@ same_self : (t : Turn) → same_turn t t ≡ true
 same_self t = rw (eq-eqb t.client t.client refl, eq-eqb t.code t.code refl, eq-eqb t.value t.value refl) refl
 
 -- one turn of a replay
-replay_next : (show after : Show) (t : Turn) (ts : List Turn) → turn show t.client (is_marked t) ≡ Some (after, t) → replay_from show (t ∷ ts) ≡ replay_from after ts
+replay_next : (show after : Show) (t : Turn) (ts : List Turn) → turn show t.client (is_marked t) ≡ Some (after, t)
+    → replay_from show (t ∷ ts) ≡ replay_from after ts
 unfolding replay_from
 replay_next show after t ts e =
     ap (λ (o : Option (Show × Turn)). elim (replay_turn t o) as (λ _. Option Show) [ None ↦ None | Some x ↦ replay_from x ts ]) e
@@ -33,7 +36,8 @@ run_replays show after [] run = nothing_replayed show ∙ ap (λ (s : Show). Som
 run_replays show after (t ∷ ts) run = replay_next show run.0 t ts run.1.0.taken ∙ run_replays run.0 after ts run.1.1
 
 -- one turn more
-pub run_more : (show middle after : Show) (ts : List Turn) (t : Turn) → IsRun show ts middle → IsNextTurn middle t after → IsRun show (ts ++ t ∷ []) after
+pub run_more : (show middle after : Show) (ts : List Turn) (t : Turn) → IsRun show ts middle → IsNextTurn middle t after
+    → IsRun show (ts ++ t ∷ []) after
 run_more show middle after [] t run next = (after, (subst (λ (s : Show). IsNextTurn s t after) (sym run) next, refl))
 run_more show middle after (u ∷ ts) t run next = (run.0, (run.1.0, run_more run.0 middle after ts t run.1.1 next))
 
@@ -50,7 +54,10 @@ none_before n place [] before = refl
 none_before n place (t ∷ ts) before =
     let apart : (place == n) ≡ false = grind (arith, nat_tests, before) in
     let rest = none_before n (place + 1) ts (omega (arith, before)) in
-    elim (is_marked t) as (λ b. is_in n (map (λ (row : ℕ × Turn). row.0) (cond b ((place, t) ∷ filter (λ (row : ℕ × Turn). is_marked row.1) (enumerate_from (place + 1) ts)) (filter (λ (row : ℕ × Turn). is_marked row.1) (enumerate_from (place + 1) ts)))) ≡ false) [
+    elim (is_marked t)
+        as (λ b. is_in n
+        (map (λ (row : ℕ × Turn). row.0) (cond b ((place, t) ∷ filter (λ (row : ℕ × Turn). is_marked row.1) (enumerate_from (place + 1) ts))
+        (filter (λ (row : ℕ × Turn). is_marked row.1) (enumerate_from (place + 1) ts)))) ≡ false) [
       | true ↦ rw apart rest
       | false ↦ rest
     ]
@@ -68,7 +75,9 @@ marks_tell place (t ∷ ts) =
     let here : (place == place) ≡ true = eq-eqb place place refl in
     let more = one_more place (marks_from (place + 1) ts) (place + 1) ts (omega arith) rest in
     let nothing = none_before place (place + 1) ts (omega arith) in
-    elim (is_marked t) as (λ b. let ms = map (λ (row : ℕ × Turn). row.0) (cond b ((place, t) ∷ filter (λ (row : ℕ × Turn). is_marked row.1) (enumerate_from (place + 1) ts)) (filter (λ (row : ℕ × Turn). is_marked row.1) (enumerate_from (place + 1) ts))) in (is_in place ms ≡ b) × Tell ms (place + 1) ts) [
+    elim (is_marked t) as (λ b. let ms = map (λ (row : ℕ × Turn). row.0)
+        (cond b ((place, t) ∷ filter (λ (row : ℕ × Turn). is_marked row.1) (enumerate_from (place + 1) ts))
+        (filter (λ (row : ℕ × Turn). is_marked row.1) (enumerate_from (place + 1) ts))) in (is_in place ms ≡ b) × Tell ms (place + 1) ts) [
       | true ↦ (rw here refl, more)
       | false ↦ (nothing, rest)
     ]
@@ -80,23 +89,29 @@ by_turn most place ms o = elim o as (λ _. List Turn) [ None ↦ [] | Some done 
 abbrev by_client : ℕ → ℕ → List ℕ → Show → Option (ℕ × ℕ) → List Turn
 by_client most place ms show o = elim o as (λ _. List Turn) [ None ↦ [] | Some c ↦ by_turn most place ms (turn show c.0 (is_in place ms)) ]
 
-one_turn : (most place : ℕ) (ms : List ℕ) (show : Show) → serial_from (suc most) place ms show ≡ by_client most place ms show (first_client (map place_of show.programs))
+one_turn : (most place : ℕ) (ms : List ℕ) (show : Show)
+    → serial_from (suc most) place ms show ≡ by_client most place ms show (first_client (map place_of show.programs))
 unfolding serial_from
 one_turn most place ms show = refl
 
-serial_next : (most place : ℕ) (ms : List ℕ) (show after : Show) (t : Turn) → IsNextTurn show t after → is_in place ms ≡ is_marked t → serial_from (suc most) place ms show ≡ t ∷ serial_from most (place + 1) ms after
-serial_next most place ms show after t next told = one_turn most place ms show ∙ of_first (first_client (map place_of show.programs)) next.first
+serial_next : (most place : ℕ) (ms : List ℕ) (show after : Show) (t : Turn) → IsNextTurn show t after → is_in place ms ≡ is_marked t
+    → serial_from (suc most) place ms show ≡ t ∷ serial_from most (place + 1) ms after
+serial_next most place ms show after t next told = one_turn most place ms show
+    ∙ of_first (first_client (map place_of show.programs)) next.first
   where
-    of_first : (o : Option (ℕ × ℕ)) → IsSomeAnd o (λ c. c.0 ≡ t.client) → by_client most place ms show o ≡ t ∷ serial_from most (place + 1) ms after
+    of_first : (o : Option (ℕ × ℕ)) → IsSomeAnd o (λ c. c.0 ≡ t.client)
+        → by_client most place ms show o ≡ t ∷ serial_from most (place + 1) ms after
     of_first None none = absurd none
-    of_first (Some c) here = ap (by_turn most place ms) (ap (λ (n : ℕ). turn show n (is_in place ms)) here ∙ ap (turn show t.client) told ∙ next.taken)
+    of_first (Some c) here = ap (by_turn most place ms) (ap (λ (n : ℕ). turn show n (is_in place ms)) here ∙ ap (turn show t.client) told
+        ∙ next.taken)
 
 -- where all are through, the serial order ends
 nothing_left : (place : ℕ) (ms : List ℕ) (show : Show) → serial_from zero place ms show ≡ []
 unfolding serial_from
 nothing_left place ms show = refl
 
-serial_end : (most place : ℕ) (ms : List ℕ) (show : Show) → first_client (map place_of show.programs) ≡ None → serial_from most place ms show ≡ []
+serial_end : (most place : ℕ) (ms : List ℕ) (show : Show) → first_client (map place_of show.programs) ≡ None
+    → serial_from most place ms show ≡ []
 serial_end zero place ms show none = nothing_left place ms show
 serial_end (suc most) place ms show none = one_turn most place ms show ∙ ap (by_client most place ms show) none
 
@@ -106,7 +121,8 @@ run_serial : (most place : ℕ) (ms : List ℕ) (show after : Show) (ts : List T
 run_serial most place ms show after [] run tell few =
     let same : most ≡ most - 0 = omega arith in
     let here : place ≡ place + 0 = omega arith in
-    ap (λ (s : Show). serial_from most place ms s) run ∙ ap (λ (n : ℕ). serial_from n place ms after) same ∙ ap (λ (n : ℕ). serial_from (most - 0) n ms after) here
+    ap (λ (s : Show). serial_from most place ms s) run ∙ ap (λ (n : ℕ). serial_from n place ms after) same
+        ∙ ap (λ (n : ℕ). serial_from (most - 0) n ms after) here
 run_serial zero place ms show after (t ∷ ts) run tell few = absurd (omega (arith, few))
 run_serial (suc most) place ms show after (t ∷ ts) run tell few =
     let fewer : suc most - suc (length ts) ≡ most - length ts = omega arith in
@@ -117,11 +133,13 @@ run_serial (suc most) place ms show after (t ∷ ts) run tell few =
     ∙ ap (λ (n : ℕ). t ∷ ts ++ serial_from (suc most - suc (length ts)) n ms after) later
 
 -- what is played from the opening of a script on
-module _ (script : PlainScript) (after : Show) (order : List Turn) (run : IsRun (opening_show script) order after) (few : length order ≤ 40 * length script.lines) where
+module _ (script : PlainScript) (after : Show) (order : List Turn) (run : IsRun (opening_show script) order after)
+    (few : length order ≤ 40 * length script.lines) where
   pub replayed : replay script order ≡ Some after
   replayed = run_replays (opening_show script) after order run
 
-  begins_with : serial_order script (marks order) ≡ order ++ serial_from (40 * length script.lines - length order) (0 + length order) (marks order) after
+  begins_with : serial_order script (marks order) ≡ order
+      ++ serial_from (40 * length script.lines - length order) (0 + length order) (marks order) after
   begins_with = run_serial (40 * length script.lines) 0 (marks order) (opening_show script) after order run (marks_tell 0 order) few
 
   pub begins_serial : BeginsSerial script order
@@ -140,5 +158,6 @@ module _ (script : PlainScript) (after : Show) (order : List Turn) (run : IsRun 
     is_serial =
         record {
           complete = complete;
-          serial = sym (begins_with ∙ ap (λ (us : List Turn). order ++ us) (serial_end (40 * length script.lines - length order) (0 + length order) (marks order) after over) ∙ append-nil order);
+          serial = sym (begins_with ∙ ap (λ (us : List Turn). order ++ us)
+              (serial_end (40 * length script.lines - length order) (0 + length order) (marks order) after over) ∙ append-nil order);
         }

@@ -1,5 +1,6 @@
 -- One turn of a show that is played serially.
-use Rattle.std.proofs.Common.{◌≡◌, ◌∙◌, ℕ, zero, suc, ◌+◌, ◌-◌, ◌<◌, ◌≤◌, ◌==◌, Bool, true, false, not, cond, ◌&&◌, List, [], ◌∷◌, map, length, Option, Some, None, refl, sym, ap, subst, arith, set, get_or, IsTrue}
+use Rattle.std.proofs.Common.{◌≡◌, ◌∙◌, ℕ, zero, suc, ◌+◌, ◌-◌, ◌<◌, ◌≤◌, ◌==◌, Bool, true, false, not, cond, ◌&&◌, List, [], ◌∷◌, map,
+    length, Option, Some, None, refl, sym, ap, subst, arith, set, get_or, IsTrue}
 use Rattle.std.specs.Prelude.{slice_get}
 use Rattle.std.specs.Option.{IfSome, IsSome, IsSomeAnd}
 use Rattle.wf_calls.specs.declared.order.Turn.{Turn}
@@ -12,14 +13,21 @@ use Rattle.wf_model.specs.Step.{step}
 use Rattle.wf_script.specs.declared.line.Line.{Line}
 use Rattle.wf_script.specs.Script.{PlainScript}
 use Rattle.wf_turn.specs.Play.{first_client, is_marked}
-use Rattle.wf_turn.specs.Playing.{Ends, FirstEnds, HoldsPaintable, IsCast, IsReady, TakesTurn, TakesTurnAt, Turned, TurnsTo, may_turn, shown_by, with_frames}
-use Rattle.wf_turn.specs.Program.{Program, in_setup, place_of, taught, took, worked}
+use Rattle.wf_turn.specs.Playing.{ArePainted, Ends, FirstEnds, HoldsPaintable, IsCast, IsReady, TakesTurn, TakesTurnAt, Turned, TurnsTo,
+    all_painted, has_work, may_turn, shown_by, with_frames, with_paint}
+use Rattle.wf_turn.specs.Program.{Program, in_setup, is_work, place_of, taught, took, worked}
 use Rattle.wf_turn.specs.Quota.{all_left, left}
+use Rattle.std.proofs.lemmas.List.{length-map}
 use Rattle.wf_turn.specs.Ready.{AreOf, IsFit}
+use Rattle.wf_turn.specs.Ready.{IsWork}
+use Rattle.wf_turn.proofs.Holding.{handed_hold}
+use Rattle.wf_turn.proofs.Painting.{IsPainted}
+use Rattle.wf_turn.proofs.Works.{all_are, cast_painted, handed_here, handed_worked, paint_all, worked_painted, worked_set}
 use Rattle.wf_turn.specs.Serial.{IsFirst}
 use Rattle.wf_turn.specs.Turns.{Show, answered, frames_of, handed_on, is_setting_up, turn}
 use Rattle.wf_turn.proofs.Begins.{Leaves, ended, turn_leaves}
-use Rattle.wf_turn.proofs.Casts.{IsOf, are_handed, are_set, at_client, handed_get, handed_same, left_handed, left_set, not_handed, other_is, other_set, setup_set, shown_handed}
+use Rattle.wf_turn.proofs.Casts.{IsOf, are_handed, are_set, at_client, handed_get, handed_same, left_handed, left_set, not_handed,
+    other_is, other_set, setup_set, shown_handed}
 use Rattle.wf_words.specs.Places.{get_map, get_set, length_map, map_set}
 use Rattle.wf_turn.proofs.Clients.{first_place}
 use Rattle.wf_turn.proofs.Fitting.{fit_took}
@@ -35,7 +43,8 @@ is_not true is = absurd cc
 is_not false is = refl
 
 -- the program whose turn it is
-module _ (s : Show) (client : ℕ) (p : Program) (cast : IsCast s) (first : IsFirst s.programs client) (found : slice_get s.programs client ≡ Some p) where
+module _ (s : Show) (client : ℕ) (p : Program) (cast : IsCast s) (first : IsFirst s.programs client)
+    (found : slice_get s.programs client ≡ Some p) where
   pub of : IsOf cast.script (0 + client) p
   of = at_client cast.script 0 s.programs client p cast.programs found
 
@@ -46,7 +55,8 @@ module _ (s : Show) (client : ℕ) (p : Program) (cast : IsCast s) (first : IsFi
       of_first : (o : Option (ℕ × ℕ)) → first_client (map place_of s.programs) ≡ o → IsSomeAnd o (λ c. c.0 ≡ client) → IsSome (place_of p)
       of_first None is none = absurd none
       of_first (Some c) is here =
-          let at : slice_get (map place_of s.programs) client ≡ Some (Some c.1) = ap (slice_get (map place_of s.programs)) (sym here) ∙ first_place (map place_of s.programs) c is in
+          let at : slice_get (map place_of s.programs) client ≡ Some (Some c.1) = ap (slice_get (map place_of s.programs)) (sym here)
+              ∙ first_place (map place_of s.programs) c is in
           let there : Some (place_of p) ≡ Some (Some c.1) = sym (get_map place_of s.programs client p found) ∙ at in
           let placed_at : place_of p ≡ Some c.1 = cc in
           rw placed_at refl
@@ -55,7 +65,8 @@ module _ (s : Show) (client : ℕ) (p : Program) (cast : IsCast s) (first : IsFi
   pub ends_running : IfSome s.state.frame (λ f. Ends f p)
   ends_running = of_frame s.state.frame refl
     where
-      of_first : (f : Running) (o : Option (ℕ × ℕ)) → IsSomeAnd o (λ c. c.0 ≡ client) → IfSome o (λ c. IfSome (slice_get s.programs c.0) (Ends f)) → Ends f p
+      of_first : (f : Running) (o : Option (ℕ × ℕ)) → IsSomeAnd o (λ c. c.0 ≡ client)
+          → IfSome o (λ c. IfSome (slice_get s.programs c.0) (Ends f)) → Ends f p
       of_first f None none own = absurd none
       of_first f (Some c) here own =
           let at : slice_get s.programs c.0 ≡ Some p = ap (slice_get s.programs) here ∙ found in
@@ -68,7 +79,8 @@ module _ (s : Show) (client : ℕ) (p : Program) (cast : IsCast s) (first : IsFi
           of_first f (first_client (map place_of s.programs)) first alone
 
 module _ (s : Show) (client : ℕ) (p q : Program) (left_state : State) (t : Turn) (painted : Bool)
-    (cast : IsCast s) (first : IsFirst s.programs client) (allowed : may_turn s.programs client ≡ true) (found : slice_get s.programs client ≡ Some p) (takes : TakesTurn client s.state left_state p q t painted) where
+    (cast : IsCast s) (first : IsFirst s.programs client) (allowed : may_turn s.programs client ≡ true)
+        (found : slice_get s.programs client ≡ Some p) (takes : TakesTurn client s.state left_state p q t painted) where
   abbrev W : State × Reply
   W = step s.state client takes.wanted.call (is_marked t)
 
@@ -93,7 +105,8 @@ module _ (s : Show) (client : ℕ) (p q : Program) (left_state : State) (t : Tur
 
   pub turns : TurnsTo s t (shown_by painted programs_now client) show_now
   turns =
-      let show : State → Program → List Frame → Show = λ h r frames. record { state = h; programs = handed_on s.programs (set s.programs client r); frames = frames } in
+      let show : State → Program → List Frame → Show = λ h r frames. record { state = h;
+          programs = handed_on s.programs (set s.programs client r); frames = frames } in
       record {
         first = subst (λ (n : ℕ). IsFirst s.programs n) (sym client_is) first;
         taken =
@@ -114,7 +127,8 @@ module _ (s : Show) (client : ℕ) (p q : Program) (left_state : State) (t : Tur
   programs_are : AreOf cast.script 0 programs_now
   programs_are =
       are_handed cast.script s.programs placed
-      (are_set cast.script 0 s.programs client p q cast.programs found (ap (λ (x : Program). x.script) takes.program ∙ same_script p W.1) (ap (λ (x : Program). x.client) takes.program ∙ same_client p W.1) fit_now)
+      (are_set cast.script 0 s.programs client p q cast.programs found (ap (λ (x : Program). x.script) takes.program ∙ same_script p W.1)
+          (ap (λ (x : Program). x.client) takes.program ∙ same_client p W.1) fit_now)
 
   ends_now : (f : Running) → s.state.frame ≡ Some f → Ends f p
   ends_now f runs = rw runs at (ends_running s client p cast first found)
@@ -161,18 +175,23 @@ module _ (s : Show) (client : ℕ) (p q : Program) (left_state : State) (t : Tur
       of_frame : (o : Option Running) → s.state.frame ≡ o → IsFirst programs_now client × (may_turn programs_now client ≡ true)
       of_frame (Some f) was =
           let e = ended p s.state client (is_marked t) takes.wanted f was (ends_now f was) takes.asks in
-          absurd (let no : IsSome none_running = subst (λ (o : Option Running). IsSome o) (ap (λ (h : State). h.frame) takes.state ∙ e.free) runs in cc)
+          absurd (let no : IsSome none_running = subst (λ (o : Option Running). IsSome o) (ap (λ (h : State). h.frame) takes.state ∙ e.free)
+              runs in cc)
       of_frame None free = of_now W.0.frame refl (leaves free).ends
         where
-          of_now : (o : Option Running) → W.0.frame ≡ o → IfSome o (λ f. Ends f (worked (took p W.1)) × ((took p W.1).lines ≡ p.lines)) → IsFirst programs_now client × (may_turn programs_now client ≡ true)
-          of_now None is own = absurd (let no : IsSome none_running = subst (λ (o : Option Running). IsSome o) (ap (λ (h : State). h.frame) takes.state ∙ is) runs in cc)
+          of_now : (o : Option Running) → W.0.frame ≡ o → IfSome o (λ f. Ends f (worked (took p W.1)) × ((took p W.1).lines ≡ p.lines))
+              → IsFirst programs_now client × (may_turn programs_now client ≡ true)
+          of_now None is own =
+              absurd (let no : IsSome none_running = subst (λ (o : Option Running). IsSome o) (ap (λ (h : State). h.frame) takes.state ∙ is)
+              runs in cc)
           of_now (Some f) is own = (
             subst (λ (ns : List (Option ℕ)). IsSomeAnd (first_client ns) (λ c. c.0 ≡ client)) (sym (same_places own.1)) first,
             ap (λ (b : Bool). not (not (client == 0) && b)) (same_setup own.1) ∙ allowed,
           )
 
   alone_now : IfSome left_state.frame (FirstEnds programs_now)
-  alone_now = subst (λ (o : Option Running). IfSome o (FirstEnds programs_now)) (sym (ap (λ (h : State). h.frame) takes.state)) (of_frame s.state.frame refl)
+  alone_now = subst (λ (o : Option Running). IfSome o (FirstEnds programs_now)) (sym (ap (λ (h : State). h.frame) takes.state))
+      (of_frame s.state.frame refl)
     where
       of_frame : (o : Option Running) → s.state.frame ≡ o → IfSome W.0.frame (FirstEnds programs_now)
       of_frame (Some f) was =
@@ -180,16 +199,20 @@ module _ (s : Show) (client : ℕ) (p q : Program) (left_state : State) (t : Tur
           rw e.free tt
       of_frame None free = of_now W.0.frame (leaves free).ends
         where
-          of_first : (f : Running) → (took p W.1).lines ≡ p.lines → Ends f q → (o : Option (ℕ × ℕ)) → first_client (map place_of s.programs) ≡ o → IsSomeAnd o (λ c. c.0 ≡ client) → IfSome o (λ c. IfSome (slice_get programs_now c.0) (Ends f))
+          of_first : (f : Running) → (took p W.1).lines ≡ p.lines → Ends f q → (o : Option (ℕ × ℕ))
+              → first_client (map place_of s.programs) ≡ o → IsSomeAnd o (λ c. c.0 ≡ client)
+              → IfSome o (λ c. IfSome (slice_get programs_now c.0) (Ends f))
           of_first f lines ends None is none = absurd none
           of_first f lines ends (Some c) is here =
               let at : slice_get programs_now c.0 ≡ Some q = ap (slice_get programs_now) here ∙ here_now lines in
               rw at ends
 
-          of_now : (o : Option Running) → IfSome o (λ f. Ends f (worked (took p W.1)) × ((took p W.1).lines ≡ p.lines)) → IfSome o (FirstEnds programs_now)
+          of_now : (o : Option Running) → IfSome o (λ f. Ends f (worked (took p W.1)) × ((took p W.1).lines ≡ p.lines))
+              → IfSome o (FirstEnds programs_now)
           of_now None own = tt
           of_now (Some f) own =
-              subst (λ (ns : List (Option ℕ)). IfSome (first_client ns) (λ c. IfSome (slice_get programs_now c.0) (Ends f))) (sym (same_places own.1))
+              subst (λ (ns : List (Option ℕ)). IfSome (first_client ns) (λ c. IfSome (slice_get programs_now c.0) (Ends f)))
+                  (sym (same_places own.1))
               (of_first f own.1 (subst (Ends f) (sym takes.program) own.0) (first_client (map place_of s.programs)) refl first)
 
   pub cast_now : IsCast show_now
@@ -197,7 +220,8 @@ module _ (s : Show) (client : ℕ) (p q : Program) (left_state : State) (t : Tur
       record {
         script = cast.script;
         programs = programs_are;
-        eight = length_map left programs_now placed (handed_same left (λ clock r. refl) s.programs placed) ∙ length_set s.programs client q ∙ cast.eight;
+        eight = length_map left programs_now placed (handed_same left (λ clock r. refl) s.programs placed) ∙ length_set s.programs client q
+            ∙ cast.eight;
         alone = alone_now;
       }
     where
@@ -213,7 +237,8 @@ module _ (s : Show) (client : ℕ) (p q : Program) (left_state : State) (t : Tur
       omega (arith, left_handed s.programs placed, left_set s.programs client p q found, less, ap left takes.program)
 
   pub paintable : IsTrue painted → HoldsPaintable programs_now client
-  paintable is = handed_get (λ (r : Program). IsSomeAnd r.job IsPaintable) (λ clock r can. can) s.programs placed client q (get_set s.programs client p q found) (takes.paintable is)
+  paintable is = handed_get (λ (r : Program). IsSomeAnd r.job IsPaintable) (λ clock r can. can) s.programs placed client q
+      (get_set s.programs client p q found) (takes.paintable is)
 
   pub begun : left_state.frame ≡ None → shown_by painted programs_now client ≡ []
   begun free_now = sym frames_are ∙ of_frame s.state.frame refl
@@ -230,7 +255,8 @@ module _ (s : Show) (client : ℕ) (p q : Program) (left_state : State) (t : Tur
       of_frame None free = absurd (let no : IsSome none_running = subst (λ (o : Option Running). IsSome o) free runs in cc)
 
 -- the program whose turn it is, if the client is one of the eight
-pub ready : (s : Show) (client : ℕ) → IsCast s → IsFirst s.programs client → client < 8 → IsSomeAnd (slice_get s.programs client) (IsReady s.state)
+pub ready : (s : Show) (client : ℕ) → IsCast s → IsFirst s.programs client → client < 8
+    → IsSomeAnd (slice_get s.programs client) (IsReady s.state)
 ready s client cast first within = of_program (slice_get s.programs client) refl
   where
     of_program : (o : Option Program) → slice_get s.programs client ≡ o → IsSomeAnd o (IsReady s.state)
@@ -240,58 +266,128 @@ ready s client cast first within = of_program (slice_get s.programs client) refl
         past [] i none = omega arith
         past (q ∷ qs) zero none = absurd cc
         past (q ∷ qs) (suc i) none = (let rest = past qs i none in omega (arith, rest))
-    of_program (Some p) found = record { fit = (of s client p cast first found).fit; more = stands s client p cast first found; alone = ends_running s client p cast first found }
+    of_program (Some p) found = record { fit = (of s client p cast first found).fit; more = stands s client p cast first found;
+        alone = ends_running s client p cast first found }
 
-pub cast_after : (s : Show) (client : ℕ) (h : State) (placed : List Program) (t : Turn) (painted : Bool) → IsCast s → IsFirst s.programs client → may_turn s.programs client ≡ true → client < 8 → TakesTurnAt client s.state h s.programs placed t painted
-    → IsCast (record { state = h; programs = handed_on s.programs placed; frames = [] })
-cast_after s client h placed t painted cast first allowed within takes = of_program (slice_get s.programs client) refl (ready s client cast first within) takes
-  where
-    of_program : (o : Option Program) → slice_get s.programs client ≡ o → IsSomeAnd o (IsReady s.state) → IfSome o (λ p. (q : Program) × ((placed ≡ set s.programs client q) × TakesTurn client s.state h p q t painted))
-        → IsCast (record { state = h; programs = handed_on s.programs placed; frames = [] })
-    of_program None none is took = absurd is
-    of_program (Some p) found is took =
-        subst (λ (ps : List Program). IsCast (record { state = h; programs = handed_on s.programs ps; frames = [] })) (sym took.1.0)
-        (cast_now s client p took.0 h t painted cast first allowed found took.1.1)
+-- a show in which it is a client's turn
+pub record HasTurn (s : Show) (client : ℕ) : Type 0 where
+  pub are : ArePainted s.programs
+  pub cast : IsCast s
+  pub first : IsFirst s.programs client
+  pub allowed : may_turn s.programs client ≡ true
+  pub within : client < 8
 
-pub turned : (s : Show) (client : ℕ) (h : State) (placed : List Program) (t : Turn) (painted : Bool) → IsCast s → IsFirst s.programs client → may_turn s.programs client ≡ true → client < 8 → TakesTurnAt client s.state h s.programs placed t painted
-    → (seen : Show) → s ≡ seen → (now : Show) → now ≡ record { state = h; programs = handed_on s.programs placed; frames = [] } → Turned seen client now t painted
-turned s client h placed t painted cast first allowed within takes seen is now now_is =
-    subst (λ (v : Show). Turned v client now t painted) is (subst (λ (v : Show). Turned s client v t painted) (sym now_is) (of_program (slice_get s.programs client) refl (ready s client cast first within) takes))
-  where
-    of_program : (o : Option Program) → slice_get s.programs client ≡ o → IsSomeAnd o (IsReady s.state) → IfSome o (λ p. (q : Program) × ((placed ≡ set s.programs client q) × TakesTurn client s.state h p q t painted))
-        → Turned s client (record { state = h; programs = handed_on s.programs placed; frames = [] }) t painted
-    of_program None none is took = absurd is
-    of_program (Some p) found is took =
-        let q = took.0 in
-        let one = took.1.1 in
-        let k = again s client p q h t painted cast first allowed found one in
-        subst (λ (ps : List Program). Turned s client (record { state = h; programs = handed_on s.programs ps; frames = [] }) t painted) (sym took.1.0) (record {
-          next = turns s client p q h t painted cast first allowed found one;
-          client_is = client_is s client p q h t painted cast first allowed found one;
-          fewer = fewer s client p q h t painted cast first allowed found one;
-          paintable = paintable s client p q h t painted cast first allowed found one;
-          begun = begun s client p q h t painted cast first allowed found one;
-          ended = ended_shows s client p q h t painted cast first allowed found one;
-          again = λ runs. (k runs).0;
-          still = λ runs. (k runs).1;
-        })
+pub has_turn : (s seen : Show) (client : ℕ) → s ≡ seen → IsCast (all_painted s) → ArePainted seen.programs → IsFirst seen.programs client
+    → may_turn seen.programs client ≡ true → client < 8 → HasTurn s client
+has_turn s seen client is cast are first allowed within =
+    let here : ArePainted s.programs = subst (λ (v : Show). ArePainted v.programs) (sym is) are in
+    record {
+      are = here;
+      cast = cast_painted s here cast;
+      first = subst (λ (v : Show). IsFirst v.programs client) (sym is) first;
+      allowed = subst (λ (v : Show). may_turn v.programs client ≡ true) (sym is) allowed;
+      within = within;
+    }
 
--- the programs after a turn are those of the script
-pub are_after : (s : Show) (client : ℕ) (h : State) (placed : List Program) (t : Turn) (painted : Bool) (cast : IsCast s) → IsFirst s.programs client → client < 8 → TakesTurnAt client s.state h s.programs placed t painted → AreOf cast.script 0 placed
-are_after s client h placed t painted cast first within takes = of_program (slice_get s.programs client) refl (ready s client cast first within) takes
-  where
-    of_program : (o : Option Program) → slice_get s.programs client ≡ o → IsSomeAnd o (IsReady s.state) → IfSome o (λ p. (q : Program) × ((placed ≡ set s.programs client q) × TakesTurn client s.state h p q t painted)) → AreOf cast.script 0 placed
-    of_program None none is took = absurd is
-    of_program (Some p) found is took =
-        let q = took.0 in
-        let one = took.1.1 in
-        let reply = (step s.state client one.wanted.call (is_marked t)).1 in
-        subst (λ (ps : List Program). AreOf cast.script 0 ps) (sym took.1.0)
-        (are_set cast.script 0 s.programs client p q cast.programs found (ap (λ (x : Program). x.script) one.program ∙ same_script p reply) (ap (λ (x : Program). x.client) one.program ∙ same_client p reply)
-        (subst IsFit (sym one.program) (fit_took p reply (of s client p cast first found).fit)))
+-- what such a turn leaves, before its Job is painted and then
+module _ (s : Show) (client : ℕ) (h : State) (placed : List Program) (t : Turn) (has : HasTurn s client)
+    (takes : TakesTurnAt client s.state h s.programs placed t) where
+  abbrev pub show_left : Show
+  show_left = record { state = h; programs = handed_on s.programs placed; frames = [] }
+
+  -- the program whose turn it was
+  record Taken : Type 0 where
+    before : Program
+    now : Program
+    found : slice_get s.programs client ≡ Some before
+    placed_is : placed ≡ set s.programs client now
+    turn_is : TakesTurn client s.state h before (worked now) t (is_work now)
+    work : IsWork now
+
+  taken : Taken
+  taken = of_program (slice_get s.programs client) refl (ready s client has.cast has.first has.within) takes
+    where
+      of_program : (o : Option Program) → slice_get s.programs client ≡ o → IsSomeAnd o (IsReady s.state)
+          → IfSome o (λ p. (q : Program)
+              × ((placed ≡ set s.programs client q) × TakesTurn client s.state h p (worked q) t (is_work q) × IsWork q)) → Taken
+      of_program None none is took = absurd is
+      of_program (Some p) found is took =
+          record { before = p; now = took.0; found = found; placed_is = took.1.0; turn_is = took.1.1; work = took.1.2 }
+
+  abbrev worked_programs : List Program
+  worked_programs = handed_on s.programs (set s.programs client (worked taken.now))
+
+  are_worked : ArePainted worked_programs
+  are_worked = handed_hold IsPainted s.programs client (worked taken.now) (worked_painted taken.now) has.are
+
+  here : slice_get show_left.programs client ≡ Some taken.now
+  here = ap (λ (ps : List Program). slice_get (handed_on s.programs ps) client) taken.placed_is
+      ∙ handed_here s.programs client taken.before taken.now taken.found
+
+  painted_is : with_paint client show_left.programs ≡ worked_programs
+  painted_is = ap (λ (ps : List Program). with_paint client (handed_on s.programs ps)) taken.placed_is
+      ∙ handed_worked s.programs client taken.before taken.now taken.found
+
+  pub are_after : ArePainted (with_paint client show_left.programs)
+  are_after = subst ArePainted (sym painted_is) are_worked
+
+  pub work_after : IfSome (slice_get show_left.programs client) IsWork
+  work_after = rw here taken.work
+
+  abbrev with_programs : List Program → Show
+  with_programs ps = record { state = h; programs = ps; frames = [] }
+
+  pub cast_after : IsCast (all_painted show_left)
+  cast_after =
+      let same : map worked show_left.programs ≡ worked_programs = sym (paint_all client show_left.programs)
+          ∙ ap (λ (ps : List Program). map worked ps) painted_is ∙ all_are worked_programs are_worked in
+      subst (λ (ps : List Program). IsCast (with_programs ps)) (sym same)
+      (cast_now s client taken.before (worked taken.now) h t (is_work taken.now) has.cast has.first has.allowed taken.found taken.turn_is)
+
+  pub turned : Turned s client (with_programs (with_paint client show_left.programs)) t (has_work client show_left.programs)
+  turned =
+      subst (λ (ps : List Program). Turned s client (with_programs ps) t (has_work client show_left.programs)) (sym painted_is)
+      (subst (λ (b : Bool). Turned s client (with_programs worked_programs) t b) (sym work_is) turned_worked)
+    where
+      work_is : has_work client show_left.programs ≡ is_work taken.now
+      work_is = rw here refl
+
+      turned_worked : Turned s client (with_programs worked_programs) t (is_work taken.now)
+      turned_worked =
+          let p = taken.before in
+          let q = worked taken.now in
+          let b = is_work taken.now in
+          let found = taken.found in
+          let one = taken.turn_is in
+          let k = again s client p q h t b has.cast has.first has.allowed found one in
+          record {
+            next = turns s client p q h t b has.cast has.first has.allowed found one;
+            client_is = client_is s client p q h t b has.cast has.first has.allowed found one;
+            fewer = fewer s client p q h t b has.cast has.first has.allowed found one;
+            paintable = paintable s client p q h t b has.cast has.first has.allowed found one;
+            begun = begun s client p q h t b has.cast has.first has.allowed found one;
+            ended = ended_shows s client p q h t b has.cast has.first has.allowed found one;
+            again = λ runs. (k runs).0;
+            still = λ runs. (k runs).1;
+          }
+
+  -- the programs are those of the script
+  pub of_script : AreOf has.cast.script 0 (map worked placed)
+  of_script =
+      let p = taken.before in
+      let one = taken.turn_is in
+      let reply = (step s.state client one.wanted.call (is_marked t)).1 in
+      let set_is : map worked placed ≡ set s.programs client (worked taken.now) = ap (λ (ps : List Program). map worked ps) taken.placed_is
+          ∙ worked_set s.programs client taken.now has.are in
+      subst (λ (ps : List Program). AreOf has.cast.script 0 ps) (sym set_is)
+      (are_set has.cast.script 0 s.programs client p (worked taken.now) has.cast.programs taken.found
+          (ap (λ (x : Program). x.script) one.program ∙ same_script p reply) (ap (λ (x : Program). x.client) one.program
+          ∙ same_client p reply)
+      (subst IsFit (sym one.program) (fit_took p reply (of s client p has.cast has.first taken.found).fit)))
 
 -- what is handed on, by the clock and the other programs
-pub handed_is : (clock now : Program) (others behind : List Program) (was : Bool) (items : List Program) → was ≡ in_setup clock → items ≡ cond (was && not (in_setup now)) (map (taught now) behind) behind → now ∷ items ≡ handed_on (clock ∷ others) (now ∷ behind)
+pub handed_is : (clock now : Program) (others behind : List Program) (was : Bool) (items : List Program) → was ≡ in_setup clock
+    → items ≡ cond (was && not (in_setup now)) (map (taught now) behind) behind → now ∷ items ≡ handed_on (clock ∷ others) (now ∷ behind)
 handed_is clock now others behind was items was_is items_is =
     ap (λ (ps : List Program). now ∷ ps) items_is
     ∙ ap (λ (b : Bool). now ∷ cond (b && not (in_setup now)) (map (taught now) behind) behind) was_is
@@ -302,17 +398,53 @@ handed_is clock now others behind was items was_is items_is =
     by_bool false = refl
 
 -- a turn of another client than the clock
-pub other_ready : (clock : Program) (others : List Program) (client : ℕ) (h : State) (d : Program) → (client ≡ 0 → ⊥) → d ≡ get_or others (client - 1) d → IsSomeAnd (slice_get (clock ∷ others) client) (IsReady h) → IsReady h d
-other_ready clock others client h d apart is can = of_program (slice_get (clock ∷ others) client) (other_is clock others client d apart is (slice_get (clock ∷ others) client) refl) can
+pub other_ready : (clock : Program) (others : List Program) (client : ℕ) (h : State) (d : Program) → (client ≡ 0 → ⊥)
+    → d ≡ get_or others (client - 1) d → IsSomeAnd (slice_get (clock ∷ others) client) (IsReady h) → IsReady h d
+other_ready clock others client h d apart is can =
+    of_program (slice_get (clock ∷ others) client) (other_is clock others client d apart is (slice_get (clock ∷ others) client) refl) can
   where
     of_program : (o : Option Program) → IfSome o (λ p. p ≡ d) → IsSomeAnd o (IsReady h) → IsReady h d
     of_program None same can = absurd can
     of_program (Some p) same can = subst (IsReady h) same can
 
-pub other_turned : (clock : Program) (others : List Program) (client : ℕ) (h left_state : State) (d q : Program) (t : Turn) (painted : Bool) → (client ≡ 0 → ⊥) → d ≡ get_or others (client - 1) d → TakesTurn client h left_state d q t painted
-    → TakesTurnAt client h left_state (clock ∷ others) (clock ∷ set others (client - 1) q) t painted
-other_turned clock others client h left_state d q t painted apart is takes = of_program (slice_get (clock ∷ others) client) (other_is clock others client d apart is (slice_get (clock ∷ others) client) refl)
+pub other_turned : (clock : Program) (others : List Program) (client : ℕ) (h left_state : State) (d q : Program) (t : Turn)
+    → (client ≡ 0 → ⊥) → d ≡ get_or others (client - 1) d → TakesTurn client h left_state d (worked q) t (is_work q) → IsWork q
+    → TakesTurnAt client h left_state (clock ∷ others) (clock ∷ set others (client - 1) q) t
+other_turned clock others client h left_state d q t apart is takes work =
+    of_program (slice_get (clock ∷ others) client) (other_is clock others client d apart is (slice_get (clock ∷ others) client) refl)
   where
-    of_program : (o : Option Program) → IfSome o (λ p. p ≡ d) → IfSome o (λ p. (r : Program) × ((clock ∷ set others (client - 1) q ≡ set (clock ∷ others) client r) × TakesTurn client h left_state p r t painted))
+    of_program : (o : Option Program) → IfSome o (λ p. p ≡ d)
+        → IfSome o (λ p. (r : Program) × ((clock ∷ set others (client - 1) q ≡ set (clock ∷ others) client r)
+        × TakesTurn client h left_state p (worked r) t (is_work r) × IsWork r))
     of_program None same = tt
-    of_program (Some p) same = (q, (other_set clock others client q apart, subst (λ (x : Program). TakesTurn client h left_state x q t painted) (sym same) takes))
+    of_program (Some p) same =
+        (q, (other_set clock others client q apart,
+            subst (λ (x : Program). TakesTurn client h left_state x (worked q) t (is_work q)) (sym same) takes, work))
+
+-- there are eight programs
+pub eight_at : (s : Show) → IsCast (all_painted s) → (client : ℕ) → client < 8 → IsSome (slice_get s.programs client)
+eight_at s cast client within = of_program (slice_get s.programs client) refl
+  where
+    past : (ps : List Program) (i : ℕ) → slice_get ps i ≡ None → length ps ≤ i
+    past [] i none = omega arith
+    past (q ∷ qs) zero none = absurd cc
+    past (q ∷ qs) (suc i) none = (let rest = past qs i none in omega (arith, rest))
+
+    of_program : (o : Option Program) → slice_get s.programs client ≡ o → IsSome (slice_get s.programs client)
+    of_program None none =
+        absurd (omega (arith, past s.programs client none, cast.eight, length-map s.programs worked, within))
+    of_program (Some p) found = rw found refl
+
+-- the painting of the Job of another client than the clock
+pub other_painted : (clock : Program) (others : List Program) (client : ℕ) (d : Program) → (client ≡ 0 → ⊥)
+    → d ≡ get_or others (client - 1) d → IsSome (slice_get (clock ∷ others) client)
+    → (clock ∷ set others (client - 1) (worked d) ≡ with_paint client (clock ∷ others)) × (is_work d ≡ has_work client (clock ∷ others))
+other_painted clock others client d apart is some = of_program (slice_get (clock ∷ others) client) refl some
+  where
+    of_program : (o : Option Program) → slice_get (clock ∷ others) client ≡ o → IsSome o
+        → (clock ∷ set others (client - 1) (worked d) ≡ with_paint client (clock ∷ others)) × (is_work d ≡ has_work client (clock ∷ others))
+    of_program None none is_there = absurd cc
+    of_program (Some p) found is_there =
+        let same : p ≡ d = other_is clock others client d apart is (Some p) found in
+        (other_set clock others client (worked d) apart ∙ ap (λ (x : Program). set (clock ∷ others) client (worked x)) (sym same)
+            ∙ rw found refl, ap is_work (sym same) ∙ rw found refl)

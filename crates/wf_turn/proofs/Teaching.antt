@@ -1,17 +1,14 @@
 -- A function over the elements of a list, one by one.
-use Rattle.std.proofs.Common.{◌≡◌, ◌∙◌, ℕ, zero, suc, ◌+◌, ◌<◌, List, [], ◌∷◌, length, get_or, sym, arith}
+use Rattle.std.proofs.Common.{◌≡◌, ℕ, zero, suc, ◌<◌, List, [], ◌∷◌, length, get_or, arith}
 use Rattle.std.specs.Prelude.{All}
-use Rattle.std.proofs.lemmas.List.Elements.{All-cons, All-head, All-nil, All-tail}
+use Rattle.std.proofs.lemmas.List.Elements.{All-head, All-tail}
 use Rattle.wf_script.specs.Script.{PlainScript}
 use Rattle.wf_turn.specs.Program.{Program}
-use Rattle.wf_turn.specs.Ready.{AreOf}
 
 -- of programs of one script each is
-pub script_at : (script : PlainScript) (ps : List Program) (i : ℕ) (d : Program) → i < length ps → All (λ p. p.script ≡ script) ps → (get_or ps i d).script ≡ script
+pub script_at : (script : PlainScript) (ps : List Program) (i : ℕ) (d : Program) → i < length ps → All (λ p. p.script ≡ script) ps
+    → (get_or ps i d).script ≡ script
 script_at script [] i d within all = absurd (omega (arith, within))
 script_at script (p ∷ ps) zero d within all = All-head (λ (q : Program). q.script ≡ script) p ps all
-script_at script (p ∷ ps) (suc i) d within all = script_at script ps i d (omega (arith, within)) (All-tail (λ (q : Program). q.script ≡ script) p ps all)
-
-pub all_of_one : (script own : PlainScript) (k : ℕ) (ps : List Program) → own ≡ script → AreOf script k ps → All (λ p. p.script ≡ own) ps
-all_of_one script own k [] same are = All-nil (λ (q : Program). q.script ≡ own)
-all_of_one script own k (p ∷ ps) same are = All-cons (λ (q : Program). q.script ≡ own) p ps (are.0 ∙ sym same) (all_of_one script own (k + 1) ps same are.3)
+script_at script (p ∷ ps) (suc i) d within all = script_at script ps i d (omega (arith, within))
+    (All-tail (λ (q : Program). q.script ≡ script) p ps all)

@@ -6,7 +6,6 @@ use Rattle.wf_calls.specs.declared.call.Job.{Job}
 use Rattle.wf_calls.specs.declared.reply.Reply.{Reply}
 use Rattle.wf_calls.specs.declared.code.Code.{Code}
 use Rattle.wf_calls.specs.declared.code.Code.TheVariants as code
-use Rattle.wf_calls.specs.declared.order.Turn.{Turn}
 use Rattle.wf_calls.specs.Codes.{code_number, entry, is_out_of_memory}
 use Rattle.wf_film.specs.Film.{Frame}
 use Rattle.wf_machine.specs.Object.{IsPaintable, MayAnswer, after}
@@ -44,7 +43,8 @@ marked_is code.Limit = refl
 work_frames : (p : Program) → frames_of p ≡ frames_if (is_work p) (worked p)
 work_frames p = by_parts p.unpainted p.job
   where
-    by_parts : (b : Bool) (o : Option Job) → frames_of (record p { job = o; unpainted = b }) ≡ frames_if (is_work (record p { job = o; unpainted = b })) (worked (record p { job = o; unpainted = b }))
+    by_parts : (b : Bool) (o : Option Job) → frames_of (record p { job = o; unpainted = b })
+        ≡ frames_if (is_work (record p { job = o; unpainted = b })) (worked (record p { job = o; unpainted = b }))
     by_parts true None = refl
     by_parts true (Some job) = refl
     by_parts false None = refl
@@ -58,7 +58,8 @@ painted_one job can = record { port = can.port; fits = can.fits; size = refl; fo
 still_paintable : (p : Program) → IsWork p → IsTrue (is_work p) → IsSomeAnd (worked p).job IsPaintable
 still_paintable p work is = by_parts p.unpainted p.job work is
   where
-    by_parts : (b : Bool) (o : Option Job) → IsWork (record p { job = o; unpainted = b }) → IsTrue (is_work (record p { job = o; unpainted = b })) → IsSomeAnd (worked (record p { job = o; unpainted = b })).job IsPaintable
+    by_parts : (b : Bool) (o : Option Job) → IsWork (record p { job = o; unpainted = b })
+        → IsTrue (is_work (record p { job = o; unpainted = b })) → IsSomeAnd (worked (record p { job = o; unpainted = b })).job IsPaintable
     by_parts true None work is = absurd cc
     by_parts true (Some job) work is = painted_one job (work refl)
     by_parts false o work is = absurd cc
@@ -75,43 +76,50 @@ has_line p more = of_lines p.lines refl more
     of_lines [] is more = absurd cc
     of_lines (l ∷ ls) is more = (l.1, rw is refl)
 
-pub turn_taken : (client : ℕ) (h left : State) (p now : Program) (w : Wanted) (reply : Reply) (t : Turn) (painted : Bool)
-    → IsFit p → IfSome h.frame (λ f. Ends f p) → next p ≡ Some w → left ≡ after h client w.call reply → MayAnswer h client w.call reply
-    → t ≡ record { client = client; code = code_number reply.code; value = reply.value } → now ≡ worked (took (handed p) reply) → painted ≡ is_work (took (handed p) reply)
-    → TakesTurn client h left p now t painted
-turn_taken client h left p now w reply t painted fit alone asks left_is may t_is now_is painted_is =
-    let marks : is_marked t ≡ is_out_of_memory reply.code = ap is_marked t_is ∙ marked_is reply.code in
-    let W : Bool → State × Reply = λ m. step h client w.call m in
-    let wanted = (W (is_out_of_memory reply.code)).1 in
-    let same : IsSame reply wanted = record { value = may.value; payload = may.payload } in
-    let both = same_outcome p reply wanted same in
-    let q = took p reply in
-    let handed_is : took (handed p) reply ≡ q = took_handed p reply in
-    let work : IsWork q = took_work p h client w reply fit.painted may asks in
-    let now_q : now ≡ worked q = now_is ∙ ap worked handed_is in
-    let painted_q : painted ≡ is_work q = painted_is ∙ ap is_work handed_is in
-    let back : Bool → Type 0 = λ m. frames_of (took p (W m).1) ≡ frames_if painted now in
-    record {
-      wanted = w;
-      asks = asks;
-      ready = is_ready h.frame refl;
-      state = left_is ∙ ap (λ (m : Bool). (W m).0) (sym marks);
-      program = now_q ∙ ap (λ (x : Program × List Frame). x.0) both ∙ ap (λ (m : Bool). worked (took p (W m).1)) (sym marks);
-      entry_is =
-          t_is ∙ ap (λ (c : Code). record { client = client; code = code_number c; value = reply.value }) may.code
-          ∙ ap (λ (v : ℕ). record { client = client; code = code_number wanted.code; value = v }) may.value
-          ∙ ap (λ (m : Bool). entry client (W m).1) (sym marks);
-      frames =
-          ap (λ (m : Bool). frames_of (took p (W m).1)) marks
-          ∙ sym (ap (λ (x : Program × List Frame). x.1) both)
-          ∙ work_frames q
-          ∙ ap (λ (b : Bool). frames_if b (worked q)) (sym painted_q)
-          ∙ ap (frames_if painted) (sym now_q);
-      paintable = λ is. subst (λ (x : Program). IsSomeAnd x.job IsPaintable) (sym now_q) (still_paintable q work (sym painted_q ∙ is));
-    }
+pub turn_taken : (client : ℕ) (h left : State) (p now : Program) (w : Wanted) (reply : Reply) → IsFit p → IfSome h.frame (λ f. Ends f p)
+    → next p ≡ Some w → left ≡ after h client w.call reply → MayAnswer h client w.call reply → now ≡ took (handed p) reply
+    → TakesTurn client h left p (worked now) (entry client reply) (is_work now) × IsWork now
+turn_taken client h left p now w reply fit alone asks left_is may now_is = (takes, subst IsWork (sym now_q) work)
   where
+    q : Program
+    q = took p reply
+
+    now_q : now ≡ q
+    now_q = now_is ∙ took_handed p reply
+
+    work : IsWork q
+    work = took_work p h client w reply fit.painted may asks
+
     is_ready : (o : Option Running) → h.frame ≡ o → (w.wait && is_running h) ≡ false
     is_ready None free = ap (λ (o : Option Running). w.wait && is_some o) free ∙ and_false w.wait
     is_ready (Some f) runs =
         let e = ended p h client false w f runs (rw runs at alone) asks in
         ap (λ (b : Bool). b && is_running h) e.plain_is
+
+    takes : TakesTurn client h left p (worked now) (entry client reply) (is_work now)
+    takes =
+        let marks : is_marked (entry client reply) ≡ is_out_of_memory reply.code = marked_is reply.code in
+        let W : Bool → State × Reply = λ m. step h client w.call m in
+        let wanted = (W (is_out_of_memory reply.code)).1 in
+        let same : IsSame reply wanted = record { value = may.value; payload = may.payload } in
+        let both = same_outcome p reply wanted same in
+        let now_w : worked now ≡ worked q = ap worked now_q in
+        let work_is : is_work now ≡ is_work q = ap is_work now_q in
+        record {
+          wanted = w;
+          asks = asks;
+          ready = is_ready h.frame refl;
+          state = left_is ∙ ap (λ (m : Bool). (W m).0) (sym marks);
+          program = now_w ∙ ap (λ (x : Program × List Frame). x.0) both ∙ ap (λ (m : Bool). worked (took p (W m).1)) (sym marks);
+          entry_is =
+              ap (λ (c : Code). record { client = client; code = code_number c; value = reply.value }) may.code
+              ∙ ap (λ (v : ℕ). record { client = client; code = code_number wanted.code; value = v }) may.value
+              ∙ ap (λ (m : Bool). entry client (W m).1) (sym marks);
+          frames =
+              ap (λ (m : Bool). frames_of (took p (W m).1)) marks
+              ∙ sym (ap (λ (x : Program × List Frame). x.1) both)
+              ∙ work_frames q
+              ∙ ap (λ (b : Bool). frames_if b (worked q)) (sym work_is)
+              ∙ ap (frames_if (is_work now)) (sym now_w);
+          paintable = λ is. subst (λ (x : Program). IsSomeAnd x.job IsPaintable) (sym now_w) (still_paintable q work (sym work_is ∙ is));
+        }

@@ -1,5 +1,7 @@
 -- A show while it is played serially: how it is kept, and what holds of it.
-use Rattle.std.specs.Prelude.{◌≡◌, ℕ, ◌+◌, ◌≤◌, Bool, false, ◌&&◌, List, [], ◌∷◌, ◌++◌, map, length, slice_get, slice_set, flat_map, Option, Some, None, IfSome, IsSome, IsSomeAnd, IsTrue, not, ◌==◌, if◌then◌else◌}
+use Rattle.std.specs.Prelude.{◌≡◌, ℕ, ◌+◌, ◌≤◌, Bool, false, ◌&&◌, List, [], ◌∷◌, ◌++◌, map, length, slice_get, slice_set, flat_map,
+    Option, Some, None, IfSome, IsSome, IsSomeAnd, IsTrue, not, ◌==◌, if◌then◌else◌}
+use Rattle.std.specs.List.{AllByRecursion}
 use Rattle.wf_calls.specs.declared.call.Job.{Job}
 use Rattle.wf_calls.specs.declared.order.Turn.{Turn}
 use Rattle.wf_calls.specs.Codes.{entry}
@@ -14,8 +16,8 @@ use Rattle.wf_turn.specs.declared.show.Show.TheInside.{Inside}
 use Rattle.wf_turn.specs.declared.stage.Stage.{Stage}
 use Rattle.wf_turn.specs.declared.stage.Stage.TheVariants as stage
 use Rattle.wf_turn.specs.declared.stage.Wanted.{Wanted}
-use Rattle.wf_turn.specs.Program.{Program, next, place_of, took, worked}
-use Rattle.wf_turn.specs.Ready.{AreOf, IsFit}
+use Rattle.wf_turn.specs.Program.{Program, is_work, next, place_of, took, worked}
+use Rattle.wf_turn.specs.Ready.{AreOf, IsFit, IsWork}
 use Rattle.wf_turn.specs.Turns.{Show, frames_of, is_setting_up, shown}
 use Rattle.wf_turn.specs.Play.{first_client, is_marked}
 use Rattle.wf_turn.specs.Quota.{all_left}
@@ -36,6 +38,30 @@ script_of show = of_programs show.programs
     of_programs [] = record { ports = record { modes = record { items = [] }; pipes = 0 }; lines = [] }
     of_programs (clock ∷ others) = clock.script
 
+-- no program has a Job left to paint
+abbrev pub ArePainted : List Program → Type 0
+ArePainted programs = AllByRecursion (λ p. p.unpainted ≡ false) programs
+
+-- every Job that is held is painted
+abbrev pub all_painted : Show → Show
+all_painted show = record show { programs = map worked show.programs }
+
+-- the Job that a client's program holds is painted, if there is one to paint
+abbrev pub with_paint : ℕ → List Program → List Program
+with_paint client programs = of_program (slice_get programs client)
+  where
+    of_program : Option Program → List Program
+    of_program None = programs
+    of_program (Some p) = slice_set programs client (worked p)
+
+-- a client's program holds a Job that is to be painted
+abbrev pub has_work : ℕ → List Program → Bool
+has_work client programs = of_program (slice_get programs client)
+  where
+    of_program : Option Program → Bool
+    of_program None = false
+    of_program (Some p) = is_work p
+
 -- the Job that is held is that of the running frame, to be ended
 abbrev pub EndsAt : Option Job → Running → Stage → Type 0
 EndsAt job f (stage.Ending leg) = IsSomeAnd job (λ j. IsTrue (is_of_frame j f))
@@ -55,8 +81,9 @@ pub record IsCast (show : Show) : Type 0 where
   pub eight : length show.programs ≡ 8
   pub alone : IfSome show.state.frame (FirstEnds show.programs)
 
+-- they are a cast once every Job is painted
 abbrev pub IsSound : Inside → Type 0
-IsSound s = IsCast (show_of s)
+IsSound s = IsCast (all_painted (show_of s))
 
 -- a client may have a turn: the clock always, and the others once the setup is through
 abbrev pub may_turn : List Program → ℕ → Bool
@@ -84,7 +111,8 @@ pub record IsReady (h : State) (p : Program) : Type 0 where
   pub more : IsSome (place_of p)
   pub alone : IfSome h.frame (λ f. Ends f p)
 
--- one turn of a program: what it leaves of the machine and of the program, its entry, and whether a Job was painted
+-- one turn of a program: what it leaves of the machine and, once its Job is painted, of the program, its entry, and whether
+-- there is a Job to paint
 pub record TakesTurn (client : ℕ) (h left : State) (p now : Program) (t : Turn) (painted : Bool) : Type 0 where
   pub wanted : Wanted
   pub asks : next p ≡ Some wanted
@@ -96,9 +124,10 @@ pub record TakesTurn (client : ℕ) (h left : State) (p now : Program) (t : Turn
   pub paintable : IsTrue painted → IsSomeAnd now.job IsPaintable
 
 -- one turn of the program of a client
-abbrev pub TakesTurnAt : ℕ → State → State → List Program → List Program → Turn → Bool → Type 0
-TakesTurnAt client h left programs now t painted =
-    IfSome (slice_get programs client) (λ p. (q : Program) × ((now ≡ slice_set programs client q) × TakesTurn client h left p q t painted))
+abbrev pub TakesTurnAt : ℕ → State → State → List Program → List Program → Turn → Type 0
+TakesTurnAt client h left programs now t =
+    IfSome (slice_get programs client) (λ p. (q : Program)
+        × ((now ≡ slice_set programs client q) × TakesTurn client h left p (worked q) t (is_work q) × IsWork q))
 
 -- the frames that a turn of a client shows
 abbrev pub shown_by : Bool → List Program → ℕ → List Frame

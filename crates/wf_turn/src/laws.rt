@@ -18,5 +18,7 @@ pub fn each_frame_is_of_a_moment()
 /// draws into the screen, and of the images that were the newest of the scene's streams, all at the moment of one entry,
 /// which tells that the context's frame begins.
 pub fn each_screen_is_of_a_moment()
-    ensures { (script : PlainScript) (order : List Turn) (port : ℕ) (image : Bitmap) → IsTrue (nat_le port (length script.ports.modes.items)) → image_after port (replay script order) ≡ Some image → IsComposed script order port image }
+    ensures { (script : PlainScript) (order : List Turn) (port : ℕ) (image : Bitmap)
+        → IsTrue (nat_le port (length script.ports.modes.items)) → image_after port (replay script order) ≡ Some image
+        → IsComposed script order port image }
 {}

@@ -3,7 +3,7 @@
 ghost use Rattle.std.specs.Prelude.{◌≡◌, ◌+◌, ◌*◌, ◌<◌, ◌≤◌, ◌^◌, [], map, length, vec_capacity, IfErr, IsTrue, None, OnErr, OnOk};
 ghost use Rattle.wf_io.specs.Causes.{HasCause};
 ghost use Rattle.wf_turn.specs.Play.{first_client};
-ghost use Rattle.wf_turn.specs.Playing.{PlaysTurn, PlaysTurns, StopsTurn, StopsTurns, may_turn, script_of};
+ghost use Rattle.wf_turn.specs.Playing.{ArePainted, PlaysTurn, PlaysTurns, StopsTurn, StopsTurns, Turned, may_turn, script_of};
 ghost use Rattle.wf_turn.specs.Program.{place_of};
 ghost use Rattle.wf_turn.specs.Quota.{all_left, most_turns};
 ghost use Rattle.wf_turn.specs.Serial.{IsCaused, IsFirst, PlaysFilm};
@@ -91,6 +91,7 @@ fn play_turns<K: Sink>(
     writer: &mut Writer,
     played: &mut Vec<Turn>,
 ) -> Result<(), WriteStop>
+    requires painted { ArePainted show.old.programs }
     requires none { played.old.items ≡ [] }
     requires room { all_left show.old.programs ≤ vec_capacity played.old }
     requires few { writer.old + all_left show.old.programs * 4194314 < 2 ^ 62 }
@@ -118,27 +119,44 @@ fn play_turn<K: Sink>(
     writer: &mut Writer,
     played: &mut Vec<Turn>,
 ) -> Result<(), WriteStop>
+    requires painted { ArePainted show.old.programs }
     requires first { IsFirst show.old.programs client }
     requires allowed { IsTrue (may_turn show.old.programs client) }
     requires within { client < 8 }
     requires room { length played.old.items + all_left show.old.programs ≤ vec_capacity played.old }
     requires few { writer.old + all_left show.old.programs * 4194314 < 2 ^ 62 }
     ensures all { OnOk result (PlaysTurn K.took k.old k.new writer.old writer.new show.old show.new played.old.items played.new.items) }
+    ensures painted { OnOk result (ArePainted show.new.programs) }
     ensures fewer { OnOk result (all_left show.new.programs + 1 ≤ all_left show.old.programs) }
     ensures many { length played.new.items + all_left show.new.programs ≤ length played.old.items + all_left show.old.programs }
     ensures most { OnOk result (writer.new ≤ writer.old + 4194314) }
     ensures room { OnOk result (vec_capacity played.old ≤ vec_capacity played.new) }
-    ensures part { IfErr result (λ stop. StopsTurn K.took k.old k.new writer.old stop.written show.old show.new played.old.items played.new.items) }
+    ensures part
+        { IfErr result (λ stop. StopsTurn K.took k.old k.new writer.old stop.written show.old show.new played.old.items played.new.items) }
     ensures cause { HasCause (K.faults k.old) (K.faults k.new) result }
 {
-    let (turn, painted) = show.turn(client);
+    let (turn, painted) = turn_and_paint(show, client);
     played.push_reserved(turn);
     if painted {
         if let Err(stop) = show.put_frame(client, k, writer) {
-            let (end, _) = show.turn(client);
+            let (end, _) = turn_and_paint(show, client);
             played.push_reserved(end);
             return Err(stop);
         }
     }
     Ok(())
+}
+
+/// The next turn, of the client of the first line that is not through, and then the painting of the Job that came, if one
+/// did. It gives the entry, and whether a Job was painted.
+fn turn_and_paint(show: &mut Show, client: usize) -> (Turn, bool)
+    requires painted { ArePainted show.old.programs }
+    requires first { IsFirst show.old.programs client }
+    requires allowed { IsTrue (may_turn show.old.programs client) }
+    requires within { client < 8 }
+    ensures turned { Turned show.old client show.new result.0 result.1 }
+    ensures painted { ArePainted show.new.programs }
+{
+    let turn = show.turn(client);
+    (turn, show.paint(client))
 }

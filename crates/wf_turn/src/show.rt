@@ -1,13 +1,16 @@
 //! A show: the machine, and the programs of the eight clients.
 
-ghost use Rattle.std.specs.Prelude.{◌≡◌, ◌+◌, ◌*◌, ◌<◌, ◌≤◌, ◌^◌, ◌&&◌, not, if◌then◌else◌, ◌∷◌, map, slice_get, option_map, length, flat_map, Some, IfOk, IfErr, IfSome, IsSomeAnd, IsTrue, OnOk, All, true};
+ghost use Rattle.std.specs.Prelude.{◌≡◌, ◌+◌, ◌*◌, ◌<◌, ◌≤◌, ◌^◌, ◌&&◌, not, if◌then◌else◌, ◌∷◌, map, slice_get, option_map, length,
+    flat_map, Some, IfOk, IfErr, IfSome, IsSomeAnd, IsTrue, OnOk, All, true};
 ghost use Rattle.wf_film.specs.Film.{frame_bytes};
 ghost use Rattle.wf_io.specs.Bytes.{Puts, PutsPart};
 ghost use Rattle.wf_io.specs.Causes.{HasCause};
 ghost use Rattle.wf_machine.specs.Object.{IsPaintable};
 ghost use Rattle.wf_turn.specs.Play.{earlier, first_client};
-ghost use Rattle.wf_turn.specs.Playing.{HoldsPaintable, IsReady, StandsOwn, TakesTurnAt, Turned, may_turn, shown_by};
+ghost use Rattle.wf_turn.specs.Playing.{ArePainted, HoldsPaintable, IsReady, StandsOwn, TakesTurnAt, Turned, has_work, may_turn,
+    shown_by, with_paint};
 ghost use Rattle.wf_turn.specs.Program.{in_setup, place_of, taught};
+ghost use Rattle.wf_turn.specs.Ready.{IsWork};
 ghost use Rattle.wf_turn.specs.Serial.{IsFirst};
 ghost use Rattle.wf_turn.specs.Turns.{opening_show, shown};
 
@@ -93,7 +96,8 @@ fn teach(clock: &Program, others: &mut [Program])
 fn hand_on(was_setup: bool, clock: &Program, others: &mut Vec<Program>)
     requires script { All (λ p. p.script ≡ clock.now.script) others.old.items }
     requires clock { clock.now.client ≡ 0 }
-    ensures { others.new.items ≡ (if was_setup && not (in_setup clock.now) then map (taught clock.now) others.old.items else others.old.items) }
+    ensures { others.new.items
+        ≡ (if was_setup && not (in_setup clock.now) then map (taught clock.now) others.old.items else others.old.items) }
 {
     if was_setup && !clock.in_setup() {
         teach(clock, others);
@@ -106,10 +110,10 @@ fn take_turn_of(
     clock: &mut Program,
     others: &mut Vec<Program>,
     client: usize,
-) -> (Turn, bool)
+) -> Turn
     requires within { client < 8 }
     requires ready { IsSomeAnd (slice_get (clock.old ∷ others.old.items) client) (IsReady machine.old) }
-    ensures { TakesTurnAt client machine.old machine.new (clock.old ∷ others.old.items) (clock.new ∷ others.new.items) result.0 result.1 }
+    ensures { TakesTurnAt client machine.old machine.new (clock.old ∷ others.old.items) (clock.new ∷ others.new.items) result }
 {
     if client == 0 {
         take_turn(machine, clock, 0)
@@ -138,6 +142,7 @@ impl<'a> Show<'a> {
 
     /// The client of the first line in the file that is not through, or none where all are.
     pub(crate) fn first(&self) -> Option<usize>
+        requires painted { ArePainted self.now.programs }
         ensures first { option_map (λ c. c.0) (first_client (map place_of self.now.programs)) ≡ result }
         ensures allowed { IfSome result (λ c. IsTrue (may_turn self.now.programs c)) }
         ensures within { IfSome result (λ c. c < 8) }
@@ -148,23 +153,41 @@ impl<'a> Show<'a> {
         }
     }
 
-    /// The next turn, of the client of the first line that is not through. It gives the entry, and whether a Job was
-    /// painted.
-    pub(crate) fn turn(&mut self, client: usize) -> (Turn, bool)
+    /// The next turn, of the client of the first line that is not through. It gives the entry; a Job that comes is left to
+    /// paint.
+    pub(crate) fn turn(&mut self, client: usize) -> Turn
+        requires painted { ArePainted self.old.programs }
         requires first { IsFirst self.old.programs client }
         requires allowed { IsTrue (may_turn self.old.programs client) }
         requires within { client < 8 }
-        ensures { Turned self.old client self.new result.0 result.1 }
+        ensures turned { Turned self.old client (record self.new { programs = with_paint client self.new.programs }) result
+            (has_work client self.new.programs) }
+        ensures painted { ArePainted (with_paint client self.new.programs) }
+        ensures work { IfSome (slice_get self.new.programs client) IsWork }
     {
         let was_setup = self.clock.in_setup();
-        let (turn, painted) = take_turn_of(
+        let turn = take_turn_of(
             &mut self.machine,
             &mut self.clock,
             &mut self.others,
             client,
         );
         hand_on(was_setup, &self.clock, &mut self.others);
-        (turn, painted)
+        turn
+    }
+
+    /// Paints the Job that a client's program holds and that is not painted yet, and answers whether there was one.
+    pub(crate) fn paint(&mut self, client: usize) -> bool
+        requires within { client < 8 }
+        requires work { IfSome (slice_get self.old.programs client) IsWork }
+        ensures painted { self.new ≡ record self.old { programs = with_paint client self.old.programs } }
+        ensures was { result ≡ has_work client self.old.programs }
+    {
+        if client == 0 {
+            self.clock.paint()
+        } else {
+            self.others[client - 1].paint()
+        }
     }
 
     /// The program of a client.
@@ -192,7 +215,9 @@ impl<'a> Show<'a> {
         ensures all { OnOk result (Puts K.took k.old k.new (flat_map frame_bytes (shown_by true self.now.programs client))) }
         ensures written { OnOk result (writer.new ≡ writer.old + length (flat_map frame_bytes (shown_by true self.now.programs client))) }
         ensures most { OnOk result (writer.new ≤ writer.old + 10 + 4 * 1024 * 1024) }
-        ensures part { IfErr result (λ stop. PutsPart K.took k.old k.new writer.old (flat_map frame_bytes (shown_by true self.now.programs client)) stop.written) }
+        ensures part
+            { IfErr result (λ stop. PutsPart K.took k.old k.new writer.old (flat_map frame_bytes (shown_by true self.now.programs client))
+            stop.written) }
         ensures cause { HasCause (K.faults k.old) (K.faults k.new) result }
     {
         let program = self.program(client);
@@ -210,7 +235,9 @@ fn put_job<K: Sink>(k: &mut K, writer: &mut Writer, tick: u32, job: &Job) -> Res
     ensures all { OnOk result (Puts K.took k.old k.new (flat_map frame_bytes (shown job.now.kind tick job.now))) }
     ensures written { OnOk result (writer.new ≡ writer.old + length (flat_map frame_bytes (shown job.now.kind tick job.now))) }
     ensures most { OnOk result (writer.new ≤ writer.old + 10 + 4 * 1024 * 1024) }
-    ensures part { IfErr result (λ stop. PutsPart K.took k.old k.new writer.old (flat_map frame_bytes (shown job.now.kind tick job.now)) stop.written) }
+    ensures part
+        { IfErr result (λ stop. PutsPart K.took k.old k.new writer.old (flat_map frame_bytes (shown job.now.kind tick job.now))
+        stop.written) }
     ensures cause { HasCause (K.faults k.old) (K.faults k.new) result }
 {
     match job.kind {

@@ -4,7 +4,10 @@
 ghost use Rattle.std.specs.Prelude.{◌≡◌, ◌≢◌, ◌↔◌, IfSome};
 ghost use Rattle.std.specs.IoError.{error_kind};
 ghost use Rattle.std.specs.declared.io.ErrorKind.TheVariants.{OutOfMemory};
+ghost use Rattle.wf_play.specs.Notes.{PutsOrFront, note_of};
+ghost use Rattle.wf_play.specs.Report.{exit_of};
 ghost use Rattle.wf_play.specs.Words.{AreAccepted};
+ghost use Rattle.wf_play.specs.declared.report.Status.{Status};
 ghost use Rattle.wfplay.specs.Exit.{PutsFilm};
 
 use std::alloc::Global;
@@ -14,7 +17,7 @@ use std::sync::Wait;
 use std::thread::Threads;
 use std::{env, io};
 use wf_io::{Sink, Source, StdSink, StdSource};
-use wf_play::{Open, Status, play};
+use wf_play::{Open, Status, play, put_note};
 
 /// The words of the command line, without the program's name.
 fn command_words(rt: &(impl Env + AllocGlobal)) -> io::Result<Vec<String>> {
@@ -51,13 +54,23 @@ fn exit_of_play<R: Threads + Wait + Sync, I: Source, O: Sink, N: Sink>(
     report.status.exit()
 }
 
+/// Puts the line of words that could not be had into the notes, and tells the exit status.
+fn exit_without_words<N: Sink>(error: &io::Error, notes: &mut N) -> u8
+    ensures line { (status : Status) × ((result ≡ exit_of status)
+        × PutsOrFront N.took notes.old notes.new (N.faults notes.old) (N.faults notes.new) (note_of status)) }
+{
+    let status = status_without_words(error);
+    put_note(notes, status);
+    status.exit()
+}
+
 fn main(rt: HostRuntime) -> ExitCode {
+    let mut notes = StdSink::new(rt.stderr());
     let words = match command_words(&rt) {
         Ok(words) => words,
-        Err(error) => return ExitCode::from(status_without_words(&error).exit()),
+        Err(error) => return ExitCode::from(exit_without_words(&error, &mut notes)),
     };
     let mut input = StdSource::new(rt.reader());
     let mut film = StdSink::new(rt.stdout());
-    let mut notes = StdSink::new(rt.stderr());
     ExitCode::from(exit_of_play(&rt, rt.alloc(), &words, &mut input, &mut film, &mut notes))
 }

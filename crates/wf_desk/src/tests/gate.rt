@@ -105,11 +105,13 @@ fn four_threads_pass_a_gate(rt: HostRuntime) -> Result<(), Fail> {
         &rt,
         || -> (Pass<Gate>, Pass<Gate>)
             requires { (one.desk ≡ shared.now.id) × (two.desk ≡ shared.now.id) }
-            ensures { (result.0.desk ≡ one.desk) × (result.0.client ≡ one.client) × (result.1.desk ≡ two.desk) × (result.1.client ≡ two.client) }
+            ensures { (result.0.desk ≡ one.desk) × (result.0.client ≡ one.client) × (result.1.desk ≡ two.desk)
+                × (result.1.client ≡ two.client) }
         { walk_both(&rt, shared, one, two) },
         || -> (Pass<Gate>, Pass<Gate>)
             requires { (three.desk ≡ shared.now.id) × (four.desk ≡ shared.now.id) }
-            ensures { (result.0.desk ≡ three.desk) × (result.0.client ≡ three.client) × (result.1.desk ≡ four.desk) × (result.1.client ≡ four.client) }
+            ensures { (result.0.desk ≡ three.desk) × (result.0.client ≡ three.client) × (result.1.desk ≡ four.desk)
+                × (result.1.client ≡ four.client) }
         { walk_both(&rt, shared, three, four) },
     );
     passes.push_reserved(one);

@@ -5,4 +5,5 @@ use Rattle.wf_machine.proofs.Naming.{scene_names}
 use Rattle.wf_machine.proofs.latching.names.Goals as goal
 
 pub returns : goal.returns
-returns c = c.any_names.ensures ∙ ap (list_any (λ (l : Layer). (l.stream == c.args.number) || (l.mask == c.args.number))) c.as_slice.ensures.value ∙ scene_names c.args.number c.args.scene.now.layers.items
+returns c = c.any_names.ensures ∙ ap (list_any (λ (l : Layer). (l.stream == c.args.number) || (l.mask == c.args.number)))
+    c.as_slice.ensures.value ∙ scene_names c.args.number c.args.scene.now.layers.items

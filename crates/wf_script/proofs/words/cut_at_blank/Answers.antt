@@ -6,9 +6,11 @@ use Rattle.wf_script.proofs.words.cut_at_blank.Goals as goal
 pub returns-clause-front : goal.returns-clause-front
 returns-clause-front c =
     let text = c.args.text.now in
-    c.cut_out.ensures.front ∙ ap (λ n. take n text) (c.unwrap_or-place.ensures ∙ ap (λ o. unwrap_or o (length text)) c.blank_in.ensures ∙ place_or_end is_blank text)
+    c.cut_out.ensures.front ∙ ap (λ n. take n text) (c.unwrap_or-place.ensures ∙ ap (λ o. unwrap_or o (length text)) c.blank_in.ensures
+        ∙ place_or_end is_blank text)
 
 pub returns-clause-behind : goal.returns-clause-behind
 returns-clause-behind c =
     let text = c.args.text.now in
-    c.cut_out.ensures.behind ∙ ap (λ n. drop (n + 1) text) (c.unwrap_or-place.ensures ∙ ap (λ o. unwrap_or o (length text)) c.blank_in.ensures ∙ place_or_end is_blank text)
+    c.cut_out.ensures.behind ∙ ap (λ n. drop (n + 1) text) (c.unwrap_or-place.ensures
+        ∙ ap (λ o. unwrap_or o (length text)) c.blank_in.ensures ∙ place_or_end is_blank text)

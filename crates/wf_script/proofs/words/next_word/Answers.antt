@@ -8,14 +8,16 @@ pub returns-then-not-is_empty-clause-words : goal.returns-then-not-is_empty-clau
 returns-then-not-is_empty-clause-words c =
     let cut = c.cut_at_blank in
     let some : 0 < length cut.result.0.now = grind (arith, nat_tests) in
-    sym c.loop-rest.invariant.same ∙ next_is_word c.loop-rest.rest.now cut.result.0.now cut.result.1.now cut.ensures.front cut.ensures.behind some
+    sym c.loop-rest.invariant.same ∙ next_is_word c.loop-rest.rest.now cut.result.0.now cut.result.1.now cut.ensures.front
+        cut.ensures.behind some
 
 pub loop-rest-preserved : goal.loop-rest-preserved
 loop-rest-preserved c =
     let cut = c.cut_at_blank in
     let none : length cut.result.0.now ≡ 0 = grind (arith, nat_tests) in
     record {
-      same = sym (next_is_none c.loop-rest.rest.now cut.result.0.now cut.result.1.now cut.ensures.front cut.ensures.behind none) ∙ c.loop-rest.invariant.same;
+      same = sym (next_is_none c.loop-rest.rest.now cut.result.0.now cut.result.1.now cut.ensures.front cut.ensures.behind none)
+          ∙ c.loop-rest.invariant.same;
       within = grind (arith, common_steps);
     }
 

@@ -5,4 +5,6 @@ use Rattle.wf_script.proofs.Cuts.{without_ending}
 use Rattle.wf_script.proofs.words.without_return.Goals as goal
 
 pub returns : goal.returns
-returns c = ap (λ (left : Bor (List ℕ)). left.now) c.unwrap_or.ensures ∙ without_ending c.args.line c.strip_suffix.result (strip_suffix_is Decides-eqb c.args.line.now (13 ∷ []) c.strip_suffix.result c.strip_suffix.ensures.cases)
+returns c = ap (λ (left : Bor (List ℕ)). left.now) c.unwrap_or.ensures
+    ∙ without_ending c.args.line c.strip_suffix.result
+    (strip_suffix_is Decides-eqb c.args.line.now (13 ∷ []) c.strip_suffix.result c.strip_suffix.ensures.cases)

@@ -6,6 +6,7 @@ add-requires-clause-few c = few_so_far c.args.client c.args.lines.now c.loop-lin
 
 pub loop-line-preserved : goal.loop-line-preserved
 loop-line-preserved c = record {
-  names = names_step c.args.client c.args.lines.now c.loop-line.line-index c.line-item.result _ _ _ c.in_ok-add.ensures.names c.loop-line.invariant.names c.bound_by.ensures c.loop-line-test.true c.line-item.is;
+  names = names_step c.args.client c.args.lines.now c.loop-line.line-index c.line-item.result _ _ _ c.in_ok-add.ensures.names
+      c.loop-line.invariant.names c.bound_by.ensures c.loop-line-test.true c.line-item.is;
   index = c.in_ok-add.ensures.index;
 }

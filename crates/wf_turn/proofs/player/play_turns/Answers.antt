@@ -8,14 +8,19 @@ loop-client-preserved c =
     let was = c'.loop-client.invariant in
     let one = c'.in_default-play_turn.ensures in
     record {
-      plays = one_played c.K.Sink.took c'.args.k.now c'.loop-client.k c'.play_turn.new.k c'.args.writer.now c'.loop-client.writer c'.play_turn.new.writer c'.args.show.now c'.loop-client.show c'.play_turn.new.show c'.loop-client.played.items c'.play_turn.new.played.items was.plays one.all;
+      plays = one_played c.K.Sink.took c'.args.k.now c'.loop-client.k c'.play_turn.new.k c'.args.writer.now c'.loop-client.writer
+          c'.play_turn.new.writer c'.args.show.now c'.loop-client.show c'.play_turn.new.show c'.loop-client.played.items
+          c'.play_turn.new.played.items was.plays one.all;
       fits = omega (arith, was.fits, one.many, one.room);
       many = omega (arith, was.many, one.many);
       few = omega (arith, was.few, one.fewer, one.most);
       later = omega (arith, was.later, one.cause.later);
+      painted = one.painted;
     }
 
 pub returns-in-Err-clause-part : goal.returns-in-Err-clause-part
 returns-in-Err-clause-part c =
     λ c'.
-    one_stopped c.K.Sink.took c'.args.k.now c'.loop-client.k c'.play_turn.new.k c'.args.writer.now c'.loop-client.writer c'.in-Err.stop.written c'.args.show.now c'.loop-client.show c'.play_turn.new.show c'.loop-client.played.items c'.play_turn.new.played.items c'.loop-client.invariant.plays c'.in-Err.ensures.part
+    one_stopped c.K.Sink.took c'.args.k.now c'.loop-client.k c'.play_turn.new.k c'.args.writer.now c'.loop-client.writer
+        c'.in-Err.stop.written c'.args.show.now c'.loop-client.show c'.play_turn.new.show c'.loop-client.played.items
+        c'.play_turn.new.played.items c'.loop-client.invariant.plays c'.in-Err.ensures.part

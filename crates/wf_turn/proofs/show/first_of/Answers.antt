@@ -8,7 +8,8 @@ use Rattle.wf_turn.proofs.show.first_of.Goals as goal
 pub loop-behind-init : goal.loop-behind-init
 loop-behind-init c = (
   c.earlier-best.ensures ∙ ap (λ (o : Option ℕ). earlier None (0, o)) c.place.ensures.place,
-  subst (λ (b : Option (ℕ × ℕ)). IfSome b (StandsOwn (c.args.clock.now ∷ c.args.others.now))) (sym c.earlier-best.ensures) (own_clock c.args.clock.now c.args.others.now c.place.result c.place.ensures.own),
+  subst (λ (b : Option (ℕ × ℕ)). IfSome b (StandsOwn (c.args.clock.now ∷ c.args.others.now))) (sym c.earlier-best.ensures)
+      (own_clock c.args.clock.now c.args.others.now c.place.result c.place.ensures.own),
 )
 
 pub loop-behind-preserved : goal.loop-behind-preserved
@@ -18,9 +19,13 @@ loop-behind-preserved c =
     let i = c.loop-behind.behind in
     let p = c.index-others-behind.result in
     let place = c.place-in-loop-behind in (
-      c.earlier-best-in-loop-behind.ensures ∙ one_passed clock ps i c.loop-behind.best p place.result c.loop-behind-test.true c.index-others-behind.is place.ensures.place c.loop-behind.invariant.0,
-      subst (λ (b : Option (ℕ × ℕ)). IfSome b (StandsOwn (clock ∷ ps))) (sym c.earlier-best-in-loop-behind.ensures) (own_passed clock ps i c.loop-behind.best p place.result c.loop-behind-test.true c.index-others-behind.is place.ensures.own c.loop-behind.invariant.1),
+      c.earlier-best-in-loop-behind.ensures ∙ one_passed clock ps i c.loop-behind.best p place.result c.loop-behind-test.true
+          c.index-others-behind.is place.ensures.place c.loop-behind.invariant.0,
+      subst (λ (b : Option (ℕ × ℕ)). IfSome b (StandsOwn (clock ∷ ps))) (sym c.earlier-best-in-loop-behind.ensures)
+          (own_passed clock ps i c.loop-behind.best p place.result c.loop-behind-test.true c.index-others-behind.is place.ensures.own
+          c.loop-behind.invariant.1),
     )
 
 pub returns-clause-first : goal.returns-clause-first
-returns-clause-first c = all_passed c.args.clock.now c.args.others.now c.loop-behind.behind c.loop-behind.best c.loop-behind-test.false c.loop-behind.invariant.0
+returns-clause-first c = all_passed c.args.clock.now c.args.others.now c.loop-behind.behind c.loop-behind.best c.loop-behind-test.false
+    c.loop-behind.invariant.0

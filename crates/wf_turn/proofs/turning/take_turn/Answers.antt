@@ -1,23 +1,25 @@
-use Rattle.std.proofs.Common.{◌≡◌, ◌∙◌, Some, sym, ap, subst}
-use Rattle.wf_turn.specs.Program.{Program, is_work, next, took, worked}
+use Rattle.std.proofs.Common.{◌∙◌, sym, ap, subst}
+use Rattle.wf_calls.specs.Codes.{entry}
+use Rattle.wf_calls.specs.declared.order.Turn.{Turn}
+use Rattle.wf_turn.specs.Playing.{TakesTurn}
+use Rattle.wf_turn.specs.Program.{Program, is_work, took, worked}
 use Rattle.wf_turn.specs.Ready.{IsWork}
-use Rattle.wf_turn.proofs.Answering.{took_handed}
-use Rattle.wf_turn.proofs.Painting.{took_work}
 use Rattle.wf_turn.proofs.Turnings.{turn_taken}
 use Rattle.wf_turn.proofs.turning.take_turn.Goals as goal
 
-pub paint-painted-requires : goal.paint-painted-requires
-paint-painted-requires c =
-    let p = c.args.program.now in
-    let asks : next p ≡ Some c.in-Some.wanted = sym c.next.ensures.wanted ∙ c.in-Some.is in
-    let now : c.took.new.self ≡ took p c.run-reply.result = c.took.ensures ∙ ap (λ (q : Program). took q c.run-reply.result) c.next.ensures.handed ∙ took_handed p c.run-reply.result in
-    subst IsWork (sym now) (took_work p c.args.machine.now c.args.client c.in-Some.wanted c.run-reply.result c.requires.fit.painted c.run-reply.ensures.may asks)
+module _ (c : goal.After-took) where
+  taken : TakesTurn c.args.client c.args.machine.now c.run-reply.new.self c.args.program.now (worked c.took.new.self)
+      (entry c.args.client c.run-reply.result) (is_work c.took.new.self) × IsWork c.took.new.self
+  taken =
+      let p = c.args.program.now in
+      turn_taken c.args.client c.args.machine.now c.run-reply.new.self p c.took.new.self c.in-Some.wanted c.run-reply.result c.requires.fit
+          c.requires.alone (sym c.next.ensures.wanted ∙ c.in-Some.is) c.run-reply.ensures.after c.run-reply.ensures.may
+      (c.took.ensures ∙ ap (λ (q : Program). took q c.run-reply.result) c.next.ensures.handed)
 
-pub returns : goal.returns
-returns c =
-    let p = c.args.program.now in
-    let asks : next p ≡ Some c.in-Some.wanted = sym c.next.ensures.wanted ∙ c.in-Some.is in
-    let took_is = c.took.ensures ∙ ap (λ (q : Program). took q c.run-reply.result) c.next.ensures.handed in
-    turn_taken c.args.client c.args.machine.now c.run-reply.new.self p c.paint-painted.new.self c.in-Some.wanted c.run-reply.result (record { client = c.args.client; code = c.number.result; value = c.run-reply.result.value })
-    c.paint-painted.result c.requires.fit c.requires.alone asks c.run-reply.ensures.after c.run-reply.ensures.may (ap (λ n. record { client = c.args.client; code = n; value = c.run-reply.result.value }) c.number.ensures)
-    (c.paint-painted.ensures.painted ∙ ap worked took_is) (c.paint-painted.ensures.was ∙ ap is_work took_is)
+pub returns-clause-takes : goal.returns-clause-takes
+returns-clause-takes c =
+    subst (λ (t : Turn). TakesTurn c.args.client c.args.machine.now c.run-reply.new.self c.args.program.now (worked c.took.new.self) t
+        (is_work c.took.new.self)) (sym c.entry-turn.ensures) (taken c).0
+
+pub returns-clause-work : goal.returns-clause-work
+returns-clause-work c = (taken c).1

@@ -4,4 +4,5 @@ use Rattle.wf_image.proofs.Places.{somes_out}
 use Rattle.wf_image.proofs.contents.Contents.pop.Goals as goal
 
 pub returns-clause-last : goal.returns-clause-last
-returns-clause-last c = sym c.self.view_is ∙ ap (λ l. somes l) c.in_ok-pop.ensures.items ∙ somes_out c.pop.new.self.items c.in_ok-pop.field-0
+returns-clause-last c = sym c.self.view_is ∙ ap (λ l. somes l) c.in_ok-pop.ensures.items
+    ∙ somes_out c.pop.new.self.items c.in_ok-pop.field-0

@@ -13,19 +13,24 @@ overflow_sub-self c =
 pub returns-in-Some-clause-orderly : goal.returns-in-Some-clause-orderly
 returns-in-Some-clause-orderly c =
     let es = c.self.inside.live.entries in
-    rw (c.remove.ensures.entries, remove_without 0 c.self.inside.made c.args.handle es c.self.invariant.rising) (rising_without 0 c.self.inside.made c.args.handle (map live_of es) c.self.invariant.rising)
+    rw (c.remove.ensures.entries, remove_without 0 c.self.inside.made c.args.handle es c.self.invariant.rising)
+        (rising_without 0 c.self.inside.made c.args.handle (map live_of es) c.self.invariant.rising)
 
 pub invariant_of-self : goal.invariant_of-self
 invariant_of-self c = record {
   limit = c.self.invariant.limit;
   rising = returns-in-Some-clause-orderly c;
-  tally = rw (c.remove.ensures.entries, c.place.ensures) (tally_less c.self.inside.counts c.args.handle c.in-Some.object c.self.inside.live.entries c.self.told (sym c.in-Some.ensures.value) c.self.invariant.tally);
+  tally = rw (c.remove.ensures.entries, c.place.ensures)
+      (tally_less c.self.inside.counts c.args.handle c.in-Some.object c.self.inside.live.entries c.self.told (sym c.in-Some.ensures.value)
+      c.self.invariant.tally);
 }
 
 pub returns-in-Some-clause-killed : goal.returns-in-Some-clause-killed
 returns-in-Some-clause-killed c =
-    rw (← c.self.view_is, c.remove.ensures.entries, remove_without 0 c.self.inside.made c.args.handle c.self.inside.live.entries c.self.invariant.rising) refl
+    rw (← c.self.view_is, c.remove.ensures.entries, remove_without 0 c.self.inside.made c.args.handle c.self.inside.live.entries
+        c.self.invariant.rising) refl
 
 pub returns-in_default-clause-killed : goal.returns-in_default-clause-killed
 returns-in_default-clause-killed c =
-    rw (← c.self.view_is, c.remove.ensures.entries, remove_without 0 c.self.inside.made c.args.handle c.self.inside.live.entries c.self.invariant.rising) refl
+    rw (← c.self.view_is, c.remove.ensures.entries, remove_without 0 c.self.inside.made c.args.handle c.self.inside.live.entries
+        c.self.invariant.rising) refl

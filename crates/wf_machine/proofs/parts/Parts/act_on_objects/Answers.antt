@@ -1,6 +1,6 @@
 use Rattle.std.proofs.Common.{ℕ, Option, sym, subst}
 use Rattle.std.specs.Option.{IfSome}
-use Rattle.wf_core.specs.Fits.{IsOfPixels}
+use Rattle.wf_objects.specs.Fits.{IsOfPixels}
 use Rattle.wf_machine.proofs.Screening.{asked_pixels}
 use Rattle.wf_machine.proofs.Acts.{as_composed, sound_composed}
 use Rattle.wf_machine.proofs.parts.Parts.act_on_objects.Goals as goal

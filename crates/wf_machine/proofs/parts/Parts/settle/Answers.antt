@@ -18,23 +18,27 @@ module _ (c : goal.After-sweep) where
   m = c.self.inside
 
   own : Marks c.unmark.new.self c.mark_own.new.self (flat_map own_names m.store.streams)
-  own = own_marks m c.unmark.new.self c.mark_own.new.self c.mark.new.store c.mark_screens.new.store c.mark_frame.new.store c.self.invariant.numbered c.unmark.ensures c.mark_own.ensures.marked c.mark_own.ensures.rest
+  own = own_marks m c.unmark.new.self c.mark_own.new.self c.mark.new.store c.mark_screens.new.store c.mark_frame.new.store
+      c.self.invariant.numbered c.unmark.ensures c.mark_own.ensures.marked c.mark_own.ensures.rest
 
   composed : Marks c.mark_own.new.self c.mark.new.store (core_names m.core)
   composed = record { marked = c.mark.ensures.marked; rest = c.mark.ensures.rest }
 
   screens : Marks c.mark.new.store c.mark_screens.new.store (display_names (state_of m).display)
   screens =
-      let many : length c.deref.result.now ≡ length (map port_of m.ports.items) = ap length c.deref.ensures.value ∙ sym (length-map m.ports.items port_of) in
+      let many : length c.deref.result.now ≡ length (map port_of m.ports.items) = ap length c.deref.ensures.value
+          ∙ sym (length-map m.ports.items port_of) in
       subst (λ (n : ℕ). Marks c.mark.new.store c.mark_screens.new.store (range_with_len 1 n)) many c.mark_screens.ensures
 
   streams : c.sweep.new.self.streams ≡ kept (state_of m)
   streams =
       ap (λ (v : StoreView). v.streams) c.sweep.ensures
-      ∙ all_marked m c.unmark.new.self c.mark_own.new.self c.mark.new.store c.mark_screens.new.store c.mark_frame.new.store c.self.invariant.numbered c.unmark.ensures own composed screens c.mark_frame.ensures
+      ∙ all_marked m c.unmark.new.self c.mark_own.new.self c.mark.new.store c.mark_screens.new.store c.mark_frame.new.store
+          c.self.invariant.numbered c.unmark.ensures own composed screens c.mark_frame.ensures
 
   rest : record c.mark_frame.new.store { marked = [] } ≡ record m.store { marked = [] }
-  rest = rest_marked m c.unmark.new.self c.mark_own.new.self c.mark.new.store c.mark_screens.new.store c.mark_frame.new.store c.self.invariant.numbered c.unmark.ensures own composed screens c.mark_frame.ensures
+  rest = rest_marked m c.unmark.new.self c.mark_own.new.self c.mark.new.store c.mark_screens.new.store c.mark_frame.new.store
+      c.self.invariant.numbered c.unmark.ensures own composed screens c.mark_frame.ensures
 
   made : c.sweep.new.self.made ≡ m.store.made
   made = ap (λ (v : StoreView). v.made) c.sweep.ensures ∙ ap (λ (v : StoreView). v.made) rest

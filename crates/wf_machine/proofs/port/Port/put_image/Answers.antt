@@ -6,4 +6,5 @@ pub index_mut-requires : goal.index_mut-requires
 index_mut-requires c = omega (arith, as_many 1 c.args.self.now.modes.items c.args.self.now.images.items c.requires.away)
 
 pub returns-clause-there : goal.returns-clause-there
-returns-clause-there c = first_put c.args.self.now.modes.items c.args.self.now.images.items c.args.image c.requires.away c.requires.some c.requires.shape
+returns-clause-there c = first_put c.args.self.now.modes.items c.args.self.now.images.items c.args.image c.requires.away c.requires.some
+    c.requires.shape

@@ -8,7 +8,8 @@ invariant_of-self c =
     let room = rw (← c.self.view_is) at c.requires.room in
     let fresh = rw (← c.self.view_is) at c.requires.fresh in
     record {
-      orderly = rw (c.push_reserved.ensures.items, c.new.ensures) (orderly_added (scene_inside c.self.inside) c.self.invariant.orderly c.args.element room c.requires.handle fresh);
+      orderly = rw (c.push_reserved.ensures.items, c.new.ensures)
+          (orderly_added (scene_inside c.self.inside) c.self.invariant.orderly c.args.element room c.requires.handle fresh);
       room = c.push_reserved.ensures.capacity ∙ c.self.invariant.room;
     }
 

@@ -5,4 +5,5 @@ pub returns-clause-placed : goal.returns-clause-placed
 returns-clause-placed g c =
     let sight = g.L.Look.sight c.args.look.now in
     let inside = c.self.inside in
-    rw (c.in_ok-layers.ensures.layers, c.as_slice.ensures.value, c.deref.ensures.value) (layers_placed sight inside.order.items inside.elements.items c.self.invariant.orderly.placed)
+    rw (c.in_ok-layers.ensures.layers, c.as_slice.ensures.value, c.deref.ensures.value)
+        (layers_placed sight inside.order.items inside.elements.items c.self.invariant.orderly.placed)

@@ -10,7 +10,9 @@ invariant_of-self c =
     let full = rw c.as_slice-2.ensures.value at c.has_no_room.ensures in
     let room : has_no_room c.args.element c.self.inside.order.items ≡ false = sym full ∙ c.if-has_no_room.false in
     record {
-      orderly = rw c.insert.ensures.inserted (orderly_inserted (scene_inside c.self.inside) c.self.invariant.orderly c.args.element c.args.below live room);
+      orderly =
+          rw c.insert.ensures.inserted (orderly_inserted (scene_inside c.self.inside) c.self.invariant.orderly c.args.element c.args.below
+          live room);
       room = c.self.invariant.room;
     }
 

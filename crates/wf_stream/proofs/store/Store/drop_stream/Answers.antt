@@ -27,7 +27,8 @@ invariant_of-self c =
       room = sound.room;
       rising = numbered_without 0 c.self.inside.numbered n streams sound.rising;
       orderly = rising_without c.self.inside.handles.made h live sound.orderly;
-      tied = dropped_tied c.self.inside.numbered c.self.inside.handles.made h n live streams sound.rising sound.orderly sound.tied kept some;
+      tied = dropped_tied c.self.inside.numbered c.self.inside.handles.made h n live streams sound.rising sound.orderly sound.tied kept
+          some;
     })
 
 pub invariant_of-self-else-handle-ne0 : goal.invariant_of-self-else-handle-ne0

@@ -44,6 +44,7 @@ returns c =
     let by_map = buffers_lookup c.args.number p es in
     let shelf : Shelf = record { streams = shelved p es; marked = marks_of es } in
     rw (← c.self.view_is) (
-      λ t. read_of (ghost_name_of c.get_mut.result) (λ (w : Buffers). ap (λ (ss : List KeptStream). record shelf { streams = ss }) (lent_view 0 4294967295 c.args.number c.in-Some.place.now p es w sound.rising sound.kept sound.apart is) t) shelf,
+      λ t. read_of (ghost_name_of c.get_mut.result) (λ (w : Buffers). ap (λ (ss : List KeptStream). record shelf { streams = ss })
+          (lent_view 0 4294967295 c.args.number c.in-Some.place.now p es w sound.rising sound.kept sound.apart is) t) shelf,
       record { writes_back = tt; value = rw (by_map, is) (c.get_mut.ensures.value ∙ value_pooled _ p kept) },
     )

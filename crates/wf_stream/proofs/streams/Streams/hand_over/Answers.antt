@@ -13,7 +13,8 @@ invariant_of-self c =
     let es = c.self.inside.places.entries in
     let sound = c.self.invariant in
     rw c.set_handle.ensures (record {
-      rising = rw (handed_view 0 4294967295 n c.args.handle p es sound.rising) (numbered_handed 0 4294967295 n c.args.handle _ sound.rising);
+      rising = rw (handed_view 0 4294967295 n c.args.handle p es sound.rising)
+          (numbered_handed 0 4294967295 n c.args.handle _ sound.rising);
       kept = placed_kept n f p es (λ o. refl) sound.kept;
       apart = placed_apart n f es (λ o. refl) sound.apart;
       sole = placed_sole n f p es (λ o. refl) sound.sole;
@@ -24,4 +25,5 @@ pub returns : goal.returns
 returns c =
     let n = c.args.number in
     let es = c.self.inside.places.entries in
-    rw (← c.self.view_is, c.set_handle.ensures, handed_view 0 4294967295 n c.args.handle c.self.inside.pool es c.self.invariant.rising, marks_handed n c.args.handle es) refl
+    rw (← c.self.view_is, c.set_handle.ensures, handed_view 0 4294967295 n c.args.handle c.self.inside.pool es c.self.invariant.rising,
+        marks_handed n c.args.handle es) refl

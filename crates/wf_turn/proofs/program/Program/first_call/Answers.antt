@@ -12,7 +12,8 @@ module _ (c : goal.After-one_call) where
   abbrev p : Program
   p = c.args.self.now
 
-  of_verb : (v : Verb) → c.args.verb.now ≡ v → (option_map plain (plain_call (handle p) v) ≡ first_call p v) × (p.canvas ≡ kept_first v p.canvas)
+  of_verb : (v : Verb) → c.args.verb.now ≡ v → (option_map plain (plain_call (handle p) v) ≡ first_call p v)
+      × (p.canvas ≡ kept_first v p.canvas)
   of_verb (verb.Acquire s) is = absurd (c.in_default.not-Acquire s is)
   of_verb verb.Post is = absurd (c.in_default.not-Post is)
   of_verb verb.Discard is = absurd (c.in_default.not-Discard is)
@@ -25,4 +26,5 @@ pub returns-in_default-clause-wanted : goal.returns-in_default-clause-wanted
 returns-in_default-clause-wanted c = c.one_call.ensures ∙ (of_verb c c.args.verb.now refl).0
 
 pub returns-in_default-clause-handed : goal.returns-in_default-clause-handed
-returns-in_default-clause-handed c = ap (λ (canvas : Option Canvas). record c.args.self.now { canvas = canvas }) (of_verb c c.args.verb.now refl).1
+returns-in_default-clause-handed c = ap (λ (canvas : Option Canvas). record c.args.self.now { canvas = canvas })
+    (of_verb c c.args.verb.now refl).1

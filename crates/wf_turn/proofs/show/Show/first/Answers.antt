@@ -1,3 +1,5 @@
+use Rattle.wf_turn.proofs.Works.{cast_painted}
+use Rattle.wf_turn.specs.Playing.{ArePainted}
 use Rattle.std.proofs.Common.{◌≡◌, ◌<◌, ◌∷◌, sym, subst, Some, List, ℕ, map}
 use Rattle.std.specs.Bool.{IsTrue}
 use Rattle.wf_turn.specs.Play.{first_client}
@@ -13,8 +15,10 @@ module _ (c : goal.In-Some) where
 
   known : (c.in-Some.client < 8) × IsTrue (may_turn (show_of c.self.inside).programs c.in-Some.client)
   known =
-      found_may (show_of c.self.inside) c.self.invariant client
-      (sym (subst (λ (ps : List Program). Some client ≡ first_client (map place_of (c.self.inside.clock ∷ ps))) c.deref.ensures.value c.in-Some.ensures.first))
+      found_may (show_of c.self.inside) (cast_painted (show_of c.self.inside)
+          (subst (λ (v : Show). ArePainted v.programs) (sym c.self.view_is) c.requires.painted) c.self.invariant) client
+      (sym (subst (λ (ps : List Program). Some client ≡ first_client (map place_of (c.self.inside.clock ∷ ps))) c.deref.ensures.value
+          c.in-Some.ensures.first))
       (subst (λ (ps : List Program). StandsOwn (c.self.inside.clock ∷ ps) client) c.deref.ensures.value c.in-Some.ensures.own)
 
 pub returns-in-Some-clause-allowed : goal.returns-in-Some-clause-allowed

@@ -1,3 +1,6 @@
+use Rattle.wf_turn.specs.Playing.{all_painted}
+use Rattle.wf_turn.proofs.Works.{cast_still}
+use Rattle.wf_turn.proofs.Openings.{opening_painted}
 use Rattle.std.proofs.Common.{◌≡◌, ◌∙◌, ◌++◌, ◌∷◌, [], ◌+◌, ap, sym, subst, List, ℕ, map, arith}
 use Rattle.std.specs.List.{range_with_len}
 use Rattle.std.proofs.lemmas.List.{map-append}
@@ -28,16 +31,22 @@ module _ (c : goal.After-loop-behind) where
   seven : c.loop-behind.behind ≡ 7
   seven = omega (arith, c.loop-behind-test.false, c.loop-behind.auto.behind-end)
 
-  show_is : record { state = c.in_ok-machine.machine; programs = c.in_ok-clock.clock ∷ c.loop-behind.others.items; frames = [] } ≡ opening_show c.args.script.now
+  show_is : record { state = c.in_ok-machine.machine; programs = c.in_ok-clock.clock ∷ c.loop-behind.others.items; frames = [] }
+      ≡ opening_show c.args.script.now
   show_is =
       let show : State → List Program → Show = λ h ps. record { state = h; programs = ps; frames = [] } in
       let made = program c.args.script.now in
-      ap (λ (h : State). show h (c.in_ok-clock.clock ∷ c.loop-behind.others.items)) (c.in_ok-machine.ensures ∙ ap opening c.ports.ensures.ports)
+      ap (λ (h : State). show h (c.in_ok-clock.clock ∷ c.loop-behind.others.items)) (c.in_ok-machine.ensures
+          ∙ ap opening c.ports.ensures.ports)
       ∙ ap (λ (p : Program). show (opening c.args.script.now.ports) (p ∷ c.loop-behind.others.items)) c.in_ok-clock.ensures
-      ∙ ap (λ (ps : List Program). show (opening c.args.script.now.ports) (made 0 ∷ ps)) (c.loop-behind.invariant.0 ∙ ap (λ (n : ℕ). map made (range_with_len 1 n)) seven)
+      ∙ ap (λ (ps : List Program). show (opening c.args.script.now.ports) (made 0 ∷ ps)) (c.loop-behind.invariant.0
+          ∙ ap (λ (n : ℕ). map made (range_with_len 1 n)) seven)
 
 pub invariant_of-result : goal.invariant_of-result
-invariant_of-result c = subst IsCast (sym (show_is c)) (opening_cast c.args.script.now (subst (λ (ports : Ports). IsTrue (may_declare ports)) c.ports.ensures.ports c.ports.ensures.declared))
+invariant_of-result c = subst (λ (v : Show). IsCast (all_painted v)) (sym (show_is c))
+    (cast_still (opening_show c.args.script.now) (opening_painted c.args.script.now)
+        (opening_cast c.args.script.now (subst (λ (ports : Ports). IsTrue (may_declare ports)) c.ports.ensures.ports
+        c.ports.ensures.declared)))
 
 pub returns : goal.returns
 returns c = show_is c

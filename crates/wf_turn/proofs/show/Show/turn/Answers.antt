@@ -1,56 +1,86 @@
-use Rattle.std.proofs.Common.{◌≡◌, ◌∷◌, ap, sym, subst, List, []}
-use Rattle.std.specs.Bool.{IsTrue}
-use Rattle.wf_turn.specs.Playing.{IsCast, may_turn, show_of}
-use Rattle.wf_turn.specs.Program.{Program}
-use Rattle.wf_turn.specs.Ready.{AreOf}
-use Rattle.wf_turn.specs.Serial.{IsFirst}
+use Rattle.std.proofs.Common.{◌≡◌, ◌∷◌, ◌∙◌, ap, sym, subst, List, [], map}
+use Rattle.std.specs.Option.{IfSome}
+use Rattle.std.specs.List.{slice_get}
+use Rattle.wf_turn.specs.Playing.{ArePainted, IsCast, Turned, all_painted, has_work, show_of, with_paint}
+use Rattle.wf_turn.specs.Program.{Program, worked}
+use Rattle.wf_turn.specs.Ready.{AreOf, IsWork}
 use Rattle.wf_turn.specs.Turns.{Show, handed_on}
-use Rattle.wf_turn.proofs.Shows.{are_after, cast_after, handed_is, ready, turned}
-use Rattle.wf_turn.proofs.Teaching.{all_of_one}
+use Rattle.wf_turn.proofs.Shows.{HasTurn, are_after, cast_after, handed_is, has_turn, of_script, ready, turned, work_after}
+use Rattle.wf_turn.proofs.Works.{all_of_one, worked_client, worked_script}
 use Rattle.wf_turn.proofs.show.Show.turn.Goals as goal
 
-pub take_turn_of-painted-requires-clause-ready : goal.take_turn_of-painted-requires-clause-ready
-take_turn_of-painted-requires-clause-ready c =
-    ready (show_of c.self.inside) c.args.client c.self.invariant (subst (λ (v : Show). IsFirst v.programs c.args.client) (sym c.self.view_is) c.requires.first) c.requires.within
+pub take_turn_of-turn-requires-clause-ready : goal.take_turn_of-turn-requires-clause-ready
+take_turn_of-turn-requires-clause-ready c =
+    let has = has_turn (show_of c.self.inside) c.args.self.now c.args.client c.self.view_is c.self.invariant c.requires.painted
+        c.requires.first c.requires.allowed c.requires.within in
+    ready (show_of c.self.inside) c.args.client has.cast has.first has.within
 
 module _ (c : goal.After-hand_on-arg-2-1) where
-  are : AreOf c.self.invariant.script 0 (c.take_turn_of-painted.new.clock ∷ c.take_turn_of-painted.new.others.items)
-  are =
-      are_after (show_of c.self.inside) c.args.client c.take_turn_of-painted.new.machine (c.take_turn_of-painted.new.clock ∷ c.take_turn_of-painted.new.others.items) c.take_turn_of-painted.result.0 c.take_turn_of-painted.result.1 c.self.invariant
-      (subst (λ (v : Show). IsFirst v.programs c.args.client) (sym c.self.view_is) c.requires.first) c.requires.within c.take_turn_of-painted.ensures
+  abbrev clock : Program
+  clock = c.take_turn_of-turn.new.clock
+
+  abbrev others : List Program
+  others = c.take_turn_of-turn.new.others.items
+
+  had : HasTurn (show_of c.self.inside) c.args.client
+  had = has_turn (show_of c.self.inside) c.args.self.now c.args.client c.self.view_is c.self.invariant c.requires.painted c.requires.first
+      c.requires.allowed c.requires.within
+
+  of_one : AreOf had.cast.script 0 (map worked (clock ∷ others))
+  of_one = of_script (show_of c.self.inside) c.args.client c.take_turn_of-turn.new.machine (clock ∷ others) c.take_turn_of-turn.result had
+      c.take_turn_of-turn.ensures
 
 pub hand_on-requires-clause-script : goal.hand_on-requires-clause-script
-hand_on-requires-clause-script c = all_of_one c.self.invariant.script c.take_turn_of-painted.new.clock.script 1 c.take_turn_of-painted.new.others.items (are c).0 (are c).3
+hand_on-requires-clause-script c =
+    all_of_one (had c).cast.script c.take_turn_of-turn.new.clock.script 1 c.take_turn_of-turn.new.others.items
+        (sym (worked_script c.take_turn_of-turn.new.clock) ∙ (of_one c).0) (of_one c).3
 
 pub hand_on-requires-clause-clock : goal.hand_on-requires-clause-clock
-hand_on-requires-clause-clock c = (are c).1
+hand_on-requires-clause-clock c = sym (worked_client c.take_turn_of-turn.new.clock) ∙ (of_one c).1
 
 module _ (c : goal.After-hand_on) where
   abbrev s : Show
   s = show_of c.self.inside
 
   abbrev placed : List Program
-  placed = c.take_turn_of-painted.new.clock ∷ c.take_turn_of-painted.new.others.items
+  placed = c.take_turn_of-turn.new.clock ∷ c.take_turn_of-turn.new.others.items
 
-  abbrev now : Show
-  now = record { state = c.take_turn_of-painted.new.machine; programs = c.take_turn_of-painted.new.clock ∷ c.hand_on.new.others.items; frames = [] }
+  abbrev with_programs : List Program → Show
+  with_programs ps = record { state = c.take_turn_of-turn.new.machine; programs = ps; frames = [] }
 
-  now_is : now ≡ record { state = c.take_turn_of-painted.new.machine; programs = handed_on s.programs placed; frames = [] }
+  now_is : with_programs (c.take_turn_of-turn.new.clock ∷ c.hand_on.new.others.items) ≡ with_programs (handed_on s.programs placed)
   now_is =
-      let show : List Program → Show = λ ps. record { state = c.take_turn_of-painted.new.machine; programs = ps; frames = [] } in
-      ap show
-      (handed_is c.self.inside.clock c.take_turn_of-painted.new.clock c.self.inside.others.items c.take_turn_of-painted.new.others.items c.in_setup-was_setup.result c.hand_on.new.others.items c.in_setup-was_setup.ensures c.hand_on.ensures)
+      ap with_programs
+      (handed_is c.self.inside.clock c.take_turn_of-turn.new.clock c.self.inside.others.items c.take_turn_of-turn.new.others.items
+          c.in_setup-was_setup.result c.hand_on.new.others.items c.in_setup-was_setup.ensures c.hand_on.ensures)
 
-  first : IsFirst s.programs c.args.client
-  first = subst (λ (v : Show). IsFirst v.programs c.args.client) (sym c.self.view_is) c.requires.first
+  has : HasTurn s c.args.client
+  has = has_turn s c.args.self.now c.args.client c.self.view_is c.self.invariant c.requires.painted c.requires.first c.requires.allowed
+      c.requires.within
 
 pub invariant_of-self : goal.invariant_of-self
 invariant_of-self c =
-    subst IsCast (sym (now_is c))
-    (cast_after (s c) c.args.client c.take_turn_of-painted.new.machine (placed c) c.take_turn_of-painted.result.0 c.take_turn_of-painted.result.1 c.self.invariant (first c) (subst (λ (v : Show). IsTrue (may_turn v.programs c.args.client)) (sym c.self.view_is) c.requires.allowed) c.requires.within
-    c.take_turn_of-painted.ensures)
+    subst (λ (v : Show). IsCast (all_painted v)) (sym (now_is c))
+    (cast_after (s c) c.args.client c.take_turn_of-turn.new.machine (placed c) c.take_turn_of-turn.result (has c)
+        c.take_turn_of-turn.ensures)
 
-pub returns : goal.returns
-returns c =
-    turned (s c) c.args.client c.take_turn_of-painted.new.machine (placed c) c.take_turn_of-painted.result.0 c.take_turn_of-painted.result.1 c.self.invariant (first c) (subst (λ (v : Show). IsTrue (may_turn v.programs c.args.client)) (sym c.self.view_is) c.requires.allowed) c.requires.within
-    c.take_turn_of-painted.ensures c.args.self.now c.self.view_is (now c) (now_is c)
+pub returns-clause-turned : goal.returns-clause-turned
+returns-clause-turned c =
+    let client = c.args.client in
+    let At : Show → Show → Type 0 = λ seen v. Turned seen client (record v { programs = with_paint client v.programs })
+        c.take_turn_of-turn.result (has_work client v.programs) in
+    subst (λ (v : Show). At v (with_programs c (c.take_turn_of-turn.new.clock ∷ c.hand_on.new.others.items))) c.self.view_is
+    (subst (At (s c)) (sym (now_is c)) (turned (s c) client c.take_turn_of-turn.new.machine (placed c) c.take_turn_of-turn.result (has c)
+        c.take_turn_of-turn.ensures))
+
+pub returns-clause-painted : goal.returns-clause-painted
+returns-clause-painted c =
+    subst (λ (v : Show). ArePainted (with_paint c.args.client v.programs)) (sym (now_is c))
+    (are_after (s c) c.args.client c.take_turn_of-turn.new.machine (placed c) c.take_turn_of-turn.result (has c)
+        c.take_turn_of-turn.ensures)
+
+pub returns-clause-work : goal.returns-clause-work
+returns-clause-work c =
+    subst (λ (v : Show). IfSome (slice_get v.programs c.args.client) IsWork) (sym (now_is c))
+    (work_after (s c) c.args.client c.take_turn_of-turn.new.machine (placed c) c.take_turn_of-turn.result (has c)
+        c.take_turn_of-turn.ensures)

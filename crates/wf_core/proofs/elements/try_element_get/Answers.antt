@@ -1,0 +1,18 @@
+use Rattle.std.proofs.Math.Facts.{to_z-of_z}
+use Rattle.wf_words.specs.Places.{within}
+use Rattle.wf_scene.specs.Cached as cached
+use Rattle.wf_objects.specs.Does.{in_owner, reads, scene_read}
+use Rattle.wf_core.proofs.elements.try_element_get.Goals as goal
+
+pub returns : goal.returns
+returns c =
+    let a = c.args in
+    let core = a.objects.now in
+    let store = a.store.now in
+    let place = c.in_ok-place.place in
+    let x = within core.contexts place c.in_ok-place.ensures.within in
+    let call = cached.get a.element a.attr a.index in
+    let told = rw (rw (to_z-of_z c.ranges.index) at c.get.ensures) at c.by_scene.ensures in
+    in_owner place (scene_read call) core core store store c.by_scene.result
+        (reads place core store call c.cached.result.now c.by_scene.result c.requires x.0 x.1 (rw x.1 at c.cached.ensures) told)
+        a.device a.element c.in_ok-place.ensures.found

@@ -1,0 +1,15 @@
+-- The stream of a screen.
+use Rattle.std.specs.Prelude.{ℕ, List, Option, Result}
+use Rattle.wf_words.specs.Refusals.{◌>>=◌}
+use Rattle.wf_stream.specs.Streams.{KeptStream, stream_at}
+use Rattle.wf_scene.specs.declared.look.Seen.{Seen}
+use Rattle.wf_calls.specs.declared.code.Code.TheVariants as code
+use Rattle.wf_calls.specs.declared.reply.Refusal.{Refusal}
+use Rattle.wf_model.specs.Outcome.{found}
+use Rattle.wf_model.specs.Composition.{seen_stream}
+
+-- what the stream of a screen shows, or the refusal of a port that was not declared
+abbrev pub screen_seen : Option ℕ → List KeptStream → Result Seen Refusal
+screen_seen screen streams = do
+  number ← found code.IllegalArgument screen
+  found code.IllegalArgument (seen_stream (stream_at number streams))

@@ -1,0 +1,14 @@
+//! Laws of the machine's step.
+
+ghost use Rattle.std.specs.Prelude.{◌≡◌, ℕ, Bool, Some, IsFalse};
+ghost use Rattle.wf_calls.specs.declared.call.Call.{Call};
+ghost use Rattle.wf_machine.specs.LeftAlone.{IsLeftAlone, ends_frame};
+ghost use Rattle.wf_model.specs.State.{Running, State};
+ghost use Rattle.wf_model.specs.Step.{step};
+
+/// While a frame runs, every call but an end, of whatever client, leaves that frame running, and leaves the read buffer of
+/// each stream that the frame names as it is: the images that the frame took stay away.
+pub fn frames_are_left_alone()
+    ensures { (h : State) (client : ℕ) (c : Call) (memory_refused : Bool) (f : Running) → IsFalse (ends_frame c)
+        → h.frame ≡ Some f → IsLeftAlone f h (step h client c memory_refused).0 }
+{}

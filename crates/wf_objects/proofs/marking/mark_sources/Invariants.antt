@@ -1,0 +1,7 @@
+use Rattle.std.proofs.Common.{map, take}
+use Rattle.wf_objects.specs.Marks.{Marks}
+use Rattle.wf_objects.proofs.marking.mark_sources.Given as goal
+
+-- what was passed is marked
+abbrev pub invariant-loop-source : goal.invariant-loop-source
+invariant-loop-source l = Marks (map (λ s. s.stream) (take l.source-index l.sources)) l.initial.store l.store

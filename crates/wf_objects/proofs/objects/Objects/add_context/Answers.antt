@@ -1,0 +1,39 @@
+use Rattle.std.proofs.Common.{◌≡◌, ◌++◌, ◌∷◌, [], ◌+◌, ◌==◌, not, false, length, subst, sym, ap, refl, arith, Ok}
+use Rattle.std.specs.Prelude.{nat_le}
+use Rattle.std.proofs.lemmas.Bool.{lt-leb}
+use Rattle.wf_life.specs.declared.Kind.TheVariants as kind
+use Rattle.wf_stream.specs.Streams.{with_other}
+use Rattle.wf_scene.specs.Cached.{empty}
+use Rattle.wf_model.specs.declared.Context.{Context}
+use Rattle.wf_model.specs.Objects.{CoreState}
+use Rattle.wf_model.specs.Core.{blank_scene}
+use Rattle.wf_objects.specs.Does.{Does, context_made}
+use Rattle.wf_objects.specs.Fits.{ContextFits}
+use Rattle.wf_objects.proofs.Makings.{context_fits, creates}
+use Rattle.wf_objects.proofs.objects.Objects.add_context.Goals as goal
+
+pub returns : goal.returns
+returns c =
+    let a = c.args in
+    let core = a.self.now in
+    let store = a.store.now in
+    let new : Context =
+        record {
+          handle = store.made + 1;
+          device = a.device;
+          port = a.port;
+          target = a.target.stream;
+          active = false;
+          cached = empty a.target.size (not (a.port == 0));
+          committed = blank_scene a.target.size;
+        } in
+    let grown : CoreState → CoreState = λ k. record k { contexts = k.contexts ++ new ∷ [] } in
+    let below : nat_le 16 (length core.contexts) ≡ false = lt-leb 16 (length core.contexts)
+        (omega (arith, c.if-len-ge-MOST_CONTEXTS.false, c.len.ensures, ap (λ (k : CoreState). length k.contexts) c.self.view_is)) in
+    let fit : ContextFits store.streams new = record { target = c.requires.kept; size = refl; layers = tt } in
+    rw (c.in_ok-handle.ensures.made, c.push_reserved.ensures.items, c.in_ok-handle.ensures.handle, c.in-Ok.ensures, c.blank_scene.ensures)
+        (subst (λ (k : CoreState). Does (context_made a.device a.port a.target) core (grown k) store (with_other kind.Context a.device store)
+            (Ok (store.made + 1))) (sym c.self.view_is)
+        (creates core store c.requires.fits (context_made a.device a.port a.target) (nat_le 16 (length core.contexts)) (grown core)
+        (λ m. refl) kind.Context a.device refl refl below c.in_ok-handle.ensures.stopped
+        (context_fits core store c.requires.fits new refl refl fit)))

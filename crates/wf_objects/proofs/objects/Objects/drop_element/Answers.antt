@@ -1,0 +1,54 @@
+use Rattle.std.proofs.Common.{◌≡◌, ◌∙◌, refl, sym, slice_get, Some, true}
+use Rattle.wf_life.specs.declared.Kind.TheVariants as kind
+use Rattle.wf_scene.specs.Cached.{forget, has_element}
+use Rattle.wf_model.specs.Composition.{with_cached}
+use Rattle.wf_objects.proofs.Dropped.{InContext, element_dropped, element_under, lives, loses}
+use Rattle.wf_objects.proofs.Owners.{standing}
+use Rattle.wf_words.specs.Places.{within}
+use Rattle.wf_objects.proofs.Scenes.{placed_is}
+use Rattle.wf_objects.proofs.objects.Objects.drop_element.Goals as goal
+use Rattle.wf_objects.proofs.objects.Objects.drop_element.Goals.{After-index_mut}
+
+pub drop_handle-requires : goal.drop_handle-requires
+drop_handle-requires c =
+    let a = c.args in
+    let x = within a.self.now.contexts a.place c.requires.within in
+    let has = rw x.1 at c.requires.lives in
+    lives a.element kind.Element a.store.now.others (element_under a.self.now a.store.now c.requires.fits a.element a.place x.0 x.1 has).0
+
+-- the context at the place
+at : (c : After-index_mut) → slice_get c.args.self.now.contexts c.args.place ≡ Some c.index_mut.result.now
+at c = standing _ c.args.self.now c.args.place c.index_mut.result.now c.self.view_is c.requires.within c.index_mut.ensures.value
+
+-- the element lives in it
+here : (c : After-index_mut) → has_element c.args.element c.index_mut.result.now.cached ≡ true
+here c = let there = at c in rw there at c.requires.lives
+
+under : (c : After-index_mut)
+    → InContext c.args.self.now c.args.store.now c.requires.fits c.args.element c.args.place c.index_mut.result.now (at c)
+under c = element_under c.args.self.now c.args.store.now c.requires.fits c.args.element c.args.place c.index_mut.result.now (at c) (here c)
+
+pub forget-requires : goal.forget-requires
+forget-requires c = here (goal.at.forget-requires c).After-index_mut
+
+pub returns-clause-dropped : goal.returns-clause-dropped
+returns-clause-dropped c =
+    let a = c.args in
+    let x = c.index_mut.result.now in
+    let there = at (goal.at.returns-clause-dropped c).After-index_mut in
+    rw (there, c.forget.ensures.forgotten) (rw (← c.self.view_is) refl
+        ∙ sym (placed_is a.self.now a.store.now c.requires.fits a.place x there (with_cached (forget a.element x.cached))))
+
+pub returns-clause-loses : goal.returns-clause-loses
+returns-clause-loses c =
+    let a = c.args in
+    let u = under (goal.at.returns-clause-loses c).After-index_mut in
+    rw c.drop_handle.ensures (loses a.self.now a.store.now c.requires.fits.handles a.element kind.Element u.0 refl refl)
+
+pub returns-clause-fits : goal.returns-clause-fits
+returns-clause-fits c =
+    let a = c.args in
+    let k = (goal.at.returns-clause-fits c).After-index_mut in
+    rw (c.drop_handle.ensures, c.forget.ensures.forgotten)
+    (rw (← c.self.view_is) at (element_dropped a.self.now a.store.now c.requires.fits a.element a.place c.index_mut.result.now (at k)
+        (under k)))

@@ -1,0 +1,11 @@
+-- What the operations on the tables of objects see, leave and answer, when objects and store fit, and how the tables are kept.
+pub mod Sides
+pub mod Links
+pub mod Fits
+pub mod Owners
+pub mod Sights
+pub mod Shows
+pub mod Marks
+pub mod Losses
+pub mod Does
+pub mod Inside

@@ -1,0 +1,114 @@
+//! Contexts that are destroyed with all that is theirs, one object after another.
+
+ghost use Rattle.std.specs.Prelude.{◌≡◌, ◌<◌, ◌==◌, [], not, filter, find, length, option_map, position, slice_get, IfSome, IsTrue};
+ghost use Rattle.std.specs.List.{list_any};
+ghost use Rattle.std.specs.Vec.{vec_capacity};
+ghost use Rattle.wf_model.specs.Core.{without_context, without_those_of};
+ghost use Rattle.wf_objects.specs.Fits.{Fits, elements_of};
+ghost use Rattle.wf_objects.specs.Links.{links, with_links};
+ghost use Rattle.wf_objects.specs.Losses.{Loses, but_context, but_contexts_of};
+ghost use Rattle.wf_objects.specs.Owners.{StandsAt};
+
+use crate::objects::Objects;
+use crate::dropping::drop_handle;
+use wf_model::{Context, Source};
+use wf_stream::Store;
+
+/// The handle of the first link of a context.
+fn first_of(links: &[Source], context: u32) -> Option<u32>
+    ensures { result ≡ option_map (λ s. s.handle) (find (λ s. s.context == context) links.now) }
+{
+    for link in links {
+        if link.context == context {
+            return Some(link.handle);
+        }
+    }
+    None
+}
+
+/// The place of the first context of a device.
+fn first_context(contexts: &[Context], device: u32) -> Option<usize>
+    ensures place { result ≡ position (λ c. c.device == device) contexts.now }
+    ensures within { IfSome result (λ place. place < length contexts.now) }
+{
+    contexts.iter().position(|context| context.device == device)
+}
+
+/// Leaves out the context of a handle.
+fn leave_out_context(contexts: &mut Vec<Context>, handle: u32)
+    ensures left { contexts.new.items ≡ filter (λ c. not (c.handle == handle)) contexts.old.items }
+    ensures capacity { vec_capacity contexts.new ≡ vec_capacity contexts.old }
+{
+    contexts.retain(|context| context.handle != handle);
+}
+
+impl Objects {
+    /// Takes out all sources, or all masks, of a context, and their handles.
+    fn drop_links(&mut self, store: &mut Store, mask: bool, context: u32)
+        requires { Fits self.old store.old }
+        ensures dropped { self.new ≡ with_links mask (without_those_of context (links mask self.old)) self.old }
+        ensures loses { Loses store.old store.new }
+        ensures fits { Fits self.new store.new }
+    {
+        while let Some(link) = first_of(self.links(mask), context) {
+            self.drop_link(store, mask, link);
+        }
+    }
+
+    /// Takes out all elements of the context at a place, and their handles.
+    fn drop_elements(&mut self, store: &mut Store, place: usize, context: u32)
+        requires fits { Fits self.old store.old }
+        requires within { place < length self.old.contexts }
+        requires here { StandsAt context place self.old }
+        ensures rest { but_context context self.new ≡ but_context context self.old }
+        ensures live { IsTrue (list_any (λ c. c.handle == context) self.new.contexts) }
+        ensures bare { elements_of context store.new.others ≡ [] }
+        ensures loses { Loses store.old store.new }
+        ensures fits { Fits self.new store.new }
+    {
+        while let Some(element) = self.contexts[place].cached.first() {
+            self.drop_element(store, place, element);
+        }
+    }
+
+    /// Takes out a context that has no elements, and its handle.
+    fn drop_bare_context(&mut self, store: &mut Store, context: u32)
+        requires fits { Fits self.old store.old }
+        requires live { IsTrue (list_any (λ c. c.handle == context) self.old.contexts) }
+        requires bare { elements_of context store.old.others ≡ [] }
+        ensures dropped { self.new ≡ but_context context self.old }
+        ensures loses { Loses store.old store.new }
+        ensures fits { Fits self.new store.new }
+    {
+        drop_handle(store, context);
+        leave_out_context(&mut self.contexts, context);
+    }
+
+    /// Takes out the context at a place with all that is its, and their handles.
+    pub fn drop_context(&mut self, store: &mut Store, place: usize, context: u32)
+        requires fits { Fits self.old store.old }
+        requires within { place < length self.old.contexts }
+        requires here { StandsAt context place self.old }
+        ensures dropped { self.new ≡ without_context context self.old }
+        ensures loses { Loses store.old store.new }
+        ensures fits { Fits self.new store.new }
+    {
+        self.drop_links(store, false, context);
+        self.drop_links(store, true, context);
+        self.drop_elements(store, place, context);
+        self.drop_bare_context(store, context);
+    }
+
+    /// Takes out all contexts of a device with all that is theirs, and their handles.
+    pub(crate) fn drop_contexts(&mut self, store: &mut Store, device: u32)
+        requires { Fits self.old store.old }
+        ensures dropped { self.new ≡ but_contexts_of device self.old }
+        ensures loses { Loses store.old store.new }
+        ensures fits { Fits self.new store.new }
+    {
+        while let Some(place) = first_context(&self.contexts, device) {
+            let context = self.contexts[place].handle;
+            self.drop_context(store, place, context);
+        }
+    }
+}

@@ -1,0 +1,168 @@
+//! New objects, each under the handle that comes next.
+
+ghost use Rattle.std.specs.Prelude.{◌≡◌, ◌+◌, ◌<◌, ◌++◌, ◌∷◌, [], false, length, IfOk, IsSomeAnd, IsTrue, OnOk, OnErr};
+ghost use Rattle.wf_pixel.specs.Choice.{is_a8};
+ghost use Rattle.wf_stream.specs.Streams.{buffers_at, is_stream, with_other};
+ghost use Rattle.wf_model.specs.Core.{blank_scene, device_new, sources_full};
+ghost use Rattle.wf_objects.specs.Does.{Does, context_made, element_made, in_place, link_made};
+ghost use Rattle.wf_objects.specs.Fits.{Fits};
+ghost use Rattle.wf_objects.specs.Links.{link_kind, links, with_links};
+ghost use Rattle.wf_objects.specs.Sides.{lacks_memory, refused_handle, side_of, without_value};
+
+use crate::objects::{MOST_CONTEXTS, MOST_DEVICES, MOST_ELEMENTS, MOST_SOURCES, Objects};
+use arrayvec::ArrayVec;
+use wf_calls::{Code, Refusal};
+use wf_model::{Context, Device, Source};
+use wf_pixel::{Rgba, Rotation, Size};
+use wf_scene::{Cached, Scene, Seen};
+use wf_stream::{Kind, MakeStop, Store};
+
+/// The handle of a new object, under which the store keeps this key.
+fn mint(store: &mut Store, kind: Kind, key: u32) -> Result<u32, Refusal>
+    requires { is_stream kind ≡ false }
+    ensures handle { IfOk result (λ handle. handle ≡ store.old.made + 1) }
+    ensures made { OnOk result (store.new ≡ with_other kind key store.old) }
+    ensures stopped { without_value result ≡ refused_handle store.old.made (lacks_memory result) }
+    ensures refused { OnErr result (store.new ≡ store.old) }
+{
+    match store.mint(kind, key) {
+        Ok(handle) => Ok(handle),
+        Err(MakeStop::Limit) => Err(Refusal::of(Code::Limit)),
+        Err(MakeStop::NoMemory) => Err(Refusal::of(Code::OutOfMemory)),
+    }
+}
+
+/// The kind of a source, or of a mask.
+fn link_kind(mask: bool) -> Kind
+    ensures { result ≡ link_kind mask }
+{
+    if mask { Kind::Mask } else { Kind::Source }
+}
+
+/// Nothing but an opaque black background.
+fn blank_scene(size: Size) -> Scene
+    ensures { result ≡ blank_scene size }
+{
+    Scene {
+        size,
+        turn: Rotation::R0,
+        background: Rgba {
+            r: 0,
+            g: 0,
+            b: 0,
+            a: 255,
+        },
+        layers: ArrayVec::new(),
+    }
+}
+
+impl Objects {
+    /// As many sources and masks live as may, those of the display included.
+    fn sources_full(&self, store: &Store) -> bool
+        ensures { result ≡ sources_full (side_of self.now store.now) }
+    {
+        let here = self.sources.len() + self.masks.len();
+        let there = store.live(Kind::DisplaySource) as usize;
+        here >= MOST_SOURCES || here + there >= MOST_SOURCES
+    }
+
+    /// One more source, or one more mask.
+    fn push_link(&mut self, mask: bool, link: Source)
+        requires { length self.old.sources + length self.old.masks < 256 }
+        ensures { self.new ≡ with_links mask (links mask self.old ++ link ∷ []) self.old }
+    {
+        if mask {
+            self.masks.push_reserved(link);
+        } else {
+            self.sources.push_reserved(link);
+        }
+    }
+
+    /// Makes a device, whose handle it answers. Limit is a ninth device, or that all handles were given.
+    pub fn add_device(&mut self, store: &mut Store) -> Result<u32, Refusal>
+        requires { Fits self.old store.old }
+        ensures { Does device_new self.old self.new store.old store.new result }
+    {
+        if self.devices.len() >= MOST_DEVICES {
+            return Err(Refusal::of(Code::Limit));
+        }
+        let handle = mint(store, Kind::Device, 0)?;
+        self.devices.push_reserved(Device {
+            handle,
+            register: None,
+        });
+        Ok(handle)
+    }
+
+    /// Makes an inactive context of a device and of a port, or of none by 0, and answers its handle. Its target is kept and
+    /// a stream of pixels. Limit is a 17th context, or that all handles were given.
+    pub fn add_context(
+        &mut self,
+        store: &mut Store,
+        device: u32,
+        port: u32,
+        target: Seen,
+    ) -> Result<u32, Refusal>
+        requires fits { Fits self.old store.old }
+        requires kept { IsSomeAnd (buffers_at target.stream store.old.streams) (λ b. (b.size ≡ target.size) × (is_a8 b.format ≡ false)) }
+        ensures { Does (context_made device port target) self.old self.new store.old store.new result }
+    {
+        if self.contexts.len() >= MOST_CONTEXTS || store.full() {
+            return Err(Refusal::of(Code::Limit));
+        }
+        let Ok(cached) = Cached::new(self.alloc, target.size, port != 0) else {
+            return Err(Refusal::of(Code::OutOfMemory));
+        };
+        let handle = mint(store, Kind::Context, device)?;
+        self.contexts.push_reserved(Context {
+            handle,
+            device,
+            port,
+            target: target.stream,
+            active: false,
+            cached,
+            committed: blank_scene(target.size),
+        });
+        Ok(handle)
+    }
+
+    /// Makes a source or a mask of a context, whose stream is kept and one of pixels or of alphas, and answers its handle.
+    /// Limit is a 257th source or mask, or that all handles were given.
+    pub fn add_link(
+        &mut self,
+        store: &mut Store,
+        mask: bool,
+        context: u32,
+        stream: u32,
+    ) -> Result<u32, Refusal>
+        requires fits { Fits self.old store.old }
+        requires kept { IsSomeAnd (buffers_at stream store.old.streams) (λ b. is_a8 b.format ≡ mask) }
+        ensures { Does (link_made mask context stream) self.old self.new store.old store.new result }
+    {
+        if self.sources_full(store) {
+            return Err(Refusal::of(Code::Limit));
+        }
+        let handle = mint(store, link_kind(mask), stream)?;
+        self.push_link(mask, Source {
+            handle,
+            context,
+            stream,
+        });
+        Ok(handle)
+    }
+
+    /// Makes an element of the context at a place, and answers its handle. Limit is a 65th element of the context, or that
+    /// all handles were given.
+    pub fn add_element(&mut self, store: &mut Store, place: usize) -> Result<u32, Refusal>
+        requires fits { Fits self.old store.old }
+        requires within { place < length self.old.contexts }
+        ensures { Does (in_place place element_made) self.old self.new store.old store.new result }
+    {
+        if self.contexts[place].cached.count() >= MOST_ELEMENTS {
+            return Err(Refusal::of(Code::Limit));
+        }
+        let handle = mint(store, Kind::Element, self.contexts[place].handle)?;
+        self.contexts[place].cached.add(handle);
+        Ok(handle)
+    }
+}

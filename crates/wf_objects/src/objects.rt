@@ -1,0 +1,67 @@
+//! The tables.
+
+ghost use Rattle.std.specs.Prelude.{◌≡◌, IfOk};
+ghost use Rattle.wf_model.specs.Objects.{no_objects};
+ghost use Rattle.wf_objects.specs.Links.{links};
+
+use std::alloc::Global;
+use std::marker::Model;
+use wf_model::{Context, Device, Source};
+use wf_words::NoMemory;
+
+/// How many devices live at most.
+pub(crate) const MOST_DEVICES: usize = 8;
+
+/// How many contexts live at most.
+pub(crate) const MOST_CONTEXTS: usize = 16;
+
+/// How many sources and masks live at most, those of the display included.
+pub(crate) const MOST_SOURCES: usize = 256;
+
+/// How many elements live in a context at most.
+pub(crate) const MOST_ELEMENTS: u32 = 64;
+
+/// The objects of composition: devices, contexts, sources and masks, each by rising handle. A context has its elements in
+/// its cached scene. All room is taken when they are made.
+#[derive(Drop)]
+pub struct Objects {
+    pub(crate) alloc: Global,
+    pub(crate) devices: Vec<Device>,
+    pub(crate) contexts: Vec<Context>,
+    pub(crate) sources: Vec<Source>,
+    pub(crate) masks: Vec<Source>,
+}
+
+impl Model for Objects {
+    ghost use Rattle.wf_model.specs.Objects.{CoreState};
+
+    ghost Value = { CoreState };
+
+    ghost use Rattle.wf_objects.specs.Inside.{tables_of, IsRoomy};
+
+    ghost view = { tables_of };
+
+    ghost invariant = { IsRoomy };
+}
+
+impl Objects {
+    /// No objects, with the room for all that may live.
+    pub fn new(alloc: Global) -> Result<Objects, NoMemory>
+        ensures { IfOk result (λ made. made ≡ no_objects) }
+    {
+        Ok(Objects {
+            alloc,
+            devices: Vec::with_capacity(alloc, MOST_DEVICES)?,
+            contexts: Vec::with_capacity(alloc, MOST_CONTEXTS)?,
+            sources: Vec::with_capacity(alloc, MOST_SOURCES)?,
+            masks: Vec::with_capacity(alloc, MOST_SOURCES)?,
+        })
+    }
+
+    /// The sources, or the masks.
+    pub(crate) fn links(&self, mask: bool) -> &[Source]
+        ensures { result.now ≡ links mask self.now }
+    {
+        if mask { &self.masks } else { &self.sources }
+    }
+}
