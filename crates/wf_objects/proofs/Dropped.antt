@@ -1,6 +1,36 @@
 -- An object that leaves with its handle: what is left fits.
-use Rattle.std.proofs.Common.{◌≡◌, ◌≢◌, ℕ, Bool, true, false, not, ◌==◌, ◌&&◌, ◌||◌, List, map, filter, find, set, slice_get, option_map,
-    Option, Some, None, is_some, refl, sym, ap, subst, ◌∙◌, [], ◌∷◌, cond, arith}
+use Rattle.std.proofs.Common.{
+  ◌≡◌,
+  ◌≢◌,
+  ℕ,
+  Bool,
+  true,
+  false,
+  not,
+  ◌==◌,
+  ◌&&◌,
+  ◌||◌,
+  List,
+  map,
+  filter,
+  find,
+  set,
+  slice_get,
+  option_map,
+  Option,
+  Some,
+  None,
+  is_some,
+  refl,
+  sym,
+  ap,
+  subst,
+  ◌∙◌,
+  [],
+  ◌∷◌,
+  cond,
+  arith,
+}
 use Rattle.std.specs.List.{list_any, list_all, AllByRecursion}
 use Rattle.std.proofs.lemmas.Bool.{and_parts, eqb-true, ne_eqb, and_from}
 use Rattle.wf_words.specs.Keyed.{is_in}
@@ -15,8 +45,19 @@ use Rattle.wf_model.specs.declared.Source.{Source}
 use Rattle.wf_model.specs.Objects.{CoreState}
 use Rattle.wf_model.specs.declared.Device.{Device}
 use Rattle.wf_model.specs.Core.{without_source}
-use Rattle.wf_objects.specs.Fits.{ContextFits, Fits, HandlesFit, HasElements, Shows, context_live, element_live, has_owner, of_kind,
-    device_live, elements_of}
+use Rattle.wf_objects.specs.Fits.{
+  ContextFits,
+  Fits,
+  HandlesFit,
+  HasElements,
+  Shows,
+  context_live,
+  element_live,
+  has_owner,
+  of_kind,
+  device_live,
+  elements_of,
+}
 use Rattle.wf_objects.specs.Links.{link_kind, link_live, links, with_links}
 use Rattle.wf_objects.proofs.Fitting.{Housed, KindChanged, contexts_fit, devices_fit, links_fit, links_live, links_show}
 use Rattle.wf_objects.specs.Losses.{Loses, but_context}
@@ -60,9 +101,9 @@ abbrev pub under : (h : ℕ) (k : Kind) (made : ℕ) (others : List Live) (l : L
     → find (λ x. (x.handle == h) && same_kind x.kind k) others ≡ Some l → IsUnder h k others
 under h k made others l rising found =
     let parts = and_parts (l.handle == h) (same_kind l.kind k)
-        (passes (λ (x : Live). (x.handle == h) && same_kind x.kind k) others l found) in
+    (passes (λ (x : Live). (x.handle == h) && same_kind x.kind k) others l found) in
     let there = found_above (λ (x : Live). x.handle) (λ (x : Live). (x.handle == h) && same_kind x.kind k) 0 others l
-        (rises_live 0 made others rising) found in
+    (rises_live 0 made others rising) found in
     record {
       object = l;
       found = ap (λ n. find (λ (x : Live). x.handle == n) others) (sym (eqb-true l.handle h parts.0)) ∙ there.1;
@@ -77,7 +118,7 @@ object_under k g h made xs others rising is any = of_found (find (λ x. (x.handl
     some : is_some (find (λ x. (x.handle == h) && same_kind x.kind k) others) ≡ true
     some =
         ap is_some (find_filtered (λ (l : Live). l.handle == h) (λ (l : Live). same_kind l.kind k) others
-            ∙ ap (find (λ (l : Live). l.handle == h)) is)
+        ∙ ap (find (λ (l : Live). l.handle == h)) is)
         ∙ sym (any_found (λ (l : Live). l.handle == h) (map g xs)) ∙ any_mapped (λ (l : Live). l.handle == h) g xs ∙ any
 
     of_found : (o : Option Live) → find (λ x. (x.handle == h) && same_kind x.kind k) others ≡ o → is_some o ≡ true → IsUnder h k others
@@ -109,8 +150,8 @@ module _ (core : CoreState) (store : StoreView) (fits : HandlesFit core store) (
   elements_stay other =
       each_other (HasElements store.others) (HasElements (without h store.others))
       (λ c has. stays (λ (l : Live). same_kind l.kind kind.Element && (l.key == c.handle))
-          (λ l is. ap (λ (i : Kind). same_kind i kind.Element && (l.key == c.handle)) is ∙ ap (λ b. b && (l.key == c.handle)) other) ∙ has)
-          core.contexts fits.elements
+      (λ l is. ap (λ (i : Kind). same_kind i kind.Element && (l.key == c.handle)) is ∙ ap (λ b. b && (l.key == c.handle)) other) ∙ has)
+      core.contexts fits.elements
 
   owned_stay : list_all (has_owner core.contexts) (without h store.others) ≡ true
   owned_stay = all_filtered (has_owner core.contexts) (λ (l : Live). not (l.handle == h)) store.others fits.owned
@@ -127,12 +168,12 @@ module _ (core : CoreState) (store : StoreView) (fits : HandlesFit core store) (
       }
 
 -- losses one after another
-pub none_lost : (v : StoreView) → Loses v v
-none_lost v = record { rest = refl; others = refl; display = refl }
-
 pub then_lost : (a b c : StoreView) → Loses a b → Loses b c → Loses a c
-then_lost a b c first second = record { rest = second.rest ∙ first.rest; others = second.others ∙ first.others;
-    display = second.display ∙ first.display }
+then_lost a b c first second = record {
+  rest = second.rest ∙ first.rest;
+  others = second.others ∙ first.others;
+  display = second.display ∙ first.display;
+}
 
 module _ (core : CoreState) (store : StoreView) (fits : Fits core store) (h : ℕ) where
   -- a handle of a kind that dies
@@ -152,11 +193,11 @@ module _ (core : CoreState) (store : StoreView) (fits : Fits core store) (h : �
       → Fits (with_links mask (without_source h (links mask core)) core) (dead h store)
   link_dropped mask u =
       links_fit core store fits store.made (without h store.others) mask (without_source h (links mask core)) (died (link_kind mask) u)
-          (taken_out (λ (l : Live). same_kind l.kind (link_kind mask)) (link_live mask) h (links mask core) store.others
-          (links_live core store fits.handles mask))
-          (still_housed (link_kind mask) u (no_element mask))
-          (each_filtered (Shows mask store.streams) (λ (s : Source). not (s.handle == h)) (links mask core)
-          (links_show core store.streams fits.streams mask))
+      (taken_out (λ (l : Live). same_kind l.kind (link_kind mask)) (link_live mask) h (links mask core) store.others
+      (links_live core store fits.handles mask))
+      (still_housed (link_kind mask) u (no_element mask))
+      (each_filtered (Shows mask store.streams) (λ (s : Source). not (s.handle == h)) (links mask core)
+      (links_show core store.streams fits.streams mask))
 
   pub link_loses : (mask : Bool) → IsUnder h (link_kind mask) store.others → Loses store (dead h store)
   link_loses false u = loses core store fits.handles h kind.Source u refl refl
@@ -187,27 +228,27 @@ module _ (core : CoreState) (store : StoreView) (fits : Fits core store) (h plac
       let has = each_at (HasElements store.others) core.contexts place c fits.handles.elements at in
       let fit = each_at (ContextFits store.streams) core.contexts place c fits.streams.contexts at in
       let named : map (λ (y : Context). y.handle) (set core.contexts place left) ≡ map (λ (y : Context). y.handle) core.contexts =
-          map_set (λ (y : Context). y.handle) core.contexts place c left at refl in
+      map_set (λ (y : Context). y.handle) core.contexts place c left at refl in
       contexts_fit kind.Element refl refl refl core store fits store.made (without h store.others) (set core.contexts place left)
-          (died core store fits h kind.Element u)
-          (other_kind core store fits.handles h kind.Element u kind.Context refl ∙ fits.handles.contexts
-          ∙ sym (map_set context_live core.contexts place c left at refl))
-          (record {
-            elements =
-                each_replaced (λ (y : Context). y.handle) (HasElements store.others) (HasElements (without h store.others)) 0
-                    core.contexts place c left (rises_contexts core store fits.handles) at
-                (λ z other held. left_out (λ (l : Live). same_kind l.kind kind.Element && (l.key == z.handle)) h 0 store.others u.object
-                    rises u.found (elsewhere u.object z under_is.1 (λ equal. other (sym equal))) ∙ held) fits.handles.elements
-                (taken_out (λ (l : Live). same_kind l.kind kind.Element && (l.key == c.handle)) (element_live c.handle) h
-                    (handles c.cached.elements) store.others has
-                ∙ ap (map (element_live c.handle)) (filter_mapped (λ n. not (n == h)) handle_of c.cached.elements));
-            owned =
-                subst (λ (hs : List ℕ). list_all (λ (l : Live). not (same_kind l.kind kind.Element) || is_in l.key hs)
-                    (without h store.others) ≡ true) (sym named)
-                (owned_stay core store fits.handles h kind.Element u);
-          })
-          (each_set (ContextFits store.streams) core.contexts place left fits.streams.contexts
-              (record { target = fit.target; size = fit.size; layers = fit.layers }))
+      (died core store fits h kind.Element u)
+      (other_kind core store fits.handles h kind.Element u kind.Context refl ∙ fits.handles.contexts
+      ∙ sym (map_set context_live core.contexts place c left at refl))
+      (record {
+        elements =
+            each_replaced (λ (y : Context). y.handle) (HasElements store.others) (HasElements (without h store.others)) 0
+            core.contexts place c left (rises_contexts core store fits.handles) at
+            (λ z other held. left_out (λ (l : Live). same_kind l.kind kind.Element && (l.key == z.handle)) h 0 store.others u.object
+            rises u.found (elsewhere u.object z under_is.1 (λ equal. other (sym equal))) ∙ held) fits.handles.elements
+            (taken_out (λ (l : Live). same_kind l.kind kind.Element && (l.key == c.handle)) (element_live c.handle) h
+            (handles c.cached.elements) store.others has
+            ∙ ap (map (element_live c.handle)) (filter_mapped (λ n. not (n == h)) handle_of c.cached.elements));
+        owned =
+            subst (λ (hs : List ℕ). list_all (λ (l : Live). not (same_kind l.kind kind.Element) || is_in l.key hs)
+            (without h store.others) ≡ true) (sym named)
+            (owned_stay core store fits.handles h kind.Element u);
+      })
+      (each_set (ContextFits store.streams) core.contexts place left fits.streams.contexts
+      (record { target = fit.target; size = fit.size; layers = fit.layers }))
     where
       elsewhere : (l : Live) (z : Context) → l.key ≡ c.handle → c.handle ≢ z.handle
           → (same_kind l.kind kind.Element && (l.key == z.handle)) ≡ false
@@ -222,7 +263,7 @@ module _ (h : ℕ) where
   named_still n cs other =
       any_mapped (λ m. m == n) (λ (c : Context). c.handle) (filter (λ c. not (c.handle == h)) cs)
       ∙ any_left (λ (c : Context). c.handle == n) (λ (c : Context). c.handle == h) (λ c is. ap (λ m. m == n) (eqb-true c.handle h is)
-          ∙ other) cs
+      ∙ other) cs
       ∙ sym (any_mapped (λ m. m == n) (λ (c : Context). c.handle) cs)
 
   owned_still : (cs : List Context) (others : List Live) → list_all (has_owner cs) others ≡ true → elements_of h others ≡ []
@@ -242,7 +283,7 @@ module _ (h : ℕ) where
           → (not (same_kind l.kind kind.Element) || is_in l.key (map (λ (c : Context). c.handle) cs)) ≡ true
           → cond (a && b) (l ∷ elements_of h others) (elements_of h others) ≡ []
           → ((not (same_kind l.kind kind.Element) || is_in l.key (map (λ (c : Context). c.handle) (filter (λ c. not (c.handle == h)) cs)))
-              && list_all (has_owner (filter (λ c. not (c.handle == h)) cs)) others) ≡ true
+          && list_all (has_owner (filter (λ c. not (c.handle == h)) cs)) others) ≡ true
       by_tests later false b is at owner empty = rw is (later empty)
       by_tests later true true is at owner empty = absurd cc
       by_tests later true false is at owner empty = rw (named_still l.key cs (turned l.key h at))
@@ -257,15 +298,15 @@ module _ (core : CoreState) (store : StoreView) (fits : Fits core store) (h : �
   pub context_dropped : IsUnder h kind.Context store.others → elements_of h store.others ≡ [] → Fits (but_context h core) (dead h store)
   context_dropped u none =
       contexts_fit kind.Context refl refl refl core store fits store.made (without h store.others) (but_context h core).contexts
-          (died core store fits h kind.Context u)
-          (taken_out (λ (l : Live). same_kind l.kind kind.Context) context_live h core.contexts store.others fits.handles.contexts)
-          (record {
-            elements = each_filtered (HasElements (without h store.others)) (λ (c : Context). not (c.handle == h)) core.contexts
-                (elements_stay core store fits.handles h kind.Context u refl);
-            owned = all_filtered (has_owner (but_context h core).contexts) (λ (l : Live). not (l.handle == h)) store.others
-                (owned_still h core.contexts store.others fits.handles.owned none);
-          })
-          (each_filtered (ContextFits store.streams) (λ (c : Context). not (c.handle == h)) core.contexts fits.streams.contexts)
+      (died core store fits h kind.Context u)
+      (taken_out (λ (l : Live). same_kind l.kind kind.Context) context_live h core.contexts store.others fits.handles.contexts)
+      (record {
+        elements = each_filtered (HasElements (without h store.others)) (λ (c : Context). not (c.handle == h)) core.contexts
+            (elements_stay core store fits.handles h kind.Context u refl);
+        owned = all_filtered (has_owner (but_context h core).contexts) (λ (l : Live). not (l.handle == h)) store.others
+            (owned_still h core.contexts store.others fits.handles.owned none);
+      })
+      (each_filtered (ContextFits store.streams) (λ (c : Context). not (c.handle == h)) core.contexts fits.streams.contexts)
 
   pub device_under : list_any (λ x. x.handle == h) core.devices ≡ true → IsUnder h kind.Device store.others
   device_under any = object_under kind.Device device_live h store.made core.devices store.others fits.handles.rising fits.handles.devices
@@ -275,6 +316,6 @@ module _ (core : CoreState) (store : StoreView) (fits : Fits core store) (h : �
       → Fits (record core { devices = filter (λ (x : Device). not (x.handle == h)) core.devices }) (dead h store)
   device_dropped u =
       devices_fit core store fits store.made (without h store.others) (filter (λ (x : Device). not (x.handle == h)) core.devices)
-          (died core store fits h kind.Device u)
-          (taken_out (λ (l : Live). same_kind l.kind kind.Device) device_live h core.devices store.others fits.handles.devices)
-          (still_housed core store fits h kind.Device u refl)
+      (died core store fits h kind.Device u)
+      (taken_out (λ (l : Live). same_kind l.kind kind.Device) device_live h core.devices store.others fits.handles.devices)
+      (still_housed core store fits h kind.Device u refl)

@@ -16,8 +16,18 @@ use Rattle.wf_model.specs.Composition.{CoreSide, change_register}
 use Rattle.wf_model.specs.Core.{get_error, register_number}
 use Rattle.wf_objects.specs.Does.{Does}
 use Rattle.wf_objects.specs.Sides.{side_of}
-use Rattle.wf_objects.specs.Fits.{ContextFits, Fits, HandlesFit, HasElements, Shows, StreamsFit, context_live, device_live, has_owner,
-    of_kind}
+use Rattle.wf_objects.specs.Fits.{
+  ContextFits,
+  Fits,
+  HandlesFit,
+  HasElements,
+  Shows,
+  StreamsFit,
+  context_live,
+  device_live,
+  has_owner,
+  of_kind,
+}
 use Rattle.wf_objects.specs.Links.{link_kind, link_live, links, with_links}
 
 -- other registers
@@ -25,7 +35,7 @@ pub register_fits : (d : ℕ) (f : Option Code → Option Code) (core new : Core
     → Fits core store → Fits new store
 register_fits d f core new store is fits =
     let named = map_change (λ (x : Device). x.handle) d (λ (x : Device). record x { register = f x.register }) device_live (λ x. refl)
-        core.devices in
+    core.devices in
     rw is (record {
       handles =
           record {

@@ -1,6 +1,38 @@
 -- What the store's table tells of an object that a call names.
-use Rattle.std.proofs.Common.{◌≡◌, ◌≢◌, eq-eqb, ne_eqb, ℕ, Bool, true, false, cond, ◌==◌, ◌&&◌, List, [], ◌∷◌, map, find, slice_get,
-    option_map, option_and_then, position, Option, Some, None, Ok, Err, is_some, refl, sym, ap, subst, ◌∙◌, arith}
+use Rattle.std.proofs.Common.{
+  ◌≡◌,
+  ◌≢◌,
+  eq-eqb,
+  ne_eqb,
+  ℕ,
+  Bool,
+  true,
+  false,
+  cond,
+  ◌==◌,
+  ◌&&◌,
+  List,
+  [],
+  ◌∷◌,
+  map,
+  find,
+  slice_get,
+  option_map,
+  option_and_then,
+  position,
+  Option,
+  Some,
+  None,
+  Ok,
+  Err,
+  is_some,
+  refl,
+  sym,
+  ap,
+  subst,
+  ◌∙◌,
+  arith,
+}
 use Rattle.std.specs.List.{list_any, AllByRecursion}
 use Rattle.std.proofs.lemmas.Bool.Decides.{nat_tests}
 use Rattle.wf_words.specs.Keyed.{at_key}
@@ -26,7 +58,7 @@ pub rises_kind : {A : Type 0} (k : Kind) (g : A → Live) (xs : List A) (others 
     → of_kind k others ≡ map g xs → Rises (λ x. (g x).handle) 0 xs
 rises_kind k g xs others made rising is =
     rises_map (λ (l : Live). l.handle) g 0 xs (subst (λ (ls : List Live). Rises (λ (l : Live). l.handle) 0 ls) is
-        (rises_filter (λ (l : Live). l.handle) (λ (l : Live). same_kind l.kind k) 0 others (rises_live 0 made others rising)))
+    (rises_filter (λ (l : Live). l.handle) (λ (l : Live). same_kind l.kind k) 0 others (rises_live 0 made others rising)))
 
 -- by the key of a context, which is its device: the context, where it is of this one
 abbrev pub by_owner : {A : Type 0} → Option ℕ → ℕ → Option A → Option A
@@ -49,7 +81,7 @@ module _ (core : CoreState) (store : StoreView) (fits : HandlesFit core store) w
       find_tested (λ (c : Context). c.handle) (λ (c : Context). c.device == d) 0 handle core.contexts rises_contexts
       ∙ of_context (at_key (λ (c : Context). c.handle) handle core.contexts)
       ∙ ap (λ (o : Option ℕ). by_owner o d (at_key (λ (c : Context). c.handle) handle core.contexts))
-          (sym (keyed kind.Context context_live handle core.contexts store.others fits.contexts))
+      (sym (keyed kind.Context context_live handle core.contexts store.others fits.contexts))
     where
       of_context : (o : Option Context) → option_and_then (λ (c : Context). cond (c.device == d) (Some c) None) o
           ≡ by_owner (option_map (λ (c : Context). c.device) o) d o
@@ -67,7 +99,7 @@ module _ (core : CoreState) (store : StoreView) (fits : HandlesFit core store) w
   placed d h owner place key same at =
       ap (option_and_then (slice_get core.contexts)) at ∙ get_position (λ (c : Context). c.handle == h) core.contexts
       ∙ sym (of_device_is d h ∙ ap (λ (o : Option ℕ). by_owner o d (by_handle h)) key
-          ∙ ap (λ b. cond b (by_handle h) None) (eq-eqb owner d same))
+      ∙ ap (λ b. cond b (by_handle h) None) (eq-eqb owner d same))
 
   pub not_placed : (d h owner : ℕ) → key_of h kind.Context store.others ≡ Some owner → owner ≢ d → None ≡ of_device d h core.contexts
   not_placed d h owner key other = sym (of_device_is d h ∙ ap (λ (o : Option ℕ). by_owner o d (by_handle h)) key
@@ -105,13 +137,13 @@ module _ (core : CoreState) (store : StoreView) (fits : HandlesFit core store) w
       ∙ ap (list_any (λ (l : Live). l.handle == e)) (sym has)
       ∙ any_found (λ (l : Live). l.handle == e) (elements_of c.handle store.others)
       ∙ ap is_some
-          (sym (find_filtered (λ (l : Live). l.handle == e) (λ (l : Live). same_kind l.kind kind.Element && (l.key == c.handle))
-          store.others) ∙ find_tested (λ (l : Live). l.handle) (λ (l : Live). same_kind l.kind kind.Element && (l.key == c.handle)) 0 e
-          store.others (rises_live 0 store.made store.others fits.rising))
+      (sym (find_filtered (λ (l : Live). l.handle == e) (λ (l : Live). same_kind l.kind kind.Element && (l.key == c.handle))
+      store.others) ∙ find_tested (λ (l : Live). l.handle) (λ (l : Live). same_kind l.kind kind.Element && (l.key == c.handle)) 0 e
+      store.others (rises_live 0 store.made store.others fits.rising))
       ∙ of_live (find (λ (l : Live). l.handle == e) store.others)
       ∙ ap (λ (o : Option Live). is_named (option_map (λ (l : Live). l.key) o) c.handle)
-          (sym (find_tested (λ (l : Live). l.handle) (λ (l : Live). same_kind l.kind kind.Element) 0 e store.others
-          (rises_live 0 store.made store.others fits.rising)))
+      (sym (find_tested (λ (l : Live). l.handle) (λ (l : Live). same_kind l.kind kind.Element) 0 e store.others
+      (rises_live 0 store.made store.others fits.rising)))
     where
       of_live : (o : Option Live)
           → is_some (option_and_then (λ (l : Live). cond (same_kind l.kind kind.Element && (l.key == c.handle)) (Some l) None) o)
@@ -120,7 +152,7 @@ module _ (core : CoreState) (store : StoreView) (fits : HandlesFit core store) w
       of_live None = refl
       of_live (Some l) =
           elim (same_kind l.kind kind.Element) as (λ b. is_some (cond (b && (l.key == c.handle)) (Some l) None)
-              ≡ is_named (option_map (λ (k : Live). k.key) (cond b (Some l) None)) c.handle) [
+          ≡ is_named (option_map (λ (k : Live). k.key) (cond b (Some l) None)) c.handle) [
             | true ↦ elim (l.key == c.handle) as (λ b. is_some (cond (true && b) (Some l) None) ≡ b) [ true ↦ refl | false ↦ refl ]
             | false ↦ refl
           ]
@@ -141,8 +173,11 @@ module _ (core : CoreState) (store : StoreView) (fits : HandlesFit core store) w
       of_contexts (c ∷ cs) all None is =
           let has : has_element e c.cached ≡ false = has_by_key e c all.0 ∙ ap (λ (o : Option ℕ). is_named o c.handle) is in
           rw has (elim (c.device == d) as (λ b. cond (b && false) (Some c)
-              (find (λ (x : Context). (x.device == d) && has_element e x.cached) cs) ≡ None) [ true ↦ of_contexts cs all.1 None is | false ↦
-              of_contexts cs all.1 None is ])
+          (find (λ (x : Context). (x.device == d) && has_element e x.cached) cs) ≡ None) [
+            | true ↦ of_contexts cs all.1 None is
+            | false ↦
+                of_contexts cs all.1 None is
+          ])
       of_contexts (c ∷ cs) all (Some owner) is =
           let has : has_element e c.cached ≡ (owner == c.handle) = has_by_key e c all.0 ∙ ap (λ (o : Option ℕ). is_named o c.handle) is in
           rw (has, swapped (c.device == d) owner c.handle, of_contexts cs all.1 (Some owner) is) refl

@@ -1,6 +1,5 @@
 -- A creation: it is refused, or a new object fits with the handle that was made for it.
-use Rattle.std.proofs.Common.{◌≡◌, ℕ, zero, suc, ◌+◌, ◌≤◌, Bool, true, false, cond, not, ◌==◌, ◌&&◌, ◌||◌, List, [], ◌∷◌, ◌++◌, map, set,
-    length, slice_get, Option, Some, None, option_map, Result, Ok, Err, refl, sym, ap, subst, ◌∙◌, arith}
+use Rattle.std.proofs.Common.{◌≡◌, ℕ, zero, suc, ◌+◌, ◌≤◌, Bool, true, false, cond, not, ◌==◌, ◌&&◌, ◌||◌, List, [], ◌∷◌, ◌++◌, map, set, length, slice_get, Option, Some, None, option_map, Result, Ok, refl, sym, ap, subst, ◌∙◌, arith}
 use Rattle.std.specs.List.{list_all, AllByRecursion}
 use Rattle.std.proofs.lemmas.Bool.{and_parts, eqb-true, eq-eqb, ne_eqb}
 use Rattle.std.proofs.lemmas.Bool.Decides.{nat_tests}
@@ -8,7 +7,7 @@ use Rattle.std.proofs.lemmas.List.{map-append}
 use Rattle.wf_words.specs.Keyed.{is_in}
 use Rattle.wf_life.specs.declared.Kind.{Kind}
 use Rattle.wf_life.specs.declared.Kind.TheVariants as kind
-use Rattle.wf_life.specs.Handles.{Live, IsRising, is_full, same_kind, rising_more}
+use Rattle.wf_life.specs.Handles.{Live, IsRising, same_kind, rising_more}
 use Rattle.wf_stream.specs.Streams.{StoreView, with_other}
 use Rattle.wf_scene.specs.Cached as cached
 use Rattle.wf_scene.specs.Cached.{handle_of, handles}
@@ -21,18 +20,26 @@ use Rattle.wf_model.specs.Outcome.{Outcome}
 use Rattle.wf_model.specs.Composition.{CoreSide, change_context, created, with_cached}
 use Rattle.wf_model.specs.Core.{room}
 use Rattle.wf_words.specs.Refusals.{◌>>=◌}
-use Rattle.wf_calls.specs.Codes.{is_out_of_memory}
-use Rattle.wf_calls.specs.Replies.{refusal}
-use Rattle.wf_calls.specs.declared.code.Code.TheVariants as code
 use Rattle.wf_calls.specs.declared.reply.Refusal.{Refusal}
 use Rattle.std.specs.Prelude.{nat_le}
-use Rattle.wf_objects.specs.Does.{Does, element_made, in_place, refuses}
+use Rattle.wf_objects.specs.Does.{Does, element_made, in_place}
 use Rattle.wf_objects.proofs.Scenes.{placed_is}
 use Rattle.wf_objects.specs.Links.{link_kind, link_live, links, with_links}
 use Rattle.wf_objects.specs.Sides.{is_of_composition, refused_handle, side_of}
 use Rattle.wf_objects.proofs.Fitting.{Housed, KindChanged, contexts_fit, devices_fit, links_fit, links_live, links_show}
-use Rattle.wf_objects.specs.Fits.{ContextFits, Fits, HasElements, Shows, context_live, device_live, element_live, elements_of, has_owner,
-    live, of_kind}
+use Rattle.wf_objects.specs.Fits.{
+  ContextFits,
+  Fits,
+  HasElements,
+  Shows,
+  context_live,
+  device_live,
+  element_live,
+  elements_of,
+  has_owner,
+  live,
+  of_kind,
+}
 use Rattle.wf_words.specs.Each.{each_at, each_more, each_other, each_set}
 use Rattle.wf_words.specs.Places.{map_set}
 use Rattle.wf_objects.proofs.Lookups.{has_by_key, is_named, rises_contexts}
@@ -52,21 +59,7 @@ module _ (core : CoreState) (store : StoreView) (fits : Fits core store) where
   -- a creation, by its limit and what it leaves of the objects
   module _ (plain : Bool → CoreSide → Outcome CoreSide) (at_limit : Bool) (grown : CoreState)
       (is : (m : Bool) → plain m (side_of core store)
-          ≡ (room at_limit m (side_of core store) >>= (λ _. Ok (created grown (side_of core store))))) where
-    pub limited : (at_limit || is_full store.made) ≡ true → Does plain core core store store (Err (refusal code.Limit))
-    limited full = refuses plain core store (refusal code.Limit) fits (is false ∙ rw full refl)
-
-    pub without_memory : (at_limit || is_full store.made) ≡ false → Does plain core core store store (Err (refusal code.OutOfMemory))
-    without_memory free = refuses plain core store (refusal code.OutOfMemory) fits (is true ∙ rw free refl)
-
-    pub without_handle : at_limit ≡ false → (r : Refusal) → Err r ≡ refused_handle store.made (is_out_of_memory r.code)
-        → Does plain core core store store (Err r)
-    without_handle below r stopped =
-        let after : Unit {0} → Outcome CoreSide = λ _. Ok (created grown (side_of core store)) in
-        refuses plain core store r fits
-            (is (is_out_of_memory r.code) ∙ ap (λ b. room b (is_out_of_memory r.code) (side_of core store) >>= after) below
-            ∙ ap (λ (x : Result (Unit {0}) Refusal). x >>= after) (sym stopped))
-
+      ≡ (room at_limit m (side_of core store) >>= (λ _. Ok (created grown (side_of core store))))) where
     pub creates : (k : Kind) (key : ℕ) → same_kind k kind.DisplaySource ≡ false → is_of_composition k ≡ true → at_limit ≡ false
         → Ok tt ≡ refused_handle store.made false → Fits grown (with_other k key store)
         → Does plain core grown store (with_other k key store) (Ok (store.made + 1))
@@ -74,16 +67,19 @@ module _ (core : CoreState) (store : StoreView) (fits : Fits core store) where
         let new = live k (store.made + 1) key in
         let after : Unit {0} → Outcome CoreSide = λ _. Ok (created grown (side_of core store)) in
         let done : ℕ → Outcome CoreSide = λ count. (let left : CoreSide
-            × ℕ = (record { made = store.made + 1; streams = store.streams; core = grown; display_sources = count }, store.made + 1) in
-            Ok left) in
+        × ℕ = (record { made = store.made + 1; streams = store.streams; core = grown; display_sources = count }, store.made + 1) in
+        Ok left) in
         record {
           case = is false ∙ ap (λ b. room b false (side_of core store) >>= after) below
               ∙ ap (λ (x : Result (Unit {0}) Refusal). x >>= after) (sym given)
               ∙ ap done (sym (count_left (λ (l : Live). same_kind l.kind kind.DisplaySource) store.others new other));
           refused = tt;
           untouched = tt;
-          kept = record { streams = refl; numbered = refl;
-              others = more_left (λ (l : Live). not (is_of_composition l.kind)) store.others new (ap not ours) };
+          kept = record {
+            streams = refl;
+            numbered = refl;
+            others = more_left (λ (l : Live). not (is_of_composition l.kind)) store.others new (ap not ours);
+          };
           fits = fit;
         }
 
@@ -106,7 +102,7 @@ module _ (core : CoreState) (store : StoreView) (fits : Fits core store) where
         elements =
             each_other (HasElements store.others) (HasElements (with_other k key store).others)
             (λ c has. more_left (λ (x : Live). same_kind x.kind kind.Element && (x.key == c.handle)) store.others (live k next key)
-                (rw other refl) ∙ has) core.contexts fits.handles.elements;
+            (rw other refl) ∙ has) core.contexts fits.handles.elements;
         owned = all_more (has_owner core.contexts) store.others (live k next key) fits.handles.owned (rw other refl);
       }
 
@@ -123,17 +119,17 @@ module _ (core : CoreState) (store : StoreView) (fits : Fits core store) where
   device_fits =
       let new : Device = record { handle = next; register = None } in
       devices_fit core store fits next (with_other kind.Device 0 store).others (core.devices ++ new ∷ []) (made_more kind.Device 0)
-          (of_kind_more kind.Device 0 device_live new core.devices refl fits.handles.devices refl) (still_housed kind.Device 0 refl)
+      (of_kind_more kind.Device 0 device_live new core.devices refl fits.handles.devices refl) (still_housed kind.Device 0 refl)
 
   pub link_fits : (mask : Bool) (s : Source) → s.handle ≡ next → Shows mask store.streams s
       → Fits (with_links mask (links mask core ++ s ∷ []) core) (with_other (link_kind mask) s.stream store)
   link_fits mask s handle shows =
       links_fit core store fits next (with_other (link_kind mask) s.stream store).others mask (links mask core ++ s ∷ [])
-          (made_more (link_kind mask) s.stream)
-          (of_kind_more (link_kind mask) s.stream (link_live mask) s (links mask core) (same mask) (links_live core store fits.handles mask)
-          (ap (λ n. live (link_kind mask) n s.stream) handle))
-          (still_housed (link_kind mask) s.stream (no_element mask))
-          (each_more (Shows mask store.streams) (links mask core) s (links_show core store.streams fits.streams mask) shows)
+      (made_more (link_kind mask) s.stream)
+      (of_kind_more (link_kind mask) s.stream (link_live mask) s (links mask core) (same mask) (links_live core store fits.handles mask)
+      (ap (λ n. live (link_kind mask) n s.stream) handle))
+      (still_housed (link_kind mask) s.stream (no_element mask))
+      (each_more (Shows mask store.streams) (links mask core) s (links_show core store.streams fits.streams mask) shows)
     where
       same : (b : Bool) → same_kind (link_kind b) (link_kind b) ≡ true
       same false = refl
@@ -148,8 +144,8 @@ module _ (core : CoreState) (store : StoreView) (fits : Fits core store) where
   fresh c has =
       has_by_key core store fits.handles next c has
       ∙ ap (λ (o : Option ℕ). is_named o c.handle) (ap (option_map (λ (l : Live). l.key))
-          (none_over (λ (l : Live). l.handle) (λ (l : Live). same_kind l.kind kind.Element) 0 store.made next store.others
-          fits.handles.rising (omega arith)))
+      (none_over (λ (l : Live). l.handle) (λ (l : Live). same_kind l.kind kind.Element) 0 store.made next store.others
+      fits.handles.rising (omega arith)))
 
   -- another element in the context at a place
   pub element_fits : (place : ℕ) (c : Context) → slice_get core.contexts place ≡ Some c
@@ -163,28 +159,28 @@ module _ (core : CoreState) (store : StoreView) (fits : Fits core store) where
       let more = map-append handle_of c.cached.elements (new_element next ∷ []) in
       let fit = each_at (ContextFits store.streams) core.contexts place c fits.streams.contexts at in
       let named : map (λ (y : Context). y.handle) (set core.contexts place grown) ≡ map (λ (y : Context). y.handle) core.contexts =
-          map_set (λ (y : Context). y.handle) core.contexts place c grown at refl in
+      map_set (λ (y : Context). y.handle) core.contexts place c grown at refl in
       contexts_fit kind.Element refl refl refl core store fits next others (set core.contexts place grown)
-          (made_more kind.Element c.handle)
-          (more_left (λ (l : Live). same_kind l.kind kind.Context) store.others new refl ∙ fits.handles.contexts
-          ∙ sym (map_set context_live core.contexts place c grown at refl))
-          (record {
-            elements =
-                each_replaced (λ (y : Context). y.handle) (HasElements store.others) (HasElements others) 0 core.contexts place c grown
-                    (rises_contexts core store fits.handles) at
-                (λ z other held. more_left (λ (l : Live). same_kind l.kind kind.Element && (l.key == z.handle)) store.others new
-                    (ne_eqb c.handle z.handle (λ same. other (sym same))) ∙ held) fits.handles.elements
-                (more_passed (λ (l : Live). same_kind l.kind kind.Element && (l.key == c.handle)) store.others new
-                    (eq-eqb c.handle c.handle refl)
-                ∙ ap (λ (ls : List Live). ls ++ new ∷ []) has ∙ sym (ap (map (element_live c.handle)) more
-                    ∙ map-append (element_live c.handle) (handles c.cached.elements) (next ∷ [])));
-            owned =
-                subst (λ (hs : List ℕ). list_all (λ (l : Live). not (same_kind l.kind kind.Element) || is_in l.key hs) others ≡ true)
-                    (sym named)
-                (all_more (has_owner core.contexts) store.others new fits.handles.owned (stands core.contexts place at));
-          })
-          (each_set (ContextFits store.streams) core.contexts place grown fits.streams.contexts
-              (record { target = fit.target; size = fit.size; layers = fit.layers }))
+      (made_more kind.Element c.handle)
+      (more_left (λ (l : Live). same_kind l.kind kind.Context) store.others new refl ∙ fits.handles.contexts
+      ∙ sym (map_set context_live core.contexts place c grown at refl))
+      (record {
+        elements =
+            each_replaced (λ (y : Context). y.handle) (HasElements store.others) (HasElements others) 0 core.contexts place c grown
+            (rises_contexts core store fits.handles) at
+            (λ z other held. more_left (λ (l : Live). same_kind l.kind kind.Element && (l.key == z.handle)) store.others new
+            (ne_eqb c.handle z.handle (λ same. other (sym same))) ∙ held) fits.handles.elements
+            (more_passed (λ (l : Live). same_kind l.kind kind.Element && (l.key == c.handle)) store.others new
+            (eq-eqb c.handle c.handle refl)
+            ∙ ap (λ (ls : List Live). ls ++ new ∷ []) has ∙ sym (ap (map (element_live c.handle)) more
+            ∙ map-append (element_live c.handle) (handles c.cached.elements) (next ∷ [])));
+        owned =
+            subst (λ (hs : List ℕ). list_all (λ (l : Live). not (same_kind l.kind kind.Element) || is_in l.key hs) others ≡ true)
+            (sym named)
+            (all_more (has_owner core.contexts) store.others new fits.handles.owned (stands core.contexts place at));
+      })
+      (each_set (ContextFits store.streams) core.contexts place grown fits.streams.contexts
+      (record { target = fit.target; size = fit.size; layers = fit.layers }))
     where
       stands : (cs : List Context) (i : ℕ) → slice_get cs i ≡ Some c → is_in c.handle (map (λ (y : Context). y.handle) cs) ≡ true
       stands [] i here = absurd cc
@@ -196,15 +192,15 @@ module _ (core : CoreState) (store : StoreView) (fits : Fits core store) where
   pub element_creates : (place : ℕ) (c : Context) (at : slice_get core.contexts place ≡ Some c)
       → nat_le 64 (length c.cached.elements) ≡ false → Ok tt ≡ refused_handle store.made false
       → Does (in_place place element_made) core
-          (record core { contexts = set core.contexts place (record c { cached = cached.add next c.cached }) }) store
-          (with_other kind.Element c.handle store) (Ok next)
+      (record core { contexts = set core.contexts place (record c { cached = cached.add next c.cached }) }) store
+      (with_other kind.Element c.handle store) (Ok next)
   element_creates place c at below given =
       let grown = change_context c.handle (with_cached (cached.add next c.cached)) core in
       let is = placed_is core store fits place c at (with_cached (cached.add next c.cached)) in
       let now = with_other kind.Element c.handle store in
       subst (λ (k : CoreState). Does (in_place place element_made) core k store now (Ok next)) is
-          (creates (in_place place element_made) (nat_le 64 (length c.cached.elements)) grown (λ m. rw at refl) kind.Element c.handle refl
-          refl below given (subst (λ (k : CoreState). Fits k now) (sym is) (element_fits place c at)))
+      (creates (in_place place element_made) (nat_le 64 (length c.cached.elements)) grown (λ m. rw at refl) kind.Element c.handle refl
+      refl below given (subst (λ (k : CoreState). Fits k now) (sym is) (element_fits place c at)))
 
   -- the contexts have handles that were given
   abbrev IsUnder : List Context → Type 0
@@ -225,7 +221,7 @@ module _ (core : CoreState) (store : StoreView) (fits : Fits core store) where
       of_filter (l ∷ ls) all =
           let later = of_filter ls all.1 in
           elim (same_kind l.kind kind.Context) as (λ b. AllByRecursion (λ (x : Live). x.handle ≤ store.made)
-              (cond b (l ∷ of_kind kind.Context ls) (of_kind kind.Context ls))) [ true ↦ (all.0, later) | false ↦ later ]
+          (cond b (l ∷ of_kind kind.Context ls) (of_kind kind.Context ls))) [ true ↦ (all.0, later) | false ↦ later ]
 
       of_live : (cs : List Context) → AllByRecursion (λ (l : Live). l.handle ≤ store.made) (map context_live cs) → IsUnder cs
       of_live [] all = tt
@@ -254,10 +250,10 @@ module _ (core : CoreState) (store : StoreView) (fits : Fits core store) where
       by_kind later true true is at owner =
           let key : l.key ≡ next = eqb-true l.key next at in
           let none : is_in l.key (map (λ (y : Context). y.handle) core.contexts) ≡ false =
-              ap (λ (n : ℕ). is_in n (map (λ (y : Context). y.handle) core.contexts)) key
-              ∙ absent core.contexts 0 (rises_contexts core store fits.handles) all_under in
+          ap (λ (n : ℕ). is_in n (map (λ (y : Context). y.handle) core.contexts)) key
+          ∙ absent core.contexts 0 (rises_contexts core store fits.handles) all_under in
           let both : (not true || is_in l.key (map (λ (y : Context). y.handle) core.contexts)) ≡ true =
-              ap (λ b. not b || is_in l.key (map (λ (y : Context). y.handle) core.contexts)) (sym is) ∙ owner in
+          ap (λ b. not b || is_in l.key (map (λ (y : Context). y.handle) core.contexts)) (sym is) ∙ owner in
           let no = sym none ∙ both in absurd cc
 
   -- another context, without elements
@@ -267,19 +263,19 @@ module _ (core : CoreState) (store : StoreView) (fits : Fits core store) where
       let others = (with_other kind.Context c.device store).others in
       let housed = still_housed kind.Context c.device refl in
       let here : elements_of c.handle others ≡ [] =
-          ap (λ n. elements_of n others) handle
-          ∙ more_left (λ (l : Live). same_kind l.kind kind.Element && (l.key == next)) store.others (live kind.Context next c.device) refl
-          ∙ unowned store.others fits.handles.owned in
+      ap (λ n. elements_of n others) handle
+      ∙ more_left (λ (l : Live). same_kind l.kind kind.Element && (l.key == next)) store.others (live kind.Context next c.device) refl
+      ∙ unowned store.others fits.handles.owned in
       let handles_none : map (element_live c.handle) (handles c.cached.elements) ≡ [] =
-          ap (λ es. map (element_live c.handle) (handles es)) none in
+      ap (λ es. map (element_live c.handle) (handles es)) none in
       contexts_fit kind.Context refl refl refl core store fits next others (core.contexts ++ c ∷ []) (made_more kind.Context c.device)
-          (of_kind_more kind.Context c.device context_live c core.contexts refl fits.handles.contexts
-          (ap (λ n. live kind.Context n c.device) handle))
-          (record {
-            elements = each_more (HasElements others) core.contexts c housed.elements (here ∙ sym handles_none);
-            owned = all_other (has_owner core.contexts) (has_owner (core.contexts ++ c ∷ [])) wider others housed.owned;
-          })
-          (each_more (ContextFits store.streams) core.contexts c fits.streams.contexts fit)
+      (of_kind_more kind.Context c.device context_live c core.contexts refl fits.handles.contexts
+      (ap (λ n. live kind.Context n c.device) handle))
+      (record {
+        elements = each_more (HasElements others) core.contexts c housed.elements (here ∙ sym handles_none);
+        owned = all_other (has_owner core.contexts) (has_owner (core.contexts ++ c ∷ [])) wider others housed.owned;
+      })
+      (each_more (ContextFits store.streams) core.contexts c fits.streams.contexts fit)
     where
       in_wider : (n : ℕ) (cs : List Context) → is_in n (map (λ (y : Context). y.handle) cs) ≡ true
           → is_in n (map (λ (y : Context). y.handle) (cs ++ c ∷ [])) ≡ true

@@ -1,6 +1,28 @@
 -- The context at a place that was found is the one that the call names.
-use Rattle.std.proofs.Common.{◌≡◌, ℕ, ◌<◌, length, true, false, ◌&&◌, ◌||◌, ◌==◌, is_some, List, slice_get, slice_index_or, option_and_then,
-    Option, Some, None, IfSome, refl, sym, ap, ◌∙◌}
+use Rattle.std.proofs.Common.{
+  ◌≡◌,
+  ℕ,
+  ◌<◌,
+  length,
+  true,
+  false,
+  ◌&&◌,
+  ◌||◌,
+  ◌==◌,
+  is_some,
+  List,
+  slice_get,
+  slice_index_or,
+  option_and_then,
+  Option,
+  Some,
+  None,
+  IfSome,
+  refl,
+  sym,
+  ap,
+  ◌∙◌,
+}
 use Rattle.std.specs.List.{list_any}
 use Rattle.std.proofs.lemmas.Bool.{and_parts, eqb-true}
 use Rattle.std.proofs.lemmas.Option.{slice_get_read}
@@ -37,11 +59,11 @@ module _ (d : ℕ) (core : CoreState) where
           (passes (λ (x : Context). (x.device == d) && has_element e x.cached) core.contexts c (sym at))).1
 
 -- the context that is read at a place
-pub standing : (view core : CoreState) (place : ℕ) (x : Context) → view ≡ core → place < length core.contexts
-    → x ≡ slice_index_or view.contexts place x → slice_get core.contexts place ≡ Some x
-standing view core place x is less read =
+pub standing : (view core : CoreState) (place : ℕ) (x y : Context) → view ≡ core → place < length core.contexts
+    → x ≡ slice_index_or view.contexts place x → y ≡ x → slice_get core.contexts place ≡ Some y
+standing view core place x y is less read same =
     slice_get_read core.contexts (length core.contexts) place x refl less (read
-        ∙ ap (λ (cs : List Context). slice_index_or cs place x) (ap (λ (k : CoreState). k.contexts) is))
+    ∙ ap (λ (cs : List Context). slice_index_or cs place x) (ap (λ (k : CoreState). k.contexts) is)) ∙ ap (λ (c : Context). Some c) (sym same)
 
 -- a handle is 0 or that of an element, by the place that was found
 pub any_element : (d h : ℕ) (w : CoreSide) (o : Option ℕ) → (h == 0) ≡ false

@@ -1,6 +1,38 @@
 -- A context or a device that loses what is its, one object after another.
-use Rattle.std.proofs.Common.{◌≡◌, ℕ, ◌<◌, Bool, true, false, cond, not, ◌==◌, ◌&&◌, ◌||◌, List, [], ◌∷◌, length, filter, find, option_map,
-    Option, Some, None, is_some, refl, sym, ap, ◌∙◌, map, set, slice_get, IfSome, arith, length-set}
+use Rattle.std.proofs.Common.{
+  ◌≡◌,
+  ℕ,
+  ◌<◌,
+  Bool,
+  true,
+  false,
+  cond,
+  not,
+  ◌==◌,
+  ◌&&◌,
+  ◌||◌,
+  List,
+  [],
+  ◌∷◌,
+  length,
+  filter,
+  find,
+  option_map,
+  Option,
+  Some,
+  None,
+  is_some,
+  refl,
+  sym,
+  ap,
+  ◌∙◌,
+  map,
+  set,
+  slice_get,
+  IfSome,
+  arith,
+  length-set,
+}
 use Rattle.std.specs.List.{list_any}
 use Rattle.wf_stream.specs.Streams.{StoreView}
 use Rattle.wf_model.specs.declared.Source.{Source}
@@ -146,7 +178,7 @@ module _ (core : CoreState) (store : StoreView) (fits : Fits core store) (h plac
   others_stay =
       ap (but_context h) is ∙ ap (λ n. but_context n (change_context c.handle (with_cached (cached.forget e c.cached)) core)) (sym handle)
       ∙ ap (λ (cs : List Context). record core { contexts = cs })
-          (change_left (λ (y : Context). y.handle) c.handle (with_cached (cached.forget e c.cached)) (λ y. refl) core.contexts)
+      (change_left (λ (y : Context). y.handle) c.handle (with_cached (cached.forget e c.cached)) (λ y. refl) core.contexts)
       ∙ ap (λ n. but_context n core) handle
 
   pub fewer_elements : Some e ≡ option_map handle_of (slice_get c.cached.elements 0)
@@ -185,30 +217,30 @@ module _ (core : CoreState) (store : StoreView) (fits : Fits core store) (d : �
           ≡ not (is_of_device d core n)
       by_test true equal =
           let here : ((c.handle == n) && (c.device == d)) ≡ true =
-              and_from (c.handle == n) (c.device == d) (eq-eqb c.handle n (sym (eqb-true n c.handle equal)))
-              (passes (λ (x : Context). x.device == d) core.contexts c found) in
+          and_from (c.handle == n) (c.device == d) (eq-eqb c.handle n (sym (eqb-true n c.handle equal)))
+          (passes (λ (x : Context). x.device == d) core.contexts c found) in
           and_false (not (is_of_device d (without_context c.handle core) n))
-              ∙ sym (ap not (any_by (λ (x : Context). x.device == d) (λ (x : Context). (x.handle == n) && (x.device == d)) core.contexts c
-              found here))
+          ∙ sym (ap not (any_by (λ (x : Context). x.device == d) (λ (x : Context). (x.handle == n) && (x.device == d)) core.contexts c
+          found here))
       by_test false differs =
           and_true (not (is_of_device d (without_context c.handle core) n))
           ∙ ap not (any_left (λ (x : Context). (x.handle == n) && (x.device == d)) (λ (x : Context). x.handle == c.handle) (other differs)
-              core.contexts)
+          core.contexts)
 
   pub one_context_fewer : but_contexts_of d (without_context c.handle core) ≡ but_contexts_of d core
   one_context_fewer =
       let of : List Context → List Source → List Source → CoreState =
-          λ cs ss ms. record { devices = core.devices; contexts = cs; sources = ss; masks = ms } in
+      λ cs ss ms. record { devices = core.devices; contexts = cs; sources = ss; masks = ms } in
       let gone : List Source
-          → List Source = λ ss. filter (λ (s : Source). not (is_of_device d (without_context c.handle core) s.context))
-          (without_those_of c.handle ss) in
+      → List Source = λ ss. filter (λ (s : Source). not (is_of_device d (without_context c.handle core) s.context))
+      (without_those_of c.handle ss) in
       let kept : List Source → List Source = λ ss. filter (λ (s : Source). not (is_of_device d core s.context)) ss in
       let same : (ss : List Source) → gone ss ≡ kept ss =
-          λ ss. filter_twice (λ (s : Source). not (is_of_device d (without_context c.handle core) s.context))
-          (λ (s : Source). not (s.context == c.handle)) (λ (s : Source). not (is_of_device d core s.context)) (λ s. still_owned s.context)
-          ss in
+      λ ss. filter_twice (λ (s : Source). not (is_of_device d (without_context c.handle core) s.context))
+      (λ (s : Source). not (s.context == c.handle)) (λ (s : Source). not (is_of_device d core s.context)) (λ s. still_owned s.context)
+      ss in
       ap (λ (cs : List Context). of cs (gone core.sources) (gone core.masks))
-          (one_fewer (λ (x : Context). x.handle) (λ (x : Context). x.device == d) core.contexts c rises found)
+      (one_fewer (λ (x : Context). x.handle) (λ (x : Context). x.device == d) core.contexts c rises found)
       ∙ ap (λ (ss : List Source). of (filter (λ (x : Context). not (x.device == d)) core.contexts) ss (gone core.masks)) (same core.sources)
       ∙ ap (of (filter (λ (x : Context). not (x.device == d)) core.contexts) (kept core.sources)) (same core.masks)
 
@@ -224,14 +256,14 @@ module _ (core : CoreState) (store : StoreView) (fits : Fits core store) (d : �
 pub no_contexts : (d : ℕ) (core : CoreState) → find (λ (x : Context). x.device == d) core.contexts ≡ None → but_contexts_of d core ≡ core
 no_contexts d core none =
     let of : List Context → List Source → List Source → CoreState =
-        λ cs ss ms. record { devices = core.devices; contexts = cs; sources = ss; masks = ms } in
+    λ cs ss ms. record { devices = core.devices; contexts = cs; sources = ss; masks = ms } in
     let kept : List Source → List Source = λ ss. filter (λ (s : Source). not (is_of_device d core s.context)) ss in
     let all : (ss : List Source)
-        → kept ss ≡ ss = λ ss. all_kept (λ (s : Source). not (is_of_device d core s.context))
-        (λ s. ap not (unowned s.context core.contexts none)) ss in
+    → kept ss ≡ ss = λ ss. all_kept (λ (s : Source). not (is_of_device d core s.context))
+    (λ s. ap not (unowned s.context core.contexts none)) ss in
     ap (λ (cs : List Context). of cs (kept core.sources) (kept core.masks)) (none_out (λ (x : Context). x.device == d) core.contexts none)
     ∙ ap (λ (ss : List Source). of core.contexts ss (kept core.masks)) (all core.sources)
-        ∙ ap (of core.contexts core.sources) (all core.masks)
+    ∙ ap (of core.contexts core.sources) (all core.masks)
   where
     unowned : (n : ℕ) (cs : List Context) → find (λ (x : Context). x.device == d) cs ≡ None
         → list_any (λ (x : Context). (x.handle == n) && (x.device == d)) cs ≡ false

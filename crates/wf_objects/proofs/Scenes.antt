@@ -46,18 +46,18 @@ module _ (core : CoreState) (store : StoreView) (fits : Fits core store) (place 
   placed_fits x same elements fit =
       let handle : x.handle ≡ c.handle = ap (λ (l : Live). l.handle) same in
       let named : map (λ (y : Context). y.handle) (set core.contexts place x) ≡ map (λ (y : Context). y.handle) core.contexts =
-          map_set (λ (y : Context). y.handle) core.contexts place c x at handle in
+      map_set (λ (y : Context). y.handle) core.contexts place c x at handle in
       contexts_fit kind.Element refl refl refl core store fits store.made store.others (set core.contexts place x)
-          (record { rising = fits.handles.rising; other = λ j other. refl })
-          (fits.handles.contexts ∙ sym (map_set context_live core.contexts place c x at same))
-          (record {
-            elements = each_set (HasElements store.others) core.contexts place x fits.handles.elements
-                (rw (handle, elements) (each_at (HasElements store.others) core.contexts place c fits.handles.elements at));
-            owned = subst
-                (λ (hs : List ℕ). list_all (λ (l : Live). not (same_kind l.kind kind.Element) || is_in l.key hs) store.others ≡ true)
-                (sym named) fits.handles.owned;
-          })
-          (each_set (ContextFits store.streams) core.contexts place x fits.streams.contexts fit)
+      (record { rising = fits.handles.rising; other = λ j other. refl })
+      (fits.handles.contexts ∙ sym (map_set context_live core.contexts place c x at same))
+      (record {
+        elements = each_set (HasElements store.others) core.contexts place x fits.handles.elements
+            (rw (handle, elements) (each_at (HasElements store.others) core.contexts place c fits.handles.elements at));
+        owned = subst
+            (λ (hs : List ℕ). list_all (λ (l : Live). not (same_kind l.kind kind.Element) || is_in l.key hs) store.others ≡ true)
+            (sym named) fits.handles.owned;
+      })
+      (each_set (ContextFits store.streams) core.contexts place x fits.streams.contexts fit)
 
   -- the change of the context is that of its place
   pub placed_is : (f : Context → Context) → change_context c.handle f core ≡ placed (f c)
@@ -72,15 +72,20 @@ module _ (core : CoreState) (store : StoreView) (fits : Fits core store) (place 
       → Does (in_place place (changed f)) core (placed (f c)) store store (Ok 0)
   unfolding done
   changes f fit =
-      record { case = rw at (ap done (placed_is f)); refused = tt; untouched = tt;
-          kept = record { streams = refl; numbered = refl; others = refl }; fits = fit }
+      record {
+        case = rw at (ap done (placed_is f));
+        refused = tt;
+        untouched = tt;
+        kept = record { streams = refl; numbered = refl; others = refl };
+        fits = fit;
+      }
 
   pub activates : (active : Bool) → Does (in_place place (changed (with_active active))) core (placed (record c { active = active })) store store
       (Ok 0)
   activates active =
       let fit = each_at (ContextFits store.streams) core.contexts place c fits.streams.contexts at in
       changes (with_active active) (placed_fits (record c { active = active }) refl refl
-          (record { target = fit.target; size = fit.size; layers = fit.layers }))
+      (record { target = fit.target; size = fit.size; layers = fit.layers }))
 
   pub commits : (scene : Scene) → ContextFits store.streams (with_committed scene c)
       → Does (in_place place (changed (with_committed scene))) core (placed (record c { committed = scene })) store store (Ok 0)
@@ -91,7 +96,7 @@ module _ (core : CoreState) (store : StoreView) (fits : Fits core store) (place 
   scene_fits s keeps =
       let fit = each_at (ContextFits store.streams) core.contexts place c fits.streams.contexts at in
       placed_fits (record c { cached = s }) refl keeps.0
-          (record { target = rw keeps.1 fit.target; size = fit.size ∙ sym keeps.1; layers = fit.layers })
+      (record { target = rw keeps.1 fit.target; size = fit.size ∙ sym keeps.1; layers = fit.layers })
 
   -- something of its cached scene is set, or refused
   pub edits : (call : CachedScene → Result CachedScene Refused) (m : Result (Unit {0}) Refused) (s : CachedScene) (r : Result ℕ Refusal)
@@ -100,12 +105,17 @@ module _ (core : CoreState) (store : StoreView) (fits : Fits core store) (place 
       → Does (in_place place (scene_set call)) core (placed (record c { cached = s })) store store r
   unfolding done
   edits call (Ok u) s r is same keeps answered =
-      rw answered (record { case = rw (at, is) (ap done (placed_is (with_cached s))); refused = tt; untouched = tt;
-          kept = record { streams = refl; numbered = refl; others = refl }; fits = scene_fits s (keeps s is) })
+      rw answered (record {
+        case = rw (at, is) (ap done (placed_is (with_cached s)));
+        refused = tt;
+        untouched = tt;
+        kept = record { streams = refl; numbered = refl; others = refl };
+        fits = scene_fits s (keeps s is);
+      })
   edits call (Err x) s r is same keeps answered =
       let back : placed (record c { cached = s }) ≡ core =
-          ap (λ (t : CachedScene). placed (record c { cached = t })) same
-          ∙ ap (λ (cs : List Context). record core { contexts = cs }) (set_back core.contexts place c at) in
+      ap (λ (t : CachedScene). placed (record c { cached = t })) same
+      ∙ ap (λ (cs : List Context). record core { contexts = cs }) (set_back core.contexts place c at) in
       rw (answered, back) (refuses (in_place place (scene_set call)) core store _ fits (rw (at, is) refl))
 
   module _ (d element : ℕ) (attr : ElementAttr) (value : List ℤ) where
@@ -114,10 +124,10 @@ module _ (core : CoreState) (store : StoreView) (fits : Fits core store) (place 
         → Does (in_place place (scene_set (cached.set element attr value))) core (placed (record c { cached = s })) store store r
         → Does (in_place place (element_set d element attr value)) core (placed (record c { cached = s })) store store r
     linked_first s r is does =
-        record { case = rw (at, is) (rw at at does.case); refused = does.refused; untouched = does.untouched; kept = does.kept;
-            fits = does.fits }
-
-    -- or not
-    pub not_linked : (r : Refusal) → linked attr d c.handle (component value 0) (side_of core store) ≡ Err r
-        → Does (in_place place (element_set d element attr value)) core core store store (Err r)
-    not_linked r is = refuses (in_place place (element_set d element attr value)) core store r fits (rw (at, is) refl)
+        record {
+          case = rw (at, is) (rw at at does.case);
+          refused = does.refused;
+          untouched = does.untouched;
+          kept = does.kept;
+          fits = does.fits;
+        }

@@ -1,10 +1,31 @@
 -- What an operation on the tables leaves and answers, by the plain machine.
-use Rattle.std.specs.Prelude.{◌≡◌, ℕ, ◌+◌, Bool, false, not, ◌==◌, ℤ, List, [], ◌∷◌, ◌++◌, slice_get, nat_le, length, Option, Some, None,
-    OnErr, IfSome, Result, Ok, Err}
+use Rattle.std.specs.Prelude.{
+  ◌≡◌,
+  ℕ,
+  ◌+◌,
+  Bool,
+  false,
+  not,
+  ◌==◌,
+  ℤ,
+  List,
+  [],
+  ◌∷◌,
+  ◌++◌,
+  slice_get,
+  nat_le,
+  length,
+  Option,
+  Some,
+  None,
+  OnErr,
+  IfSome,
+  Result,
+  Ok,
+  Err,
+}
 use Rattle.std.proofs.Common.{refl, sym, ap, ◌∙◌}
 use Rattle.wf_words.specs.Refusals.{◌>>=◌}
-use Rattle.wf_life.specs.declared.Kind.TheVariants as kind
-use Rattle.wf_life.specs.Handles.{live_count}
 use Rattle.wf_stream.specs.Streams.{StoreView}
 use Rattle.wf_scene.specs.declared.attributes.ElementAttr.{ElementAttr}
 use Rattle.wf_scene.specs.declared.attributes.Refused.{Refused}
@@ -24,7 +45,6 @@ use Rattle.wf_model.specs.Composition.{CoreSide, change_context, context, create
 use Rattle.wf_model.specs.Core.{blank_scene, by_scene, contexts_full, linked, refusal_code, room, sources_full}
 use Rattle.wf_objects.specs.Fits.{Fits}
 use Rattle.wf_objects.specs.Links.{links, with_links}
-use Rattle.wf_objects.specs.Losses.{Loses}
 use Rattle.wf_objects.specs.Owners.{StandsAt, at_place, joined, owned_context, owning_context}
 use Rattle.wf_objects.specs.Sides.{KeepsRest, done_by, lacks_memory, side_of}
 
@@ -74,22 +94,22 @@ element_made handle m c w =
 abbrev pub context_made : ℕ → ℕ → Seen → Bool → CoreSide → Outcome CoreSide
 context_made d port target m w =
     let new : Context =
-        record {
-          handle = w.made + 1;
-          device = d;
-          port = port;
-          target = target.stream;
-          active = false;
-          cached = cached.empty target.size (not (port == 0));
-          committed = blank_scene target.size;
-        } in
-        room (contexts_full w) m w >>= (λ _. Ok (created (record w.core { contexts = w.core.contexts ++ new ∷ [] }) w))
+    record {
+      handle = w.made + 1;
+      device = d;
+      port = port;
+      target = target.stream;
+      active = false;
+      cached = cached.empty target.size (not (port == 0));
+      committed = blank_scene target.size;
+    } in
+    room (contexts_full w) m w >>= (λ _. Ok (created (record w.core { contexts = w.core.contexts ++ new ∷ [] }) w))
 
 -- a new link of a context to a stream
 abbrev pub link_made : Bool → ℕ → ℕ → Bool → CoreSide → Outcome CoreSide
 link_made mask context stream m w =
     let new : Source = record { handle = w.made + 1; context = context; stream = stream } in
-        room (sources_full w) m w >>= (λ _. Ok (created (with_links mask (links mask w.core ++ new ∷ []) w.core) w))
+    room (sources_full w) m w >>= (λ _. Ok (created (with_links mask (links mask w.core ++ new ∷ []) w.core) w))
 
 -- 0, where a cached scene was changed, or its refusal
 abbrev pub edited_by : Result (Unit {0}) Refused → Result ℕ Refusal
@@ -102,35 +122,18 @@ pub refuses : (plain : Bool → CoreSide → Outcome CoreSide) (core : CoreState
 refuses plain core store r fits is =
     record { case = is; refused = refl; untouched = refl; kept = record { streams = refl; numbered = refl; others = refl }; fits = fits }
 
--- what a call sees of a store that lost handles
-side_left : (core : CoreState) (old new : StoreView) → Loses old new → side_of core new ≡ side_of core old
-side_left core old new lost =
-    ap (λ (v : StoreView). record { made = v.made; streams = v.streams; core = core;
-        display_sources = live_count kind.DisplaySource new.others }) lost.rest
-    ∙ ap (λ n. record { made = old.made; streams = old.streams; core = core; display_sources = n }) lost.display
-
--- what leaves these objects, and a store that lost handles
-pub takes_out : (plain : Bool → CoreSide → Outcome CoreSide) (core after left : CoreState) (store now : StoreView)
-    → (let done : CoreSide × ℕ = (record (side_of core store) { core = after }, 0) in plain false (side_of core store) ≡ Ok done)
-    → left ≡ after → Loses store now → Fits left now → Does plain core left store now (Ok 0)
-takes_out plain core after left store now does is lost fits =
-    let done : CoreSide → Outcome CoreSide = λ w. (let both : CoreSide × ℕ = (w, 0) in Ok both) in
-    record {
-      case = does ∙ sym (ap done (ap (λ (k : CoreState). side_of k now) is ∙ side_left after store now lost));
-      refused = tt;
-      untouched = tt;
-      kept = record { streams = ap (λ (v : StoreView). v.streams) lost.rest; numbered = ap (λ (v : StoreView). v.numbered) lost.rest;
-          others = lost.others };
-      fits = fits;
-    }
-
 -- what does as another call does what that one does
 pub as_other : (plain other : Bool → CoreSide → Outcome CoreSide) (core left : CoreState) (store now : StoreView) (result : Result ℕ Refusal)
     → ((m : Bool) → plain m (side_of core store) ≡ other m (side_of core store)) → Does other core left store now result
     → Does plain core left store now result
 as_other plain other core left store now result same does =
-    record { case = same (lacks_memory result) ∙ does.case; refused = does.refused; untouched = does.untouched; kept = does.kept;
-        fits = does.fits }
+    record {
+      case = same (lacks_memory result) ∙ does.case;
+      refused = does.refused;
+      untouched = does.untouched;
+      kept = does.kept;
+      fits = does.fits;
+    }
 
 module _ (place : ℕ) (after : Step) (core left : CoreState) (store now : StoreView) (result : Result ℕ Refusal)
     (does : Does (in_place place after) core left store now result) where
@@ -140,9 +143,9 @@ module _ (place : ℕ) (after : Step) (core left : CoreState) (store now : Store
   in_owned d h at here =
       let w = side_of core store in
       as_other (λ m w. device d w >>= (λ _. context d h w >>= (λ c. after h m c w))) (in_place place after) core left store now result
-          (λ m. (let go : Context → Outcome CoreSide = λ c. after h m c w in
-              joined (device d w) (λ _. context d h w) go ∙ ap (λ (r : Result Context Refusal). r >>= go) (sym at)
-              ∙ by_handle m (slice_get core.contexts place) here)) does
+      (λ m. (let go : Context → Outcome CoreSide = λ c. after h m c w in
+      joined (device d w) (λ _. context d h w) go ∙ ap (λ (r : Result Context Refusal). r >>= go) (sym at)
+      ∙ by_handle m (slice_get core.contexts place) here)) does
     where
       by_handle : (m : Bool) (o : Option Context) → IfSome o (λ c. c.handle ≡ h)
           → (found code.BadHandle o >>= (λ c. after h m c (side_of core store)))
@@ -156,17 +159,9 @@ module _ (place : ℕ) (after : Step) (core left : CoreState) (store now : Store
   in_owner d e at =
       let w = side_of core store in
       as_other (λ m w. device d w >>= (λ _. element_context d e w >>= (λ c. after c.handle m c w))) (in_place place after) core left store now
-          result
-          (λ m. (let go : Context → Outcome CoreSide = λ c. after c.handle m c w in
-              joined (device d w) (λ _. element_context d e w) go ∙ ap (λ (r : Result Context Refusal). r >>= go) (sym at))) does
-
--- what leaves of the context at a place, and a store that lost handles
-pub takes_in_place : (place : ℕ) (f : Context → CoreState → CoreState) (core left : CoreState) (store now : StoreView) (c : Context)
-    → slice_get core.contexts place ≡ Some c → left ≡ f c core → Loses store now → Fits left now
-    → Does (in_place place (λ _ _ c w. (let done : CoreSide × ℕ = (record w { core = f c w.core }, 0) in Ok done))) core left store now (Ok 0)
-takes_in_place place f core left store now c at is lost fits =
-    takes_out (in_place place (λ _ _ c w. (let done : CoreSide × ℕ = (record w { core = f c w.core }, 0) in Ok done))) core (f c core) left
-        store now (rw at refl) is lost fits
+      result
+      (λ m. (let go : Context → Outcome CoreSide = λ c. after c.handle m c w in
+      joined (device d w) (λ _. element_context d e w) go ∙ ap (λ (r : Result Context Refusal). r >>= go) (sym at))) does
 
 -- what is read of the scene at a place
 pub reads : (place : ℕ) (core : CoreState) (store : StoreView) (call : CachedScene → Result ℕ Refused) (scene : CachedScene)
@@ -183,8 +178,13 @@ reads place core store call scene r fits c at same is = rw is (of_answer (call s
 
     of_answer : (m : Result ℕ Refused) → call scene ≡ m → Does (in_place place (scene_read call)) core core store store (by_scene m)
     of_answer (Ok n) answered =
-        record { case = here (Ok n) answered false; refused = tt; untouched = tt;
-            kept = record { streams = refl; numbered = refl; others = refl }; fits = fits }
+        record {
+          case = here (Ok n) answered false;
+          refused = tt;
+          untouched = tt;
+          kept = record { streams = refl; numbered = refl; others = refl };
+          fits = fits;
+        }
     of_answer (Err x) answered =
         refuses (in_place place (scene_read call)) core store (refusal (refusal_code x)) fits
-            (here (Err x) answered (is_out_of_memory (refusal_code x)))
+        (here (Err x) answered (is_out_of_memory (refusal_code x)))

@@ -54,7 +54,7 @@ pub keyed : {A : Type 0} (k : Kind) (g : A → Live) (handle : ℕ) (xs : List A
     → key_of handle k others ≡ option_map (λ x. (g x).key) (find (λ x. (g x).handle == handle) xs)
 keyed k g handle xs others is =
     ap (option_map (λ (l : Live). l.key)) (find_filtered (λ (l : Live). l.handle == handle) (λ (l : Live). same_kind l.kind k) others
-        ∙ ap (find (λ (l : Live). l.handle == handle)) is ∙ find_mapped (λ (l : Live). l.handle == handle) g xs)
+    ∙ ap (find (λ (l : Live). l.handle == handle)) is ∙ find_mapped (λ (l : Live). l.handle == handle) g xs)
     ∙ mapped_twice (λ (l : Live). l.key) g (find (λ x. (g x).handle == handle) xs)
 
 -- those of a context's elements

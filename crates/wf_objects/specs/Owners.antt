@@ -23,15 +23,10 @@ of_device d handle contexts = find (λ c. (c.handle == handle) && (c.device == d
 abbrev pub of_element : ℕ → ℕ → List Context → Option Context
 of_element d handle contexts = find (λ c. (c.device == d) && has_element handle c.cached) contexts
 
--- what follows a check that was passed, or that was not
-
+-- what follows a check that was passed
 pub passed : {A B E : Type 0} (m : Result A E) (next : Result B E) → Ok tt ≡ without_value m → (m >>= (λ _. next)) ≡ next
 passed (Ok x) next is = refl
 passed (Err r) next is = absurd cc
-
-pub stopped : {A B E : Type 0} (m : Result A E) (next : Result B E) (r : E) → Err r ≡ without_value m → (m >>= (λ _. next)) ≡ Err r
-stopped (Ok x) next r is = absurd cc
-stopped (Err q) next r is = (let same : r ≡ q = cc in ap (λ (x : _). Err x) (sym same))
 
 -- a live device
 abbrev pub live_device : ℕ → CoreSide → Result (Unit {0}) Refusal

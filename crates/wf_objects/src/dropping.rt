@@ -14,7 +14,7 @@ ghost use Rattle.wf_objects.specs.Owners.{LivesAt, live_device};
 ghost use Rattle.wf_objects.specs.Sides.{side_of};
 
 use crate::objects::Objects;
-use wf_model::{Device, Source};
+use crate::rows::{Device, Link};
 use wf_stream::Store;
 
 /// Ends the life of the handle of an object.
@@ -26,7 +26,7 @@ pub(crate) fn drop_handle(store: &mut Store, handle: u32)
 }
 
 /// Leaves out the source or the mask of a handle.
-fn leave_out(links: &mut Vec<Source>, handle: u32)
+fn leave_out(links: &mut Vec<Link>, handle: u32)
     ensures left { links.new.items ≡ without_source handle links.old.items }
     ensures capacity { vec_capacity links.new ≡ vec_capacity links.old }
 {

@@ -120,7 +120,12 @@ impl Objects {
 
     /// Takes an element of the context at a place out of the order, and answers 0. IllegalArgument is one that is not
     /// inserted.
-    pub fn remove_element(&mut self, store: &Store, place: usize, element: u32) -> Result<u32, Refusal>
+    pub fn remove_element(
+        &mut self,
+        store: &Store,
+        place: usize,
+        element: u32,
+    ) -> Result<u32, Refusal>
         requires fits { Fits self.old store.now }
         requires within { place < length self.old.contexts }
         requires lives { LivesAt element place self.old }

@@ -9,13 +9,13 @@ ghost use Rattle.wf_objects.specs.Links.{links, with_links};
 ghost use Rattle.wf_objects.specs.Losses.{Loses, but_context, but_contexts_of};
 ghost use Rattle.wf_objects.specs.Owners.{StandsAt};
 
-use crate::objects::Objects;
 use crate::dropping::drop_handle;
-use wf_model::{Context, Source};
+use crate::objects::Objects;
+use crate::rows::{Context, Link};
 use wf_stream::Store;
 
 /// The handle of the first link of a context.
-fn first_of(links: &[Source], context: u32) -> Option<u32>
+fn first_of(links: &[Link], context: u32) -> Option<u32>
     ensures { result ≡ option_map (λ s. s.handle) (find (λ s. s.context == context) links.now) }
 {
     for link in links {

@@ -1,7 +1,24 @@
 //! Where an object is kept that a call names by its handle.
 
-ghost use Rattle.std.specs.Prelude.{◌≡◌, ◌<◌, ◌&&◌, ◌==◌, ◌||◌, false, not, is_some, option_and_then, option_map, position, slice_get,
-    length, IfOk, IfSome, IsTrue, OnOk};
+ghost use Rattle.std.specs.Prelude.{
+  ◌≡◌,
+  ◌<◌,
+  ◌&&◌,
+  ◌==◌,
+  ◌||◌,
+  false,
+  not,
+  is_some,
+  option_and_then,
+  option_map,
+  position,
+  slice_get,
+  length,
+  IfOk,
+  IfSome,
+  IsTrue,
+  OnOk,
+};
 ghost use Rattle.std.specs.List.{list_any};
 ghost use Rattle.wf_life.specs.Handles.{key_of};
 ghost use Rattle.wf_stream.specs.Streams.{is_stream};
@@ -13,8 +30,8 @@ ghost use Rattle.wf_objects.specs.Sides.{side_of};
 
 use crate::links::is_of_device;
 use crate::objects::Objects;
+use crate::rows::{Context, Link};
 use wf_calls::{Code, Refusal};
-use wf_model::{Context, Source};
 use wf_scene::Cached;
 use wf_stream::{Kind, Store};
 
@@ -35,13 +52,11 @@ fn place_of(contexts: &[Context], handle: u32) -> Option<usize>
 }
 
 /// A source or a mask of a device has the handle.
-fn is_owned(links: &[Source], contexts: &[Context], device: u32, handle: u32) -> bool
+fn is_owned(links: &[Link], contexts: &[Context], device: u32, handle: u32) -> bool
     ensures { result ≡ list_any (λ s. (s.handle == handle) && list_any (λ c. (c.handle == s.context) && (c.device == device)) contexts.now)
         links.now }
 {
-    links
-        .iter()
-        .any(|link| link.handle == handle && is_of_device(contexts, device, link.context))
+    links.iter().any(|link| link.handle == handle && is_of_device(contexts, device, link.context))
 }
 
 impl Objects {
@@ -89,12 +104,7 @@ impl Objects {
     }
 
     /// The place of a context, or the refusal: BadDevice, or BadHandle.
-    pub fn context_place(
-        &self,
-        store: &Store,
-        device: u32,
-        context: u32,
-    ) -> Result<usize, Refusal>
+    pub fn context_place(&self, store: &Store, device: u32, context: u32) -> Result<usize, Refusal>
         requires { Fits self.now store.now }
         ensures found { at_place result self.now.contexts ≡ owned_context device context (side_of self.now store.now) }
         ensures within { IfOk result (λ place. place < length self.now.contexts) }
@@ -119,12 +129,7 @@ impl Objects {
     }
 
     /// The place of the context in which an element lives, or the refusal: BadDevice, or BadHandle.
-    pub fn element_place(
-        &self,
-        store: &Store,
-        device: u32,
-        element: u32,
-    ) -> Result<usize, Refusal>
+    pub fn element_place(&self, store: &Store, device: u32, element: u32) -> Result<usize, Refusal>
         requires { Fits self.now store.now }
         ensures found { at_place result self.now.contexts ≡ owning_context device element (side_of self.now store.now) }
         ensures within { IfOk result (λ place. place < length self.now.contexts) }

@@ -11,6 +11,7 @@ mod making;
 mod marking;
 mod objects;
 mod registers;
+mod rows;
 mod shown;
 
 pub use editing::by_scene;

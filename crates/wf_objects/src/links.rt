@@ -9,8 +9,8 @@ ghost use Rattle.wf_objects.specs.Sides.{side_of};
 ghost use Rattle.wf_objects.specs.Sights.{may_name, named_source};
 
 use crate::objects::Objects;
+use crate::rows::{Context, Link};
 use wf_calls::{Code, Refusal};
-use wf_model::{Context, Source};
 use wf_scene::ElementAttr;
 use wf_stream::Store;
 
@@ -30,18 +30,22 @@ fn is_count(handle: u32, number: i64) -> bool
     number >= 0 && number == i64::from(handle)
 }
 
+/// A number names this link, which is of a context of the device.
+fn is_named(link: &Link, contexts: &[Context], device: u32, number: i64) -> bool
+    ensures named { result ≡ (is_count link.now.handle number
+        && list_any (λ c. (c.handle == link.now.context) && (c.device == device)) contexts.now) }
+    ensures handle { IsTrue result → IsTrue (is_handle number) }
+{
+    is_count(link.handle, number) && is_of_device(contexts, device, link.context)
+}
+
 /// The source or the mask that a number names, where it is of a context of the device.
-fn named_source(
-    sources: &[Source],
-    contexts: &[Context],
-    device: u32,
-    number: i64,
-) -> Option<Source>
+fn named_source(sources: &[Link], contexts: &[Context], device: u32, number: i64) -> Option<Link>
     ensures found { result ≡ named_source device number sources.now contexts.now }
     ensures handle { IsSome result → IsTrue (is_handle number) }
 {
     for source in sources {
-        if is_count(source.handle, number) && is_of_device(contexts, device, source.context) {
+        if is_named(source, contexts, device, number) {
             return Some(*source);
         }
     }
@@ -50,7 +54,7 @@ fn named_source(
 
 /// An element of a context may name the source or the mask of this number, or none by 0.
 fn may_name(
-    sources: &[Source],
+    sources: &[Link],
     contexts: &[Context],
     device: u32,
     owner: u32,

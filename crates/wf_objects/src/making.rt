@@ -10,9 +10,9 @@ ghost use Rattle.wf_objects.specs.Links.{link_kind, links, with_links};
 ghost use Rattle.wf_objects.specs.Sides.{lacks_memory, refused_handle, side_of, without_value};
 
 use crate::objects::{MOST_CONTEXTS, MOST_DEVICES, MOST_ELEMENTS, MOST_SOURCES, Objects};
+use crate::rows::{Context, Device, Link};
 use arrayvec::ArrayVec;
 use wf_calls::{Code, Refusal};
-use wf_model::{Context, Device, Source};
 use wf_pixel::{Rgba, Rotation, Size};
 use wf_scene::{Cached, Scene, Seen};
 use wf_stream::{Kind, MakeStop, Store};
@@ -67,7 +67,7 @@ impl Objects {
     }
 
     /// One more source, or one more mask.
-    fn push_link(&mut self, mask: bool, link: Source)
+    fn push_link(&mut self, mask: bool, link: Link)
         requires { length self.old.sources + length self.old.masks < 256 }
         ensures { self.new ≡ with_links mask (links mask self.old ++ link ∷ []) self.old }
     {
@@ -143,11 +143,14 @@ impl Objects {
             return Err(Refusal::of(Code::Limit));
         }
         let handle = mint(store, link_kind(mask), stream)?;
-        self.push_link(mask, Source {
-            handle,
-            context,
-            stream,
-        });
+        self.push_link(
+            mask,
+            Link {
+                handle,
+                context,
+                stream,
+            },
+        );
         Ok(handle)
     }
 

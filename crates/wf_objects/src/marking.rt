@@ -7,7 +7,7 @@ ghost use Rattle.wf_model.specs.Names.{context_names, core_names, layer_names};
 ghost use Rattle.wf_objects.specs.Marks.{Marks};
 
 use crate::objects::Objects;
-use wf_model::{Context, Source};
+use crate::rows::{Context, Link};
 use wf_scene::Layer;
 use wf_stream::Store;
 
@@ -38,7 +38,7 @@ fn mark_layers(store: &mut Store, layers: &[Layer])
 }
 
 /// Marks the streams of sources or masks.
-fn mark_sources(store: &mut Store, sources: &[Source])
+fn mark_sources(store: &mut Store, sources: &[Link])
     ensures { Marks (map (λ s. s.stream) sources.now) store.old store.new }
 {
     for source in sources {

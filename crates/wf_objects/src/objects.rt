@@ -4,9 +4,9 @@ ghost use Rattle.std.specs.Prelude.{◌≡◌, IfOk};
 ghost use Rattle.wf_model.specs.Objects.{no_objects};
 ghost use Rattle.wf_objects.specs.Links.{links};
 
+use crate::rows::{Context, Device, Link};
 use std::alloc::Global;
 use std::marker::Model;
-use wf_model::{Context, Device, Source};
 use wf_words::NoMemory;
 
 /// How many devices live at most.
@@ -28,8 +28,8 @@ pub struct Objects {
     pub(crate) alloc: Global,
     pub(crate) devices: Vec<Device>,
     pub(crate) contexts: Vec<Context>,
-    pub(crate) sources: Vec<Source>,
-    pub(crate) masks: Vec<Source>,
+    pub(crate) sources: Vec<Link>,
+    pub(crate) masks: Vec<Link>,
 }
 
 impl Model for Objects {
@@ -59,7 +59,7 @@ impl Objects {
     }
 
     /// The sources, or the masks.
-    pub(crate) fn links(&self, mask: bool) -> &[Source]
+    pub(crate) fn links(&self, mask: bool) -> &[Link]
         ensures { result.now ≡ links mask self.now }
     {
         if mask { &self.masks } else { &self.sources }

@@ -9,8 +9,8 @@ ghost use Rattle.wf_objects.specs.Does.{Does};
 ghost use Rattle.wf_objects.specs.Fits.{Fits};
 
 use crate::objects::Objects;
+use crate::rows::Device;
 use wf_calls::{Code, Refusal};
-use wf_model::Device;
 use wf_stream::Store;
 
 /// The device of a handle.
@@ -25,17 +25,6 @@ pub(crate) fn device_at(devices: &[Device], handle: u32) -> Option<Device>
     None
 }
 
-/// A device with this register, where it is the one of a handle.
-fn with_register(device: Device, handle: u32, register: Option<Code>) -> Device
-    ensures { result ≡ (if device.handle == handle then record device { register = register } else device) }
-{
-    if device.handle == handle {
-        Device { register, ..device }
-    } else {
-        device
-    }
-}
-
 /// A register that was offered a code: a full one stays.
 fn recorded(register: Option<Code>, code: Code) -> Option<Code>
     ensures { result ≡ recorded code register }
@@ -46,13 +35,41 @@ fn recorded(register: Option<Code>, code: Code) -> Option<Code>
     }
 }
 
-/// The number of a register, 0 for an empty one.
-fn register_number(register: Option<Code>) -> u32
-    ensures { result ≡ register_number register }
+/// The number of the code in a device's register, 0 for an empty one.
+fn register_number(device: Device) -> u32
+    ensures { result ≡ register_number device.register }
 {
-    match register {
+    match device.register {
         None => 0,
         Some(code) => code.number() as u32,
+    }
+}
+
+/// A device whose register is emptied, where it is the one of a handle.
+fn cleared(device: Device, handle: u32) -> Device
+    ensures { result ≡ (if device.handle == handle then record device { register = None } else device) }
+{
+    if device.handle == handle {
+        Device {
+            register: None,
+            ..device
+        }
+    } else {
+        device
+    }
+}
+
+/// A device whose register is offered a code, where it is the one of a handle.
+fn offered(device: Device, handle: u32, code: Code) -> Device
+    ensures { result ≡ (if device.handle == handle then record device { register = recorded code device.register } else device) }
+{
+    if device.handle == handle {
+        Device {
+            register: recorded(device.register, code),
+            ..device
+        }
+    } else {
+        device
     }
 }
 
@@ -61,7 +78,7 @@ fn clear_in(devices: &mut [Device], handle: u32)
     ensures { devices.new ≡ change (λ x. x.handle) handle (λ x. record x { register = None }) devices.old }
 {
     for place in 0..devices.len() {
-        devices[place] = with_register(devices[place], handle, None);
+        devices[place] = cleared(devices[place], handle);
     }
 }
 
@@ -70,8 +87,7 @@ fn record_in(devices: &mut [Device], handle: u32, code: Code)
     ensures { devices.new ≡ change (λ x. x.handle) handle (λ x. record x { register = recorded code x.register }) devices.old }
 {
     for place in 0..devices.len() {
-        let device = devices[place];
-        devices[place] = with_register(device, handle, recorded(device.register, code));
+        devices[place] = offered(devices[place], handle, code);
     }
 }
 
@@ -85,7 +101,7 @@ impl Objects {
             None => Err(Refusal::of(Code::BadDevice)),
             Some(found) => {
                 clear_in(&mut self.devices, device);
-                Ok(register_number(found.register))
+                Ok(register_number(found))
             }
         }
     }

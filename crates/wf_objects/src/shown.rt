@@ -7,8 +7,8 @@ ghost use Rattle.wf_objects.specs.Shows.{next_of, next_shown, shown_of, shown_co
 
 use crate::objects::Objects;
 use crate::registers::device_at;
+use crate::rows::Context;
 use wf_calls::Code;
-use wf_model::Context;
 use wf_scene::Scene;
 
 /// What a context shows: the number of the stream that it draws into, whether it is active, and its committed scene.

@@ -14,4 +14,4 @@ returns-in-Mask-clause-checked c =
     let same : to_z w64 (of_z w64 number) ≡ number = search rules in
     rw (c.in-Mask.is, ← c.self.view_is)
     (rw (same, c.first-number.ensures, c.deref-in-Mask.ensures.value, c.deref-in-Mask-2.ensures.value) at
-        c.may_name-in-Mask.ensures.checked)
+    c.may_name-in-Mask.ensures.checked)

@@ -34,7 +34,7 @@ returns-then-not-is_owned-clause-owned c =
     let w = side_of a.self.now a.store.now in
     ap Err c.of.ensures
     ∙ sym (ap without_value (passed (device a.device w) (owned_source a.device a.link xs w) c.in_ok-check_device.ensures)
-        ∙ rw (none_at (is_sought k) xs (sym (asked k) ∙ c.if-not-is_owned.true)) refl)
+    ∙ rw (none_at (is_sought k) xs (sym (asked k) ∙ c.if-not-is_owned.true)) refl)
 
 pub returns-clause-owned : goal.returns-clause-owned
 returns-clause-owned c =
@@ -50,4 +50,4 @@ returns-clause-live c =
     let a = c.args in
     let k = (goal.at.returns-clause-live c).After-is_owned in
     any_first (λ (s : Source). s.handle == a.link) (λ (s : Source). is_of_device a.device a.self.now s.context) (links a.mask a.self.now)
-        (sym (asked k) ∙ c.if-not-is_owned.false)
+    (sym (asked k) ∙ c.if-not-is_owned.false)

@@ -19,4 +19,4 @@ returns-clause-fits c =
     let a = c.args in
     let u = context_under a.self.now a.store.now c.requires.fits a.context c.requires.live in
     rw (c.drop_handle.ensures, c.leave_out_context.ensures.left)
-        (rw (← c.self.view_is) at (context_dropped a.self.now a.store.now c.requires.fits a.context u c.requires.bare))
+    (rw (← c.self.view_is) at (context_dropped a.self.now a.store.now c.requires.fits a.context u c.requires.bare))

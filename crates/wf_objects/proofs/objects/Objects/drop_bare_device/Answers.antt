@@ -19,4 +19,4 @@ returns-clause-fits c =
     let a = c.args in
     let u = device_under a.self.now a.store.now c.requires.fits a.device c.requires.live in
     rw (c.drop_handle.ensures, c.leave_out_device.ensures.left)
-        (rw (← c.self.view_is) at (device_dropped a.self.now a.store.now c.requires.fits a.device u))
+    (rw (← c.self.view_is) at (device_dropped a.self.now a.store.now c.requires.fits a.device u))

@@ -2,12 +2,13 @@ use Rattle.std.proofs.Common.{◌≡◌, ◌∙◌, refl, sym, slice_get, Some, 
 use Rattle.wf_life.specs.declared.Kind.TheVariants as kind
 use Rattle.wf_scene.specs.Cached.{forget, has_element}
 use Rattle.wf_model.specs.Composition.{with_cached}
+use Rattle.wf_objects.specs.Rows.{context_of}
 use Rattle.wf_objects.proofs.Dropped.{InContext, element_dropped, element_under, lives, loses}
 use Rattle.wf_objects.proofs.Owners.{standing}
 use Rattle.wf_words.specs.Places.{within}
 use Rattle.wf_objects.proofs.Scenes.{placed_is}
 use Rattle.wf_objects.proofs.objects.Objects.drop_element.Goals as goal
-use Rattle.wf_objects.proofs.objects.Objects.drop_element.Goals.{After-index_mut}
+use Rattle.wf_objects.proofs.objects.Objects.drop_element.Goals.{After-forget}
 
 pub drop_handle-requires : goal.drop_handle-requires
 drop_handle-requires c =
@@ -16,39 +17,42 @@ drop_handle-requires c =
     let has = rw x.1 at c.requires.lives in
     lives a.element kind.Element a.store.now.others (element_under a.self.now a.store.now c.requires.fits a.element a.place x.0 x.1 has).0
 
--- the context at the place
-at : (c : After-index_mut) → slice_get c.args.self.now.contexts c.args.place ≡ Some c.index_mut.result.now
-at c = standing _ c.args.self.now c.args.place c.index_mut.result.now c.self.view_is c.requires.within c.index_mut.ensures.value
-
--- the element lives in it
-here : (c : After-index_mut) → has_element c.args.element c.index_mut.result.now.cached ≡ true
-here c = let there = at c in rw there at c.requires.lives
-
-under : (c : After-index_mut)
-    → InContext c.args.self.now c.args.store.now c.requires.fits c.args.element c.args.place c.index_mut.result.now (at c)
-under c = element_under c.args.self.now c.args.store.now c.requires.fits c.args.element c.args.place c.index_mut.result.now (at c) (here c)
-
 pub forget-requires : goal.forget-requires
-forget-requires c = here (goal.at.forget-requires c).After-index_mut
+forget-requires c =
+    let at = standing _ c.args.self.now c.args.place _ (context_of c.behind-self.inside) c.self.view_is c.requires.within
+    c.index_mut.ensures.value c.behind-self.view_is in
+    rw at at c.requires.lives
+
+-- the context at the place
+at : (c : After-forget) → slice_get c.args.self.now.contexts c.args.place ≡ Some (context_of c.behind-self.inside)
+at c = standing _ c.args.self.now c.args.place _ (context_of c.behind-self.inside) c.self.view_is c.requires.within c.index_mut.ensures.value
+    c.behind-self.view_is
+
+under : (c : After-forget)
+    → InContext c.args.self.now c.args.store.now c.requires.fits c.args.element c.args.place (context_of c.behind-self.inside) (at c)
+under c =
+    let a = c.args in
+    let has : has_element a.element c.behind-self.inside.cached ≡ true = (let there = at c in rw there at c.requires.lives) in
+    element_under a.self.now a.store.now c.requires.fits a.element a.place (context_of c.behind-self.inside) (at c) has
 
 pub returns-clause-dropped : goal.returns-clause-dropped
 returns-clause-dropped c =
     let a = c.args in
-    let x = c.index_mut.result.now in
-    let there = at (goal.at.returns-clause-dropped c).After-index_mut in
+    let x = context_of c.behind-self.inside in
+    let there = at (goal.at.returns-clause-dropped c).After-forget in
     rw (there, c.forget.ensures.forgotten) (rw (← c.self.view_is) refl
-        ∙ sym (placed_is a.self.now a.store.now c.requires.fits a.place x there (with_cached (forget a.element x.cached))))
+    ∙ sym (placed_is a.self.now a.store.now c.requires.fits a.place x there (with_cached (forget a.element x.cached))))
 
 pub returns-clause-loses : goal.returns-clause-loses
 returns-clause-loses c =
     let a = c.args in
-    let u = under (goal.at.returns-clause-loses c).After-index_mut in
+    let u = under (goal.at.returns-clause-loses c).After-forget in
     rw c.drop_handle.ensures (loses a.self.now a.store.now c.requires.fits.handles a.element kind.Element u.0 refl refl)
 
 pub returns-clause-fits : goal.returns-clause-fits
 returns-clause-fits c =
     let a = c.args in
-    let k = (goal.at.returns-clause-fits c).After-index_mut in
+    let k = (goal.at.returns-clause-fits c).After-forget in
     rw (c.drop_handle.ensures, c.forget.ensures.forgotten)
-    (rw (← c.self.view_is) at (element_dropped a.self.now a.store.now c.requires.fits a.element a.place c.index_mut.result.now (at k)
-        (under k)))
+    (rw (← c.self.view_is) at (element_dropped a.self.now a.store.now c.requires.fits a.element a.place (context_of c.behind-self.inside)
+    (at k) (under k)))

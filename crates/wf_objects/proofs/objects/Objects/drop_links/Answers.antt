@@ -4,8 +4,19 @@ use Rattle.wf_model.specs.Objects.{CoreState}
 use Rattle.wf_model.specs.Core.{without_source, without_those_of}
 use Rattle.wf_objects.specs.Links.{links, with_links}
 use Rattle.wf_objects.proofs.Dropped.{then_lost}
-use Rattle.wf_objects.proofs.Remainders.{IsFirst, fewer, first_is, first_leaves, first_lives, first_of, links_with, none_is, rises_links,
-    with_own, with_twice}
+use Rattle.wf_objects.proofs.Remainders.{
+  IsFirst,
+  fewer,
+  first_is,
+  first_leaves,
+  first_lives,
+  first_of,
+  links_with,
+  none_is,
+  rises_links,
+  with_own,
+  with_twice,
+}
 use Rattle.wf_objects.proofs.objects.Objects.drop_links.Goals as goal
 use Rattle.wf_objects.proofs.objects.Objects.drop_links.Goals.{After-first_of, In-Some}
 
@@ -21,15 +32,15 @@ pub drop_link-requires-clause-live : goal.drop_link-requires-clause-live
 drop_link-requires-clause-live c =
     let l = c.loop-link in
     first_lives c.args.context c.in-Some.link (links c.args.mask l.self)
-        (rises_links l.self l.store l.invariant.fits.handles c.args.mask) (first (goal.at.drop_link-requires-clause-live c).In-Some)
+    (rises_links l.self l.store l.invariant.fits.handles c.args.mask) (first (goal.at.drop_link-requires-clause-live c).In-Some)
 
 pub loop-link-smaller : goal.loop-link-smaller
 loop-link-smaller c =
     let l = c.loop-link in
     let xs = links c.args.mask l.self in
     rw (c.drop_link.ensures.dropped, links_with c.args.mask (without_source c.in-Some.link xs) l.self)
-        (fewer c.args.context c.in-Some.link xs (rises_links l.self l.store l.invariant.fits.handles c.args.mask)
-        (first (goal.at.loop-link-smaller c).In-Some))
+    (fewer c.args.context c.in-Some.link xs (rises_links l.self l.store l.invariant.fits.handles c.args.mask)
+    (first (goal.at.loop-link-smaller c).In-Some))
 
 pub loop-link-preserved : goal.loop-link-preserved
 loop-link-preserved c =
@@ -39,7 +50,7 @@ loop-link-preserved c =
     let left = without_source c.in-Some.link xs in
     let of : List Source → List Source = without_those_of c.args.context in
     let leaves = first_leaves c.args.context c.in-Some.link xs (rises_links l.self l.store l.invariant.fits.handles mask)
-        (first (goal.at.loop-link-preserved c).In-Some) in
+    (first (goal.at.loop-link-preserved c).In-Some) in
     record {
       fits = c.drop_link.ensures.fits;
       loses = then_lost c.args.store.now l.store c.drop_link.new.store l.invariant.loses c.drop_link.ensures.loses;
@@ -53,5 +64,5 @@ pub returns-clause-dropped : goal.returns-clause-dropped
 returns-clause-dropped c =
     let l = c.loop-link in
     let none = none_is c.args.context (links c.args.mask l.self)
-        (sym c.in_default.is ∙ told (goal.at.returns-clause-dropped c).After-first_of) in
+    (sym c.in_default.is ∙ told (goal.at.returns-clause-dropped c).After-first_of) in
     sym (ap (λ (ss : List Source). with_links c.args.mask ss l.self) none ∙ with_own c.args.mask l.self) ∙ l.invariant.rest

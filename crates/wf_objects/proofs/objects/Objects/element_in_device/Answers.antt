@@ -11,7 +11,7 @@ found c =
     let a = c.args in
     c.place_in_device.ensures.found
     ∙ sym (owner_is a.self.now a.store.now c.requires.handles a.device a.element
-        ∙ ap (option_and_then (λ owner. of_device a.device owner a.self.now.contexts)) (sym c.key_of.ensures ∙ c.in-Some.is))
+    ∙ ap (option_and_then (λ owner. of_device a.device owner a.self.now.contexts)) (sym c.key_of.ensures ∙ c.in-Some.is))
 
 pub returns-in-Some-clause-found : goal.returns-in-Some-clause-found
 returns-in-Some-clause-found c = found c
@@ -23,4 +23,4 @@ pub returns-in-None-clause-found : goal.returns-in-None-clause-found
 returns-in-None-clause-found c =
     let a = c.args in
     sym (owner_is a.self.now a.store.now c.requires.handles a.device a.element
-        ∙ ap (option_and_then (λ owner. of_device a.device owner a.self.now.contexts)) (sym c.key_of.ensures ∙ c.in-None.is))
+    ∙ ap (option_and_then (λ owner. of_device a.device owner a.self.now.contexts)) (sym c.key_of.ensures ∙ c.in-None.is))

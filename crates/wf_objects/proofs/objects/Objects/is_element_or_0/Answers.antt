@@ -7,4 +7,4 @@ pub returns-else-handle-eq0 : goal.returns-else-handle-eq0
 returns-else-handle-eq0 c =
     let a = c.args in
     c.is_some.ensures ∙ any_element a.device a.handle (side_of a.self.now a.store.now) c.element_in_device.result
-        (ne_eqb a.handle 0 c.if-handle-eq0.false) c.element_in_device.ensures.found c.element_in_device.ensures.within
+    (ne_eqb a.handle 0 c.if-handle-eq0.false) c.element_in_device.ensures.found c.element_in_device.ensures.within

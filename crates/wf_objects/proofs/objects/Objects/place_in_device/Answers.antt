@@ -12,9 +12,9 @@ found : (c : goal.After-place_of) → option_and_then (slice_get c.args.self.now
 found c =
     let a = c.args in
     placed a.self.now a.store.now c.requires.handles a.device a.context c.in-Some.owner c.place_of.result (sym c.key_of.ensures
-        ∙ c.in-Some.is) c.if-owner-device.true
+    ∙ c.in-Some.is) c.if-owner-device.true
     (c.place_of.ensures.place ∙ ap (position (λ (x : Context). x.handle == a.context)) (c.deref.ensures.value
-        ∙ ap (λ (k : CoreState). k.contexts) c.self.view_is))
+    ∙ ap (λ (k : CoreState). k.contexts) c.self.view_is))
 
 pub returns-in-Some-clause-found : goal.returns-in-Some-clause-found
 returns-in-Some-clause-found c = found c
@@ -26,7 +26,7 @@ pub returns-in_default-clause-found : goal.returns-in_default-clause-found
 returns-in_default-clause-found c =
     let a = c.args in
     not_placed a.self.now a.store.now c.requires.handles a.device a.context c.in-Some.owner (sym c.key_of.ensures ∙ c.in-Some.is)
-        c.if-owner-device.false
+    c.if-owner-device.false
 
 pub returns-in_default-2-clause-found : goal.returns-in_default-2-clause-found
 returns-in_default-2-clause-found c =

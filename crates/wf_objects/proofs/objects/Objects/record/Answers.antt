@@ -7,5 +7,9 @@ use Rattle.wf_objects.proofs.objects.Objects.record.Goals as goal
 pub returns-clause-fits : goal.returns-clause-fits
 returns-clause-fits c =
     λ store fits. register_fits c.args.device (recorded c.args.code) c.args.self.now _ store
-    (rw (with_items_is c.self.inside.devices c.record_in.new.devices (omega arith), c.record_in.ensures, c.deref_mut.ensures.value,
-        ← c.self.view_is) refl) fits
+    (rw (
+      with_items_is c.self.inside.devices c.record_in.new.devices (omega arith),
+      c.record_in.ensures,
+      c.deref_mut.ensures.value,
+      ← c.self.view_is,
+    ) refl) fits

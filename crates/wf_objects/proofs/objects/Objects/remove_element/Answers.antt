@@ -2,6 +2,7 @@ use Rattle.std.proofs.Common.{set, subst, sym}
 use Rattle.wf_scene.specs.Cached as cached
 use Rattle.wf_model.specs.Objects.{CoreState}
 use Rattle.wf_objects.specs.Does.{Does, in_place, scene_set}
+use Rattle.wf_objects.specs.Rows.{context_of}
 use Rattle.wf_objects.proofs.Keeping.{remove_keeps}
 use Rattle.wf_objects.proofs.Owners.{standing}
 use Rattle.wf_objects.proofs.Scenes.{edits}
@@ -10,17 +11,18 @@ use Rattle.wf_objects.proofs.objects.Objects.remove_element.Goals as goal
 pub remove-requires : goal.remove-requires
 remove-requires c =
     let a = c.args in
-    let at = standing _ a.self.now a.place c.index_mut.result.now c.self.view_is c.requires.within c.index_mut.ensures.value in
+    let at = standing _ a.self.now a.place _ (context_of c.behind-self.inside) c.self.view_is c.requires.within
+    c.index_mut.ensures.value c.behind-self.view_is in
     rw at at c.requires.lives
 
 pub returns : goal.returns
 returns c =
     let a = c.args in
-    let x = c.index_mut.result.now in
-    let at = standing _ a.self.now a.place x c.self.view_is c.requires.within c.index_mut.ensures.value in
+    let x = context_of c.behind-self.inside in
+    let at = standing _ a.self.now a.place _ x c.self.view_is c.requires.within c.index_mut.ensures.value c.behind-self.view_is in
     let call = cached.remove a.element in
     subst (λ (k : CoreState). Does (in_place a.place (scene_set call)) a.self.now
-        (record k { contexts = set k.contexts a.place (record x { cached = c.remove.new.self }) }) a.store.now a.store.now c.edited.result)
-        (sym c.self.view_is)
+    (record k { contexts = set k.contexts a.place (record x { cached = c.remove.new.self }) }) a.store.now a.store.now c.edited.result)
+    (sym c.self.view_is)
     (edits a.self.now a.store.now c.requires.fits a.place x at call c.remove.result c.remove.new.self c.edited.result c.remove.ensures.case
-        c.remove.ensures.refused (remove_keeps a.element x.cached) c.edited.ensures)
+    c.remove.ensures.refused (remove_keeps a.element x.cached) c.edited.ensures)

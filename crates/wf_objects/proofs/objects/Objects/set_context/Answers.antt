@@ -2,6 +2,7 @@ use Rattle.std.proofs.Common.{set, subst, sym}
 use Rattle.wf_scene.specs.Cached as cached
 use Rattle.wf_model.specs.Objects.{CoreState}
 use Rattle.wf_objects.specs.Does.{Does, in_place, scene_set}
+use Rattle.wf_objects.specs.Rows.{context_of}
 use Rattle.wf_objects.proofs.Keeping.{context_keeps}
 use Rattle.wf_objects.proofs.Owners.{standing}
 use Rattle.wf_objects.proofs.Scenes.{edits}
@@ -10,11 +11,11 @@ use Rattle.wf_objects.proofs.objects.Objects.set_context.Goals as goal
 pub returns : goal.returns
 returns c =
     let a = c.args in
-    let x = c.index_mut.result.now in
-    let at = standing _ a.self.now a.place x c.self.view_is c.requires.within c.index_mut.ensures.value in
+    let x = context_of c.behind-self.inside in
+    let at = standing _ a.self.now a.place _ x c.self.view_is c.requires.within c.index_mut.ensures.value c.behind-self.view_is in
     let call = cached.set_context a.attr a.value in
     subst (λ (k : CoreState). Does (in_place a.place (scene_set call)) a.self.now
-        (record k { contexts = set k.contexts a.place (record x { cached = c.set_context.new.self }) }) a.store.now a.store.now c.edited.result)
-        (sym c.self.view_is)
+    (record k { contexts = set k.contexts a.place (record x { cached = c.set_context.new.self }) }) a.store.now a.store.now c.edited.result)
+    (sym c.self.view_is)
     (edits a.self.now a.store.now c.requires.fits a.place x at call c.set_context.result c.set_context.new.self c.edited.result c.set_context.ensures.case
-        c.set_context.ensures.refused (context_keeps a.attr a.value x.cached) c.edited.ensures)
+    c.set_context.ensures.refused (context_keeps a.attr a.value x.cached) c.edited.ensures)

@@ -6,6 +6,7 @@ use Rattle.wf_model.specs.Objects.{CoreState}
 use Rattle.wf_model.specs.Core.{linked}
 use Rattle.wf_objects.specs.Does.{Does, element_set, in_place}
 use Rattle.wf_objects.specs.Sides.{side_of}
+use Rattle.wf_objects.specs.Rows.{context_of}
 use Rattle.wf_objects.proofs.Keeping.{set_keeps}
 use Rattle.wf_objects.proofs.Owners.{standing}
 use Rattle.wf_objects.proofs.Scenes.{edits, linked_first}
@@ -14,7 +15,8 @@ use Rattle.wf_objects.proofs.objects.Objects.set_element.Goals as goal
 pub set-requires-clause-live : goal.set-requires-clause-live
 set-requires-clause-live c =
     let a = c.args in
-    let at = standing _ a.self.now a.place c.index_mut.result.now c.self.view_is c.requires.within c.index_mut.ensures.value in
+    let at = standing _ a.self.now a.place _ (context_of c.behind-self-2.inside) c.self.view_is c.requires.within
+    c.index_mut.ensures.value c.behind-self-2.view_is in
     rw at at c.requires.lives
 
 pub returns : goal.returns
@@ -22,17 +24,18 @@ returns c =
     let a = c.args in
     let core = a.self.now in
     let store = a.store.now in
-    let x = c.index_mut.result.now in
-    let at = standing _ core a.place x c.self.view_is c.requires.within c.index_mut.ensures.value in
-    let before = standing _ core a.place c.index.result.now c.self.view_is c.requires.within c.index.ensures in
-    let same : c.index.result.now ≡ x = let both = sym before ∙ at in cc in
+    let x = context_of c.behind-self-2.inside in
+    let at = standing _ core a.place _ x c.self.view_is c.requires.within c.index_mut.ensures.value c.behind-self-2.view_is in
+    let y = context_of c.behind-self.inside in
+    let before = standing _ core a.place _ y c.self.view_is c.requires.within c.index.ensures c.behind-self.view_is in
+    let same : y ≡ x = let both = sym before ∙ at in cc in
     let link : linked a.attr a.device x.handle (component a.value 0) (side_of core store) ≡ Ok tt =
-        sym (ap (λ (y : Context). linked a.attr a.device y.handle (component a.value 0) (side_of core store)) same)
-        ∙ sym c.in_ok-check_link.ensures.checked in
+    sym (ap (λ (y : Context). linked a.attr a.device y.handle (component a.value 0) (side_of core store)) same)
+    ∙ sym c.in_ok-check_link.ensures.checked in
     let call = cached.set a.element a.attr a.value in
     subst (λ (k : CoreState). Does (in_place a.place (element_set a.device a.element a.attr a.value)) core
-        (record k { contexts = set k.contexts a.place (record x { cached = c.set.new.self }) }) store store c.edited.result)
-        (sym c.self.view_is)
+    (record k { contexts = set k.contexts a.place (record x { cached = c.set.new.self }) }) store store c.edited.result)
+    (sym c.self.view_is)
     (linked_first core store c.requires.fits a.place x at a.device a.element a.attr a.value c.set.new.self c.edited.result link
     (edits core store c.requires.fits a.place x at call c.set.result c.set.new.self c.edited.result c.set.ensures.case
-        c.set.ensures.refused (set_keeps a.element a.attr a.value x.cached) c.edited.ensures))
+    c.set.ensures.refused (set_keeps a.element a.attr a.value x.cached) c.edited.ensures))
