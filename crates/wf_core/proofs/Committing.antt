@@ -42,7 +42,7 @@ module _ (core : CoreState) (store : StoreView) (fits : Fits core store) (place 
       → ContextFits store.streams (with_committed s c)
   scene_fits s is placed =
       let sound = consistent_fits core store fits c.cached s (without_code (consistent (sight_of (side_of core store)) c.cached)
-          (told (Ok s) is)) placed in
+      (told (Ok s) is)) placed in
       let fit = each_at (ContextFits store.streams) core.contexts place c fits.streams.contexts stands in
       record { target = fit.target; size = sound.0; layers = sound.1 }
     where
@@ -55,12 +55,12 @@ module _ (core : CoreState) (store : StoreView) (fits : Fits core store) (place 
         → Does (λ _. commit d h) core core store store (Err r)
     commit_refused r is =
         in_owned place taken core core store store (Err r)
-            (refuses (in_place place taken) core store r fits (rw (stands, told (Err r) is) refl)) d h at here
+        (refuses (in_place place taken) core store r fits (rw (stands, told (Err r) is) refl)) d h at here
 
     pub commit_taken : (s : Scene) → Ok s ≡ fault_as_refusal (consistent (sight_in store) scene) → (left : CoreState)
         → Does (in_place place (changed (with_committed s))) core left store store (Ok 0)
         → Does (λ _. commit d h) core left store store (Ok 0)
     commit_taken s is left does =
         in_owned place taken core left store store (Ok 0)
-            (as_other (in_place place taken) (in_place place (changed (with_committed s))) core left store store (Ok 0)
-            (λ m. rw (stands, told (Ok s) is) refl) does) d h at here
+        (as_other (in_place place taken) (in_place place (changed (with_committed s))) core left store store (Ok 0)
+        (λ m. rw (stands, told (Ok s) is) refl) does) d h at here

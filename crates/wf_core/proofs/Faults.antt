@@ -1,51 +1,13 @@
 -- The first fault of a cached scene: its place and its rule are small; and where there is none every element keeps all rules.
-use Rattle.std.proofs.Common.{
-  ◌≡◌,
-  ℕ,
-  ◌+◌,
-  ◌<◌,
-  ◌≤◌,
-  Bool,
-  true,
-  false,
-  not,
-  List,
-  [],
-  ◌∷◌,
-  length,
-  position,
-  slice_get,
-  option_map,
-  Option,
-  Some,
-  None,
-  Ok,
-  Err,
-  refl,
-  sym,
-  ap,
-  arith,
-}
+use Rattle.std.proofs.Common.{◌≡◌, ℕ, ◌+◌, ◌<◌, ◌≤◌, Bool, true, false, not, List, [], ◌∷◌, length, position, slice_get, option_map, Option}
+use Rattle.std.proofs.Common.{Some, None, Ok, Err, refl, sym, ap, arith}
 use Rattle.std.specs.List.{AllByRecursion, cons_option}
 use Rattle.wf_scene.specs.declared.look.Fault.{Fault}
 use Rattle.wf_scene.specs.declared.element.Element.{Element}
 use Rattle.wf_scene.specs.declared.Scene.{Scene}
 use Rattle.wf_scene.specs.Cached.{CachedScene, IsOrderly, element_at}
-use Rattle.wf_scene.specs.Consistent.{
-  broken_rule,
-  consistent,
-  elements_of,
-  fault,
-  fault_from,
-  faults_from,
-  has_destination,
-  has_source,
-  inserted_elements,
-  is_covered,
-  is_inside,
-  scene_of,
-  unless,
-}
+use Rattle.wf_scene.specs.Consistent.{broken_rule, consistent, elements_of, fault, fault_from, faults_from, has_destination, has_source}
+use Rattle.wf_scene.specs.Consistent.{inserted_elements, is_covered, is_inside, scene_of, unless}
 use Rattle.wf_scene.specs.Sight.{Sight}
 
 -- of four rules the first that is broken, counted from 1

@@ -1,13 +1,12 @@
 -- What streams show, by their numbers and by their handles; and new links to them.
-use Rattle.std.proofs.Common.{◌≡◌, ℕ, ◌<◌, length, Bool, false, not, ◌&&◌, ◌==◌, List, option_map, Option, Some, None, Ok, IfSome, refl,
-    sym,
-    ap, ◌∙◌}
+use Rattle.std.proofs.Common.{◌≡◌, ℕ, ◌<◌, length, Bool, false, not, ◌&&◌, ◌==◌, List, option_map, Option, Some, None, Ok, IfSome, refl}
+use Rattle.std.proofs.Common.{sym, ap, ◌∙◌}
 use Rattle.wf_words.specs.Rising.{found_above}
 use Rattle.wf_pixel.specs.declared.Format.{Format}
 use Rattle.wf_pixel.specs.declared.Size.{Size}
 use Rattle.wf_stream.specs.Buffers.{Buffers}
-use Rattle.wf_stream.specs.Streams.{KeptStream, IsNumbered, StoreView, buffers_at, number_of, stream_at, stream_of, rises_streams,
-    has_number}
+use Rattle.wf_stream.specs.Streams.{KeptStream, IsNumbered, StoreView, buffers_at, number_of, stream_at, stream_of, rises_streams}
+use Rattle.wf_stream.specs.Streams.{has_number}
 use Rattle.wf_scene.specs.declared.look.Seen.{Seen}
 use Rattle.wf_model.specs.Objects.{CoreState}
 use Rattle.wf_model.specs.Composition.{seen_stream}

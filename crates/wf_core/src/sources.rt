@@ -20,7 +20,11 @@ use wf_stream::Store;
 fn is_unfit(mask: bool, format: Format) -> bool
     ensures { result ≡ is_unfit mask format }
 {
-    if mask { !format.is_a8() } else { format.is_a8() }
+    if mask {
+        !format.is_a8()
+    } else {
+        format.is_a8()
+    }
 }
 
 pub(crate) fn try_link_new(

@@ -58,7 +58,7 @@ module _ {O C R E : Type 0} (after : O → ℕ → C → R → O) (may : O → �
   unfolding home_or
   taken hands xs h h' x a b e ends =
       subst (λ (y : Home O E). Ends after may entry key hands y.object y.journal.items)
-          (ap (home_or h) (some-injective (Some h) (Some h') (sym a ∙ (b ∙ ap some e)))) ends
+      (ap (home_or h) (some-injective (Some h) (Some h') (sym a ∙ (b ∙ ap some e)))) ends
 
   -- the slot is not empty
   pub not_empty : (xs : List (Slot O E)) (h : Home O E) (x : Slot O E) → get_elem? xs 0 ≡ some (Some h) → get_elem? xs 0 ≡ some x → x ≡ None

@@ -1,6 +1,6 @@
 -- From the object taken out to the object put back, one event later.
-use Rattle.std.proofs.Common.{◌≡◌, ℕ, ◌+◌, ◌≤◌, ◌<◌, List, [], ◌∷◌, ◌++◌, length, sum, sym, ap, ◌∙◌, subst, Option, Some, None,
-    vec_capacity, arith}
+use Rattle.std.proofs.Common.{◌≡◌, ℕ, ◌+◌, ◌≤◌, ◌<◌, List, [], ◌∷◌, ◌++◌, length, sum, sym, ap, ◌∙◌, subst, Option, Some, None}
+use Rattle.std.proofs.Common.{vec_capacity, arith}
 use Rattle.std.proofs.lemmas.List.{map-append, length-map}
 use Rattle.wf_desk.specs.declared.event.Event.{Event}
 use Rattle.wf_desk.specs.declared.view.View.{View}
@@ -17,7 +17,7 @@ module _ {O C R E : Type 0} (after : O → ℕ → C → R → O) (may : O → �
       → length history + left ≤ sum key.quotas.items → 0 < left → length h.journal.items < vec_capacity h.journal
   has_room key history h left fits room some_left =
       let a : length h.journal.items ≡ length history = ap length fits.1 ∙ length-map history (λ (e : Event C R). entry e.client e.reply) in
-          let b = fits.2 in omega arith
+      let b = fits.2 in omega arith
 
   -- what the object in hand may answer is what the replay of all events before may answer
   pub asked : (k : Key O) (v : View O C R) (h : Home O E) (e : Event C R) (call : C) → call ≡ e.call → Fits after entry k v.seen h
@@ -39,7 +39,7 @@ module _ {O C R E : Type 0} (after : O → ℕ → C → R → O) (may : O → �
   -- the history with the event is legal
   pub legal_after : (key : Key O) (before : List (Event C R)) (h : Home O E) (e : Event C R) → Fits after entry key before h
       → IsLegal after may key.opening.value before → may h.object e.client e.call e.reply
-          → IsLegal after may key.opening.value (before ++ e ∷ [])
+      → IsLegal after may key.opening.value (before ++ e ∷ [])
   legal_after key before h e fits legal allowed =
       legal_snoc after may key.opening.value before e legal (subst (λ (o : O). may o e.client e.call e.reply) fits.0 allowed)
 
@@ -59,7 +59,7 @@ module _ {O C R E : Type 0} (after : O → ℕ → C → R → O) (may : O → �
   unfolding key_or
   finds_at v history h f k named =
       subst (λ (q : Key O). Fits after entry q history h
-          × IsLegal after may q.opening.value history) (ap (key_or k) (sym f.1 ∙ named)) (f.2, f.3)
+      × IsLegal after may q.opening.value history) (ap (key_or k) (sym f.1 ∙ named)) (f.2, f.3)
 
   -- the object that was not ready is put back as it was
   pub home_back : (v w : View O C R) (h : Home O E) (l : List (ℕ × Slot O E)) → w ≡ v → l ≡ (0, Some h) ∷ []

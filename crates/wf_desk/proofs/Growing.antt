@@ -1,6 +1,6 @@
 -- The steps on the word that is the history's length keep the rule: an event, and a look at the history so far.
-use Rattle.std.proofs.Common.{◌≡◌, ℕ, ◌+◌, ◌%◌, ◌<◌, List, [], ◌∷◌, ◌++◌, length, get_or, set, sym, refl, ap, ◌∙◌, subst, arith, Some,
-    zero, suc}
+use Rattle.std.proofs.Common.{◌≡◌, ℕ, ◌+◌, ◌%◌, ◌<◌, List, [], ◌∷◌, ◌++◌, length, get_or, set, sym, refl, ap, ◌∙◌, subst, arith, Some, zero}
+use Rattle.std.proofs.Common.{suc}
 use Rattle.std.proofs.lemmas.List.{append-nil}
 use mathlib.Core.Option.{some, none, some-injective, some-ne-none}
 use lib.ListN.{get_elem?}
@@ -14,8 +14,8 @@ use Rattle.wf_desk.specs.declared.view.Key.{Key}
 use Rattle.wf_desk.specs.History.{replay, IsLegal}
 use Rattle.wf_desk.specs.Rule.{HasObject, Stands, IsHand, Knows, Slot, Kept}
 use Rattle.wf_desk.specs.Plays.{with_event, at_stage, grown, grew, caught}
-use Rattle.wf_desk.proofs.Logs.{queue_set, set_at, weights_at, prefix_all, prefix_more, events_of-own, events_of-other, legal_snoc,
-    weights_set, length_snoc}
+use Rattle.wf_desk.proofs.Logs.{queue_set, set_at, weights_at, prefix_all, prefix_more, events_of-own, events_of-other, legal_snoc}
+use Rattle.wf_desk.proofs.Logs.{weights_set, length_snoc}
 use Rattle.wf_desk.proofs.Moves.{not_has, none_before, moves, seats_stay}
 use Rattle.wf_desk.proofs.Tickets.{one_has, holds_at}
 
@@ -55,9 +55,9 @@ module _ {O C R E : Type 0} (after : O → ℕ → C → R → O) (may : O → �
     grows slots cs d e q named one client left allowed s r wide at _ =
         let x : ℕ = get_or s.words 0 0 in let is : x ≡ length r.history = ap (λ (ws : List ℕ). get_or ws 0 0) r.words in
         let k = r.each id v at in let st = holds_at after may entry key id n v has s r at in let bound = r.bound in let room = r.room in
-            let log : Log = r.history ++ e ∷ [] in
+        let log : Log = r.history ++ e ∷ [] in
         let own : r.drawer r.spent ≡ id = ap r.drawer (sym st.0) ∙ st.2 in let w : V = grown v e in
-            let below = weights_at s.views id v at in
+        let below = weights_at s.views id v at in
         let up : (x + 1) % 18446744073709551616 ≡ length log = let l = length_snoc r.history e in omega arith in
         let mine = k.hands 0 d (ap (λ (l : List (Hand C R)). get_elem? l 0) one) in (
           w,
@@ -78,19 +78,26 @@ module _ {O C R E : Type 0} (after : O → ℕ → C → R → O) (may : O → �
             count = r.count;
             legal = legal_snoc after may key.opening.value r.history e r.legal
                 (subst (λ (z : Key O × Log). may (replay after z.0.opening.value z.1) e.client e.call e.reply)
-                    (λ i. (k.key_is q named i, st.3 i)) allowed);
+                (λ i. (k.key_is q named i, st.3 i)) allowed);
             room = let l = length_snoc r.history e in let q = weights_set s.views id v w at in omega arith;
             unborn = λ c le. let lt = mine.2 in events_of-other c r.history e (λ same. omega (arith, same, client)) ∙ r.unborn c le;
             each = seats_stay (Knows key r.drawn r.spent r.drawer log r.seats r.next) s.views id w
                 record {
                   key_is = k.key_is;
-                  stands = subst (Stands r.drawn r.spent r.drawer log id w.seen) (sym has) (st.0, st.1, st.2,
-                      ap (λ (l : Log). l ++ e ∷ []) st.3);
+                  stands = subst (Stands r.drawn r.spent r.drawer log id w.seen) (sym has) (
+                    st.0,
+                    st.1,
+                    st.2,
+                    ap (λ (l : Log). l ++ e ∷ []) st.3,
+                  );
                   seen = ([], ap (λ (l : Log). l ++ e ∷ []) (sym st.3) ∙ sym (append-nil (v.seen ++ e ∷ [])));
                   told = prefix_more v.told r.history (e ∷ []) k.told;
-                  hands = λ i g f. subst (IsHand log r.seats r.next id) (only e d one i g f)
-                      (ap (λ (l : Log). l ++ e ∷ []) mine.0 ∙ sym (events_of-own d.client r.history e (sym client)), mine.1, mine.2,
-                          prefix_more d.seen r.history (e ∷ []) mine.3);
+                  hands = λ i g f. subst (IsHand log r.seats r.next id) (only e d one i g f) (
+                    ap (λ (l : Log). l ++ e ∷ []) mine.0 ∙ sym (events_of-own d.client r.history e (sym client)),
+                    mine.1,
+                    mine.2,
+                    prefix_more d.seen r.history (e ∷ []) mine.3,
+                  );
                   holder = λ _. (_, ap (λ (l : List (Hand C R)). get_elem? (with_event e l) 0) one);
                   root = k.root;
                 }
@@ -100,10 +107,13 @@ module _ {O C R E : Type 0} (after : O → ℕ → C → R → O) (may : O → �
                       (one_has r.drawn r.spent r.drawer r.history u.seen id j u.stage own other q.stands) q.stands;
                   seen = prefix_more u.seen r.history (e ∷ []) q.seen;
                   told = prefix_more u.told r.history (e ∷ []) q.told;
-                  hands = λ i g p. let y = q.hands i g p in
-                      (y.0 ∙ sym
-                          (events_of-other g.client r.history e (λ same. other (sym y.1 ∙ (ap r.seats (sym same ∙ sym client) ∙ mine.1)))),
-                          y.1, y.2, prefix_more g.seen r.history (e ∷ []) y.3);
+                  hands = λ i g p. let y = q.hands i g p in (
+                    y.0 ∙ sym
+                        (events_of-other g.client r.history e (λ same. other (sym y.1 ∙ (ap r.seats (sym same ∙ sym client) ∙ mine.1)))),
+                    y.1,
+                    y.2,
+                    prefix_more g.seen r.history (e ∷ []) y.3,
+                  );
                   holder = q.holder;
                   root = q.root;
                 });

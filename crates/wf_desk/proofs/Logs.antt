@@ -1,6 +1,6 @@
 -- Lists, histories that grow by one event, and sums over seats.
-use Rattle.std.proofs.Common.{◌≡◌, ◌≢◌, ℕ, ◌+◌, ◌≤◌, Bool, true, false, cond, List, [], ◌∷◌, ◌++◌, map, length, set, append_assoc, refl,
-    sym, ap, ◌∙◌, arith, eq-eqb, ne_eqb, eqb, zero, suc, inl, inr, ◌⊎◌}
+use Rattle.std.proofs.Common.{◌≡◌, ◌≢◌, ℕ, ◌+◌, ◌≤◌, Bool, true, false, cond, List, [], ◌∷◌, ◌++◌, map, length, set, append_assoc, refl}
+use Rattle.std.proofs.Common.{sym, ap, ◌∙◌, arith, eq-eqb, ne_eqb, eqb, zero, suc, inl, inr, ◌⊎◌}
 use Rattle.std.proofs.lemmas.List.{append-nil, length-append}
 use mathlib.Core.Option.{some, some-ne-none, some-injective}
 use lib.ListN.{get_elem?}
@@ -51,7 +51,7 @@ module _ {C R : Type 0} where
   events_of-append c (e ∷ es) ys =
       let h = events_of-append c es ys in
       elim (eqb e.client c) as (λ b. cond b (e ∷ events_of c (es ++ ys)) (events_of c (es ++ ys))
-          ≡ cond b (e ∷ events_of c es) (events_of c es) ++ events_of c ys)
+      ≡ cond b (e ∷ events_of c es) (events_of c es) ++ events_of c ys)
       [ true ↦ (λ i. e ∷ h i) | false ↦ h ]
 
   -- after an event of the client, and of another
@@ -61,7 +61,7 @@ module _ {C R : Type 0} where
   pub events_of-other : (c : ℕ) (xs : List (Event C R)) (e : Event C R) → e.client ≢ c → events_of c (xs ++ e ∷ []) ≡ events_of c xs
   events_of-other c xs e h =
       events_of-append c xs (e ∷ []) ∙ (ap (λ (b : Bool). events_of c xs ++ cond b (e ∷ []) []) (ne_eqb e.client c h)
-          ∙ append-nil (events_of c xs))
+      ∙ append-nil (events_of c xs))
 
   -- an event of the client stands last
   pub last_here : (c : ℕ) (xs : List (Event C R)) (e : Event C R) → e.client ≡ c → IsLastAt c (xs ++ e ∷ []) (length xs)
@@ -72,7 +72,7 @@ module _ {C R : Type 0} where
       → IsLastAt c ys place
   last_stays c xs ys place p same l =
       let none_ : events_of c p.0 ≡ [] = nothing_more (events_of c xs) (events_of c p.0) (sym (events_of-append c xs p.0)
-          ∙ (ap (events_of c) (sym p.1) ∙ same)) in
+      ∙ (ap (events_of c) (sym p.1) ∙ same)) in
       record {
         before = l.before;
         last = l.last;

@@ -1,6 +1,6 @@
 -- A step after which the history is the same.
-use Rattle.std.proofs.Common.{◌≡◌, ◌≢◌, ℕ, ◌+◌, ◌<◌, ◌≤◌, List, [], ◌∷◌, length, get_or, set, sym, refl, ap, ◌∙◌, subst, ⊎_elim, arith,
-    Some}
+use Rattle.std.proofs.Common.{◌≡◌, ◌≢◌, ℕ, ◌+◌, ◌<◌, ◌≤◌, List, [], ◌∷◌, length, get_or, set, sym, refl, ap, ◌∙◌, subst, ⊎_elim, arith}
+use Rattle.std.proofs.Common.{Some}
 use mathlib.Core.Logic.{dite}
 use mathlib.Core.Option.{some, some-injective}
 use native.Mathlib.Decide.{ℕ_discrete}
@@ -91,7 +91,7 @@ module _ {O C R E : Type 0} (after : O → ℕ → C → R → O) (may : O → �
   -- a step that changes nothing
   pub unmoved : (s : St) (r : Rule s) (id : ℕ) (v : V) → get_elem? s.views id ≡ some v → (HasObject v.stage → ⊥) → (i : ℕ)
       → set (length r.history ∷ r.drawn ∷ r.spent ∷ []) i (get_or (length r.history ∷ r.drawn ∷ r.spent ∷ []) i 0) ≡ length r.history
-          ∷ r.drawn ∷ r.spent ∷ []
+      ∷ r.drawn ∷ r.spent ∷ []
       → Rule record { words = set s.words i (get_or s.words i 0); homes = s.homes; views = set s.views id v }
   unmoved s r id v at not i same =
       moves s r id v at v refl (set s.words i (get_or s.words i 0)) s.homes r.drawn r.spent r.drawer

@@ -89,11 +89,15 @@ module _ {O C R E : Type 0} (after : O → ℕ → C → R → O) (may : O → �
   pub sits_told : (seat seat' : Seat (Slot O E) (View O C R)) (client left place : ℕ) → Sits after may seat client left place
       → (w : View O C R) (history : List (Event C R))
       → seat'.me ≡ (at_stage (noting seat.me.0 w) seat.me.0.stage history, []) → IsPrefix seat.me.0.seen history
-          → AllMine history seat.me.0.hands
+      → AllMine history seat.me.0.hands
       → ((k : Key O) → seat.me.0.key ≡ Some k → IsLegal after may k.opening.value history) → Sits after may seat' client left place
   sits_told seat seat' client left place s w history is longer all legal =
-      subst (λ (m : Sat O C R E). Sits after may record { marker = seat'.marker; table_id = seat'.table_id; id = seat'.id;
-          me = m } client left place) (sym is)
+      subst (λ (m : Sat O C R E). Sits after may record {
+        marker = seat'.marker;
+        table_id = seat'.table_id;
+        id = seat'.id;
+        me = m;
+      } client left place) (sym is)
       (let d = s.hand in let same = all_mine seat client left place s history all in
       record {
         key = s.key;
@@ -125,18 +129,34 @@ module _ {O C R E : Type 0} (after : O → ℕ → C → R → O) (may : O → �
   pub sits_same : (seat seat' : Seat (Slot O E) (View O C R)) (client left place : ℕ) → Sits after may seat client left place
       → seat'.me ≡ seat.me → Sits after may seat' client left place
   sits_same seat seat' client left place s same =
-      subst (λ (m : Sat O C R E). Sits after may record { marker = seat'.marker; table_id = seat'.table_id; id = seat'.id;
-          me = m } client left place) (sym same)
-      record { key = s.key; idle = s.idle; free = s.free; hand = s.hand; left_is = s.left_is; plain = s.plain; legal = s.legal;
-          last = s.last }
+      subst (λ (m : Sat O C R E). Sits after may record {
+        marker = seat'.marker;
+        table_id = seat'.table_id;
+        id = seat'.id;
+        me = m;
+      } client left place) (sym same)
+      record {
+        key = s.key;
+        idle = s.idle;
+        free = s.free;
+        hand = s.hand;
+        left_is = s.left_is;
+        plain = s.plain;
+        legal = s.legal;
+        last = s.last;
+      }
 
   -- a new pass
   pub sits_fresh : (seat : Seat (Slot O E) (View O C R)) (v : View O C R) (key : Key O) (client left : ℕ) → seat.me ≡ (pass_of v, [])
       → v.key ≡ Some key
       → v.next ≡ client → head_of v.quotas ≡ left → Sits after may seat client left 0
   sits_fresh seat v key client left is named next quota =
-      subst (λ (m : Sat O C R E). Sits after may record { marker = seat.marker; table_id = seat.table_id; id = seat.id;
-          me = m } client left 0) (sym is)
+      subst (λ (m : Sat O C R E). Sits after may record {
+        marker = seat.marker;
+        table_id = seat.table_id;
+        id = seat.id;
+        me = m;
+      } client left 0) (sym is)
       record {
         key = (key, named);
         idle = refl;

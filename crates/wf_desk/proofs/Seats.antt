@@ -1,7 +1,7 @@
 -- Seats that are cut in two and made one keep the rule, and so does a new table.
-use Rattle.std.proofs.Common.{◌≡◌, ◌≢◌, ℕ, ◌+◌, ◌<◌, ◌≤◌, eqb, Bool, true, List, [], ◌∷◌, ◌++◌, length, set, sum, sym, refl, ap, ◌∙◌,
-    subst, ◌⊎◌, ⊎_elim, arith, Option, Some, None, vec_capacity, cond, inl, inr, le_refl, le_of_eq, length-set, eq-eqb, ne_eqb, le_trans,
-    zero, suc}
+use Rattle.std.proofs.Common.{◌≡◌, ◌≢◌, ℕ, ◌+◌, ◌<◌, ◌≤◌, eqb, Bool, true, List, [], ◌∷◌, ◌++◌, length, set, sum, sym, refl, ap, ◌∙◌, subst}
+use Rattle.std.proofs.Common.{◌⊎◌, ⊎_elim, arith, Option, Some, None, vec_capacity, cond, inl, inr, le_refl, le_of_eq, length-set, eq-eqb}
+use Rattle.std.proofs.Common.{ne_eqb, le_trans, zero, suc}
 use Rattle.std.proofs.lemmas.Bool.{false≢true}
 use Rattle.std.proofs.lemmas.Option.{none-some}
 use Rattle.std.proofs.lemmas.List.Sums.{sum_by-cons}
@@ -52,7 +52,7 @@ module _ {O C R E : Type 0} (after : O → ℕ → C → R → O) (may : O → �
   cuts : (s : State S V) (r : Rule s) (id : ℕ) (v : V) → get_elem? s.views id ≡ some v → v.stage ≡ Idle → (l x : V) → l.stage ≡ Idle
       → x.stage ≡ Idle → weight l + weight x ≡ weight v → (seat' : ℕ → ℕ) (next' : ℕ) → r.next ≤ next' → next' ≤ length key.quotas.items
       → Knows key r.drawn r.spent r.drawer r.history seat' next' id l
-          → Knows key r.drawn r.spent r.drawer r.history seat' next' (length s.views) x
+      → Knows key r.drawn r.spent r.drawer r.history seat' next' (length s.views) x
       → ((j : ℕ) (u : V) → j ≢ id → get_elem? s.views j ≡ some u → Knows key r.drawn r.spent r.drawer r.history seat' next' j u)
       → Rule record { words = s.words; homes = s.homes; views = set s.views id l ++ x ∷ [] }
   cuts s r id v at idle l x rest_l rest_x same seat' next' more upto left right others = record {
@@ -75,8 +75,8 @@ module _ {O C R E : Type 0} (after : O → ℕ → C → R → O) (may : O → �
     unborn = λ c le. r.unborn c (le_trans more le);
     each = λ j u e. ⊎_elim (λ was. seats_stay (Knows key r.drawn r.spent r.drawer r.history seat' next') s.views id l left others j u was)
         (λ (t : (j ≡ length (set s.views id l)) × (x ≡ u)). subst
-            (λ (z : ℕ × V). Knows key r.drawn r.spent r.drawer r.history seat' next' z.0 z.1)
-            (λ i. (sym (t.0 ∙ length-set s.views id l) i, t.1 i)) right)
+        (λ (z : ℕ × V). Knows key r.drawn r.spent r.drawer r.history seat' next' z.0 z.1)
+        (λ i. (sym (t.0 ∙ length-set s.views id l) i, t.1 i)) right)
         (at_end (set s.views id l) x u j e);
     home = λ free. r.home (none_before s.views id v l at (not_has v.stage idle)
         (λ j u e. free j u (at_longer (set s.views id l) (x ∷ []) j u e)));
@@ -85,8 +85,15 @@ module _ {O C R E : Type 0} (after : O → ℕ → C → R → O) (may : O → �
   pub notes : (id : ℕ) (v : V) → v.stage ≡ Idle → Splits Rule id v v (note_of v)
   notes id v idle s r at = let k = r.each id v at in
       cuts s r id v at idle v (note_of v) idle refl (omega arith) r.seats r.next (le_refl r.next) r.count k
-      record { key_is = λ q e. absurd (none-some q e); stands = tt; seen = k.seen; told = (r.history, refl);
-          hands = λ i h e. absurd (some-ne-none h (sym e)); holder = λ h. absurd h; root = λ e. absurd (false≢true e) }
+      record {
+        key_is = λ q e. absurd (none-some q e);
+        stands = tt;
+        seen = k.seen;
+        told = (r.history, refl);
+        hands = λ i h e. absurd (some-ne-none h (sym e));
+        holder = λ h. absurd h;
+        root = λ e. absurd (false≢true e);
+      }
       (λ j u other e. r.each j u e)
 
   -- the next client's number is dealt out
@@ -110,18 +117,27 @@ module _ {O C R E : Type 0} (after : O → ℕ → C → R → O) (may : O → �
       → ℕ = deal_seat r.next new r.seats in let here = k.root root in let longer : length v.quotas ≡ suc (length qs) = ap length more in
       let shorter : length (tail_of v.quotas) ≡ length qs = ap (λ (l : List ℕ). length (tail_of l)) more in
       cuts s r id v at idle (dealt v) (pass_of v) idle refl (let h = split_weight v.quotas in
-          omega arith) seat (r.next + 1) (omega arith) (let a = here.1 in let b = here.2 in omega arith)
-      record { key_is = k.key_is; stands = k.stands; seen = k.seen; told = k.told;
-          hands = λ i h e. dealt_hand r.history r.seats r.next new id h (k.hands i h e); holder = k.holder;
-          root = λ _. (here.0, ap (λ (n : ℕ). n + 1) here.1, (let b = here.2 in omega arith)) }
+      omega arith) seat (r.next + 1) (omega arith) (let a = here.1 in let b = here.2 in omega arith)
+      record {
+        key_is = k.key_is;
+        stands = k.stands;
+        seen = k.seen;
+        told = k.told;
+        hands = λ i h e. dealt_hand r.history r.seats r.next new id h (k.hands i h e);
+        holder = k.holder;
+        root = λ _. (here.0, ap (λ (n : ℕ). n + 1) here.1, (let b = here.2 in omega arith));
+      }
       record {
         key_is = k.key_is;
         stands = tt;
         seen = (r.history, refl);
         told = (r.history, refl);
-        hands = λ i h e. subst (IsHand r.history seat (r.next + 1) new) (first (pass_of v) i h e)
-            (sym (r.unborn v.next (le_of_eq (sym here.1))), ap (λ (b : Bool). cond b new (r.seats v.next)) (eq-eqb v.next r.next here.1),
-                (let q = here.1 in omega arith), (r.history, refl));
+        hands = λ i h e. subst (IsHand r.history seat (r.next + 1) new) (first (pass_of v) i h e) (
+          sym (r.unborn v.next (le_of_eq (sym here.1))),
+          ap (λ (b : Bool). cond b new (r.seats v.next)) (eq-eqb v.next r.next here.1),
+          (let q = here.1 in omega arith),
+          (r.history, refl),
+        );
         holder = λ h. absurd h;
         root = λ e. absurd (false≢true e);
       }
@@ -146,8 +162,12 @@ module _ {O C R E : Type 0} (after : O → ℕ → C → R → O) (may : O → �
   kept_hand : (log : Log) (seat : ℕ → ℕ) (next id other j : ℕ) (h : Hand C R) → j ≢ other → IsHand log seat next j h
       → IsHand log (join_seat id other seat) next j h
   unfolding join_seat
-  kept_hand log seat next id other j h apart k = (k.0,
-      ap (λ (b : Bool). cond b id (seat h.client)) (ne_eqb (seat h.client) other (λ e. apart (sym k.1 ∙ e))) ∙ k.1, k.2, k.3)
+  kept_hand log seat next id other j h apart k = (
+    k.0,
+    ap (λ (b : Bool). cond b id (seat h.client)) (ne_eqb (seat h.client) other (λ e. apart (sym k.1 ∙ e))) ∙ k.1,
+    k.2,
+    k.3,
+  )
 
   moved_hand : (log : Log) (seat : ℕ → ℕ) (next id other : ℕ) (h : Hand C R) → IsHand log seat next other h
       → IsHand log (join_seat id other seat) next id h
@@ -161,44 +181,64 @@ module _ {O C R E : Type 0} (after : O → ℕ → C → R → O) (may : O → �
       → Rule record { words = s.words; homes = s.homes; views = set (set s.views id both) other blank }
   glues s r id v at idle other w both apart there rest light still mine = let seat : ℕ → ℕ = join_seat id other r.seats in
       let K = Knows key r.drawn r.spent r.drawer r.history seat r.next in record {
-    history = r.history;
-    drawn = r.drawn;
-    spent = r.spent;
-    drawer = r.drawer;
-    seats = seat;
-    next = r.next;
-    words = r.words;
-    order = r.order;
-    line = let a = queue_set s.views id v both at in let b = queue_set (set s.views id both) other w blank there in let e = r.line in
-        let x : ticket_count v.stage ≡ 0 = ap ticket_count idle in let y : ticket_count both.stage ≡ 0 = ap ticket_count still in
-        let z : ticket_count w.stage ≡ 0 = ap ticket_count rest in omega arith;
-    small = r.small;
-    bound = r.bound;
-    count = r.count;
-    legal = r.legal;
-    room = let a = weights_set s.views id v both at in let b = weights_set (set s.views id both) other w blank there in let room = r.room in
-        omega arith;
-    unborn = r.unborn;
-    each = seats_stay K (set s.views id both) other blank
-        record { key_is = λ q e. absurd (none-some q e); stands = tt; seen = (r.history, refl); told = (r.history, refl);
-            hands = λ i h e. absurd (some-ne-none h (sym e)); holder = λ h. absurd h; root = λ e. absurd (false≢true e) }
-        (λ j u not_other e. ⊎_elim (λ (t : (j ≡ id) × (both ≡ u)). subst (λ (z : ℕ × V). K z.0 z.1) (λ i. (sym t.0 i, t.1 i)) mine)
-        (λ (t : (j ≢ id) × (get_elem? s.views j ≡ some u)). let q = r.each j u t.1 in
-            record { key_is = q.key_is; stands = q.stands; seen = q.seen; told = q.told;
-            hands = λ i h f. kept_hand r.history r.seats r.next id other j h not_other (q.hands i h f); holder = q.holder; root = q.root })
-        (at_set s.views id j both u e));
-    home = λ free. r.home (none_before s.views id v both at (not_has v.stage idle)
-        (none_before (set s.views id both) other w blank there (not_has w.stage rest) free));
-  }
+        history = r.history;
+        drawn = r.drawn;
+        spent = r.spent;
+        drawer = r.drawer;
+        seats = seat;
+        next = r.next;
+        words = r.words;
+        order = r.order;
+        line = let a = queue_set s.views id v both at in let b = queue_set (set s.views id both) other w blank there in let e = r.line in
+            let x : ticket_count v.stage ≡ 0 = ap ticket_count idle in let y : ticket_count both.stage ≡ 0 = ap ticket_count still in
+            let z : ticket_count w.stage ≡ 0 = ap ticket_count rest in omega arith;
+        small = r.small;
+        bound = r.bound;
+        count = r.count;
+        legal = r.legal;
+        room = let a = weights_set s.views id v both at in let b = weights_set (set s.views id both) other w blank there in
+            let room = r.room in omega arith;
+        unborn = r.unborn;
+        each = seats_stay K (set s.views id both) other blank
+            record {
+              key_is = λ q e. absurd (none-some q e);
+              stands = tt;
+              seen = (r.history, refl);
+              told = (r.history, refl);
+              hands = λ i h e. absurd (some-ne-none h (sym e));
+              holder = λ h. absurd h;
+              root = λ e. absurd (false≢true e);
+            }
+            (λ j u not_other e. ⊎_elim (λ (t : (j ≡ id) × (both ≡ u)). subst (λ (z : ℕ × V). K z.0 z.1) (λ i. (sym t.0 i, t.1 i)) mine)
+            (λ (t : (j ≢ id) × (get_elem? s.views j ≡ some u)). let q = r.each j u t.1 in
+            record {
+              key_is = q.key_is;
+              stands = q.stands;
+              seen = q.seen;
+              told = q.told;
+              hands = λ i h f. kept_hand r.history r.seats r.next id other j h not_other (q.hands i h f);
+              holder = q.holder;
+              root = q.root;
+            })
+            (at_set s.views id j both u e));
+        home = λ free. r.home (none_before s.views id v both at (not_has v.stage idle)
+            (none_before (set s.views id both) other w blank there (not_has w.stage rest) free));
+      }
 
   pub tells : (id : ℕ) (v : V) (other : ℕ) (w : V) → v.stage ≡ Idle → w.stage ≡ Idle → w.hands ≡ []
       → Joins Rule id v other w (noting v w) blank
   tells id v other w idle rest none_ s r at apart there = let k = r.each id v at in
       let q = r.each other w (sym (set_else s.views id other (noting v w) apart) ∙ there) in
       glues s r id v at idle other w (noting v w) apart there rest (omega arith) idle
-      record { key_is = k.key_is; stands = k.stands; seen = k.seen; told = q.seen;
-          hands = λ i h e. kept_hand r.history r.seats r.next id other id h (λ e'. apart (sym e')) (k.hands i h e); holder = k.holder;
-          root = k.root }
+      record {
+        key_is = k.key_is;
+        stands = k.stands;
+        seen = k.seen;
+        told = q.seen;
+        hands = λ i h e. kept_hand r.history r.seats r.next id other id h (λ e'. apart (sym e')) (k.hands i h e);
+        holder = k.holder;
+        root = k.root;
+      }
 
   abbrev stamp : Log → Hand C R → Hand C R
   stamp seen h = record { client = h.client; mine = h.mine; seen = seen }
@@ -215,7 +255,7 @@ module _ {O C R E : Type 0} (after : O → ℕ → C → R → O) (may : O → �
         hands = λ i h e. ⊎_elim (λ was. kept_hand r.history r.seats r.next id other id h (λ e'. apart (sym e')) (k.hands i h was))
             (λ (t : (j : ℕ) × (get_elem? (stamped w.seen w.hands) j ≡ some h)). let m = at_mapped (stamp w.seen) w.hands t.0 h t.1 in
             subst (IsHand r.history (join_seat id other r.seats) r.next id) m.2
-                (let f = moved_hand r.history r.seats r.next id other m.0 (q.hands t.0 m.0 m.1) in (f.0, f.1, f.2, q.seen)))
+            (let f = moved_hand r.history r.seats r.next id other m.0 (q.hands t.0 m.0 m.1) in (f.0, f.1, f.2, q.seen)))
             (in_either v.hands (stamped w.seen w.hands) i h e);
         holder = λ h. absurd (not_has v.stage idle h);
         root = k.root;
@@ -247,8 +287,15 @@ module _ {O C R E : Type 0} (after : O → ℕ → C → R → O) (may : O → �
     where
       first : (j : ℕ) (w : V) → get_elem? (starting key ∷ []) j ≡ some w → Knows key 0 0 (λ n. n) [] (λ n. n) 0 j w
       first zero w e = subst (Knows key 0 0 (λ n. n) [] (λ n. n) 0 0) (some-injective (starting key) w e)
-          record { key_is = λ k f. ap (key_or key) (sym f); stands = tt; seen = ([], refl); told = ([], refl);
-              hands = λ i g f. absurd (some-ne-none g (sym f)); holder = λ x. absurd x; root = λ _. (refl, refl, omega arith) }
+          record {
+            key_is = λ k f. ap (key_or key) (sym f);
+            stands = tt;
+            seen = ([], refl);
+            told = ([], refl);
+            hands = λ i g f. absurd (some-ne-none g (sym f));
+            holder = λ x. absurd x;
+            root = λ _. (refl, refl, omega arith);
+          }
       first (suc j) w e = absurd (some-ne-none w (sym e))
 
   pub opens_with : (before slots : List S) (h : Home O E) → before ≡ [] → slots ≡ before ++ Some h ∷ [] → h.object ≡ key.opening.value

@@ -1,6 +1,6 @@
 -- The steps on the two words of tickets keep the rule: a ticket is drawn, the object is taken out, a ticket is spent.
-use Rattle.std.proofs.Common.{◌≡◌, ◌≢◌, ℕ, ◌+◌, ◌%◌, ◌<◌, ◌≤◌, eqb, Bool, List, [], ◌∷◌, length, get_or, set, sum, sym, refl, ap, ◌∙◌,
-    subst, arith, Some, cond, eq-eqb, ne_eqb}
+use Rattle.std.proofs.Common.{◌≡◌, ◌≢◌, ℕ, ◌+◌, ◌%◌, ◌<◌, ◌≤◌, eqb, Bool, List, [], ◌∷◌, length, get_or, set, sum, sym, refl, ap, ◌∙◌}
+use Rattle.std.proofs.Common.{subst, arith, Some, cond, eq-eqb, ne_eqb}
 use mathlib.Core.Logic.{dite}
 use mathlib.Core.Option.{some, none, some-injective}
 use native.Mathlib.Decide.{ℕ_discrete}
@@ -114,7 +114,7 @@ module _ {O C R E : Type 0} (after : O → ℕ → C → R → O) (may : O → �
       go (Has m) k f h =
           let same : j ≡ id = sym k.2 ∙ (ap r.drawer (k.0 ∙ turn) ∙ own) in
           subst HasObject (ap (λ (x : V). x.stage) (some-injective u v (sym e ∙ (ap (get_elem? s.views) same ∙ at))) ∙ is)
-              (subst HasObject (sym f) tt)
+          (subst HasObject (sym f) tt)
 
   -- a load of the tickets spent by a waiting seat, which takes the object out where its own is the next
   pub serves : (slots id : ℕ) (me : M) (n : ℕ) (d : Hand C R) → me.0.hands ≡ d ∷ [] → me.0.stage ≡ Waits n → me.1 ≡ []
@@ -122,7 +122,7 @@ module _ {O C R E : Type 0} (after : O → ℕ → C → R → O) (may : O → �
   serves slots id me n d one waits empty s r wide at _ =
       let x : ℕ = get_or s.words 2 0 in let is : x ≡ r.spent = ap (λ (ws : List ℕ). get_or ws 2 0) r.words in let k = r.each id me.0 at in
       let stands : Stands r.drawn r.spent r.drawer r.history id me.0.seen (Waits n) =
-          subst (Stands r.drawn r.spent r.drawer r.history id me.0.seen) waits k.stands in
+      subst (Stands r.drawn r.spent r.drawer r.history id me.0.seen) waits k.stands in
       let not : HasObject me.0.stage → ⊥ = λ h. subst HasObject waits h in
       dite (ℕ_discrete x n)
       (λ hit. let w : V = at_stage me.0 (Has x) r.history in let free = none_has s r id n me.0 at waits (sym is ∙ hit) in
@@ -132,7 +132,7 @@ module _ {O C R E : Type 0} (after : O → ℕ → C → R → O) (may : O → �
         home.1,
         moves after may entry key s r id me.0 at w refl (set s.words 2 x) (set s.homes 0 none) r.drawn r.spent r.drawer
             (ap (λ (ws : List ℕ). set ws 2 (get_or ws 2 0)) r.words) r.order
-                (let one : ticket_count me.0.stage ≡ 1 = ap ticket_count waits in omega arith) r.small
+            (let one : ticket_count me.0.stage ≡ 1 = ap ticket_count waits in omega arith) r.small
             record {
               key_is = k.key_is;
               stands = (is, omega arith, ap r.drawer hit ∙ stands.2, refl);
@@ -177,7 +177,7 @@ module _ {O C R E : Type 0} (after : O → ℕ → C → R → O) (may : O → �
   -- the seat that has the object spends its ticket and gives the slot home, with the object in it
   rests : (slots id n : ℕ) (v : V) (h : Home O E) (q : Key O) → v.stage ≡ Has n → slots ≡ 1 → v.key ≡ Some q → Fits after entry q v.seen h
       → Allows Rule slots id (v, (0, Some h) ∷ []) 2 (λ x. (x + 1) % 18446744073709551616)
-          (rested (step slots 2 1 0 none) (v, (0, Some h) ∷ []))
+      (rested (step slots 2 1 0 none) (v, (0, Some h) ∷ []))
   rests slots id n v h q has one_slot named fits s r wide at _ =
       let x : ℕ = get_or s.words 2 0 in let is : x ≡ r.spent = ap (λ (ws : List ℕ). get_or ws 2 0) r.words in
       let k = r.each id v at in let st = holds_at id n v has s r at in
@@ -189,11 +189,11 @@ module _ {O C R E : Type 0} (after : O → ℕ → C → R → O) (may : O → �
         moves after may entry key s r id v at w refl (set s.words 2 ((x + 1) % 18446744073709551616)) (set s.homes 0 (some (Some h)))
             r.drawn (r.spent + 1) r.drawer
             (ap (λ (ws : List ℕ). set ws 2 ((x + 1) % 18446744073709551616)) r.words
-                ∙ ap (λ (y : ℕ). length r.history ∷ r.drawn ∷ y ∷ []) up) (omega arith)
+            ∙ ap (λ (y : ℕ). length r.history ∷ r.drawn ∷ y ∷ []) up) (omega arith)
             (let one : ticket_count v.stage ≡ 1 = ap ticket_count has in omega arith) small
             record { key_is = k.key_is; stands = tt; seen = k.seen; told = k.told; hands = k.hands; holder = λ h. absurd h; root = k.root }
             (λ j u other e st'. spent_stands r.drawn r.spent id r.drawer r.history u.seen j u.stage own other
-                (one_has r.drawn r.spent r.drawer r.history u.seen id j u.stage own other st') st')
+            (one_has r.drawn r.spent r.drawer r.history u.seen id j u.stage own other st') st')
             (λ _. (h, set_here s.homes 0 (some (Some h)) (omega arith), fits_key (k.key_is q named) r.history st.3)),
         refl,
       )
@@ -208,5 +208,5 @@ module _ {O C R E : Type 0} (after : O → ℕ → C → R → O) (may : O → �
       → Allows Rule slots id me 2 (λ x. (x + 1) % 18446744073709551616) (rested (step slots 2 1 0 none) me)
   leaves slots id n me h q named one has holds fits =
       subst (λ (l : List (ℕ × S)). Allows Rule slots id (me.0, l) 2 (λ x. (x + 1) % 18446744073709551616)
-          (rested (step slots 2 1 0 none) (me.0, l))) (sym holds)
+      (rested (step slots 2 1 0 none) (me.0, l))) (sym holds)
       (rests slots id n me.0 h q has one named fits)

@@ -1,6 +1,6 @@
 -- The one history of all passes: the pass that made its last event has seen it all.
-use Rattle.std.proofs.Common.{◌≡◌, ℕ, ◌+◌, ◌<◌, ◌≤◌, List, [], ◌∷◌, ◌++◌, length, get_or, append_assoc, refl, sym, ap, ◌∙◌, subst, inl,
-    inr, ◌⊎◌, ⊎_elim, arith, zero, lt_of_not-le, suc}
+use Rattle.std.proofs.Common.{◌≡◌, ℕ, ◌+◌, ◌<◌, ◌≤◌, List, [], ◌∷◌, ◌++◌, length, get_or, append_assoc, refl, sym, ap, ◌∙◌, subst, inl, inr}
+use Rattle.std.proofs.Common.{◌⊎◌, ⊎_elim, arith, zero, lt_of_not-le, suc}
 use Rattle.std.proofs.lemmas.List.{append-nil, length-append}
 use Rattle.std.specs.List.{All, Any}
 use mathlib.Core.Logic.{dite}
@@ -75,10 +75,10 @@ module _ {C R : Type 0} where
       (λ (n : zs ≡ []). sym (parts ∙ (ap (λ (l : List (Event C R)). seen ++ l) n ∙ append-nil seen)))
       (λ (t : (us : List (Event C R)) × (z : Event C R) × (zs ≡ us ++ z ∷ [])).
       let last : e ≡ t.1 = same_last ys (seen ++ t.0) e t.1 (sym end
-          ∙ (parts ∙ (ap (λ (l : List (Event C R)). seen ++ l) t.2 ∙ sym (append_assoc seen t.0 (t.1 ∷ []))))) in
+      ∙ (parts ∙ (ap (λ (l : List (Event C R)). seen ++ l) t.2 ∙ sym (append_assoc seen t.0 (t.1 ∷ []))))) in
       let a : length (events_of c history) ≡ length (events_of c seen) + length (events_of c zs) =
       ap (λ (l : List (Event C R)). length (events_of c l)) parts
-          ∙ (ap length (events_of-append c seen zs) ∙ length-append (events_of c seen) (events_of c zs)) in
+      ∙ (ap length (events_of-append c seen zs) ∙ length-append (events_of c seen) (events_of c zs)) in
       let b : length (events_of c zs) ≡ length (events_of c t.0) + 1 =
       ap (λ (l : List (Event C R)). length (events_of c l)) t.2
       ∙ (ap length (events_of-own c t.0 t.1 (ap (λ (x : Event C R). x.client) (sym last) ∙ own)) ∙ length_snoc (events_of c t.0) t.1) in
@@ -90,19 +90,19 @@ module _ {O C R : Type 0} where
   pub whole : (ks : List (Known O C R)) (history : List (Event C R)) (count : ℕ)
       → ((client : ℕ) → client < count → (i : ℕ) × (k : Known O C R) × (get_elem? ks i ≡ some k) × (k.client ≡ client))
       → ((i : ℕ) (k : Known O C R) → get_elem? ks i ≡ some k → IsPrefix k.seen history
-          × (events_of k.client k.seen ≡ events_of k.client history))
+      × (events_of k.client k.seen ≡ events_of k.client history))
       → ((c : ℕ) → count ≤ c → events_of c history ≡ [])
       → (history ≡ []) ⊎ Any (λ (k : Known O C R). k.seen ≡ history) ks
   whole ks history count each all no_other = ⊎_elim inl (λ (t : (ys : List (Event C R)) × (e : Event C R) × (history ≡ ys ++ e ∷ [])).
       let c : ℕ = t.1.client in
       let long : length (events_of c history) ≡ length (events_of c t.0) + 1 =
       ap (λ (l : List (Event C R)). length (events_of c l)) t.2
-          ∙ (ap length (events_of-own c t.0 t.1 refl) ∙ length_snoc (events_of c t.0) t.1) in
+      ∙ (ap length (events_of-own c t.0 t.1 refl) ∙ length_snoc (events_of c t.0) t.1) in
       dite (dec_le count c)
       (λ out. let n : length (events_of c history) ≡ 0 = ap length (no_other c out) in absurd (omega arith))
       (λ not. let p = each c (lt_of_not-le not) in let q = all p.0 p.1 p.2 in
       inr (read_any (λ (k : Known O C R). k.seen ≡ history) ks p.0 p.1 p.2
-          (seen_all p.1.client p.1.seen q.0.0 history t.1 t.0 q.0.1 t.2 (sym p.3) q.1))))
+      (seen_all p.1.client p.1.seen q.0.0 history t.1 t.0 q.0.1 t.2 (sym p.3) q.1))))
       (last_of history)
 
   pub at_hands : (ks : List (Known O C R)) (i : ℕ) (k : Known O C R) → get_elem? ks i ≡ some k → (j : ℕ)
@@ -124,7 +124,7 @@ module _ {O C R : Type 0} where
       → (j : ℕ) × (h : Hand C R) × (get_elem? (hands_of ks) j ≡ some h) × (h.client ≡ c)
   covers desk count ks all c lt =
       let k = any_read (λ (k : Known O C R). k.client ≡ c) ks (all.each c lt) in let t = at_hands ks k.0 k.1 k.2 in
-          (t.0, hand_of k.1, t.1, k.3)
+      (t.0, hand_of k.1, t.1, k.3)
 
   -- each pass has seen a part of the history, and knows all its client's events
   pub each_pass : (ks : List (Known O C R)) (history : List (Event C R)) → AllKnown (hands_of ks) history → (i : ℕ) (k : Known O C R)

@@ -45,4 +45,4 @@ module _ {O C R : Type 0} where
   fresh desk opening client [] = []
   fresh desk opening client (quota ∷ quotas) =
       record { desk = desk; client = client; opening = Some opening; left = quota; seen = []; mine = []; place = 0 }
-          ∷ fresh desk opening (client + 1) quotas
+      ∷ fresh desk opening (client + 1) quotas

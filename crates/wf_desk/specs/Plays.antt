@@ -46,8 +46,17 @@ module _ {C R : Type 0} where
 module _ {O C R : Type 0} where
   -- the first seat
   abbrev pub starting : Key O → View O C R
-  starting key = record { key = Some key; stage = Idle; seen = []; told = []; hands = []; left = 0; quotas = key.quotas.items; next = 0;
-      root = true }
+  starting key = record {
+    key = Some key;
+    stage = Idle;
+    seen = [];
+    told = [];
+    hands = [];
+    left = 0;
+    quotas = key.quotas.items;
+    next = 0;
+    root = true;
+  }
 
   abbrev pub at_stage : View O C R → Stage → List (Event C R) → View O C R
   at_stage view stage seen = record view { stage = stage; seen = seen }
@@ -64,8 +73,11 @@ module _ {O C R : Type 0} where
   blank = record { key = None; stage = Idle; seen = []; told = []; hands = []; left = 0; quotas = []; next = 0; root = false }
 
   abbrev pub pass_of : View O C R → View O C R
-  pass_of view = record blank { key = view.key; hands = record { client = view.next; mine = []; seen = [] } ∷ [];
-      left = head_of view.quotas }
+  pass_of view = record blank {
+    key = view.key;
+    hands = record { client = view.next; mine = []; seen = [] } ∷ [];
+    left = head_of view.quotas;
+  }
 
   -- a seat of no client, which carries what a seat has seen
   abbrev pub note_of : View O C R → View O C R

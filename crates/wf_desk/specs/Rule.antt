@@ -76,7 +76,7 @@ module _ {O C R E : Type 0} (after : O → ℕ → C → R → O) (entry : ℕ �
   abbrev pub Fits : Key O → List (Event C R) → Home O E → Type 0
   Fits key history home =
       (home.object ≡ replay after key.opening.value history) × (home.journal.items ≡ entries entry history)
-          × (sum key.quotas.items ≤ vec_capacity home.journal)
+      × (sum key.quotas.items ≤ vec_capacity home.journal)
 
 module _ {O C R E : Type 0} (after : O → ℕ → C → R → O) (may : O → ℕ → C → R → Type 0) (entry : ℕ → R → E) where
   pub record Kept (key : Key O) (s : State (Slot O E) (View O C R)) : Type 0 where

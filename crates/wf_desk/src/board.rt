@@ -1,8 +1,8 @@
 //! The table of a desk, and its single steps: a caller draws a ticket, waits for its turn, takes the object out, puts its
 //! event into the history, puts the object back, and leaves.
 
-ghost use Rattle.std.specs.Prelude.{◌≡◌, ◌≢◌, ℕ, true, ◌+◌, ◌-◌, ◌<◌, ◌≤◌, ◌^◌, [], ◌∷◌, ◌++◌, List, Some, None, length, sum, vec_capacity,
-    IfOk};
+ghost use Rattle.std.specs.Prelude.{◌≡◌, ◌≢◌, ℕ, true, ◌+◌, ◌-◌, ◌<◌, ◌≤◌, ◌^◌, [], ◌∷◌, ◌++◌, List, Some, None, length, sum, vec_capacity};
+ghost use Rattle.std.specs.Prelude.{IfOk};
 ghost use Rattle.wf_desk.specs.declared.view.Stage.TheVariants.{Idle, Waits, Has};
 ghost use Rattle.wf_desk.specs.declared.view.Hand.{Hand};
 ghost use Rattle.wf_desk.specs.declared.view.Home.{Home};

@@ -47,8 +47,11 @@ impl<O: Object> Board<O> {
         requires left { 0 < seat.old.me.0.left }
         ensures place { (seat.new.table_id ≡ seat.old.table_id) × (seat.new.id ≡ seat.old.id) }
         ensures made { seat.new.me
-            ≡ (at_stage (grown seat.old.me.0 (event client call result.0)) Idle (seat.old.me.0.seen ++ event client call result.0 ∷ []), [])
-                }
+            ≡ (
+              at_stage (grown seat.old.me.0 (event client call result.0)) Idle
+                  (seat.old.me.0.seen ++ event client call result.0 ∷ []),
+              [],
+            ) }
         ensures at { result.1 ≡ length seat.old.me.0.seen }
         ensures legal { (k : Key O) → seat.old.me.0.key ≡ Some k
             → IsLegal O.after O.may k.opening.value (seat.old.me.0.seen ++ event client call result.0 ∷ []) }

@@ -31,8 +31,15 @@ impl<O: Object> Board<O> {
         requires next { root.old.me.0.next ≡ client }
         requires left { (quotas : List ℕ) × (root.old.me.0.quotas ≡ left ∷ quotas) }
         ensures root { (root.new.table_id ≡ root.old.table_id) × (root.new.me.0 ≡ dealt root.old.me.0) }
-        ensures pass { result ≡ record { desk = self.now.table.shared.table_id; client = client; opening = Some key.now.opening.value;
-            left = left; seen = []; mine = []; place = 0 } }
+        ensures pass { result ≡ record {
+          desk = self.now.table.shared.table_id;
+          client = client;
+          opening = Some key.now.opening.value;
+          left = left;
+          seen = [];
+          mine = [];
+          place = 0;
+        } }
     {
         let seat = self.deal(root);
         Pass {

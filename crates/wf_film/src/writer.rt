@@ -56,8 +56,8 @@ impl Writer {
         ensures all { OnOk result (Puts K.took k.old k.new (frame_bytes (frame_of port tick image.now))) }
         ensures written { OnOk result (self.new ≡ self.old + length (frame_bytes (frame_of port tick image.now))) }
         ensures most { OnOk result (self.new ≤ self.old + 10 + 4 * 1024 * 1024) }
-        ensures part { IfErr result (λ stop. PutsPart K.took k.old k.new self.old (frame_bytes (frame_of port tick image.now)) stop.written)
-            }
+        ensures part { IfErr result (λ stop. PutsPart K.took k.old k.new self.old (frame_bytes (frame_of port tick image.now))
+            stop.written) }
         ensures stopped { IfErr result (λ stop. self.new ≡ stop.written) }
         ensures cause { HasCause (K.faults k.old) (K.faults k.new) result }
     {

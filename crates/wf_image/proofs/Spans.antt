@@ -1,13 +1,13 @@
 -- Painted cells and rows.
-use Rattle.std.proofs.Common.{◌≡◌, ℕ, zero, suc, ◌+◌, ◌-◌, ◌*◌, ◌<◌, ◌≤◌, true, false, List, [], ◌++◌, length, get_or, take, drop, refl,
-    sym, ap, ◌∙◌, append_assoc, arith, length-append, length-drop}
+use Rattle.std.proofs.Common.{◌≡◌, ℕ, zero, suc, ◌+◌, ◌-◌, ◌*◌, ◌<◌, ◌≤◌, true, false, List, [], ◌++◌, length, get_or, take, drop, refl}
+use Rattle.std.proofs.Common.{sym, ap, ◌∙◌, append_assoc, arith, length-append, length-drop}
 use Rattle.std.specs.Prelude.{flat_map, unwrap_or, Option, Some, None, is_some, ◌&&◌, nat_le, nat_lt}
 use Rattle.std.specs.List.{range_with_len}
 use Rattle.std.proofs.Math.Seq.{drop-append-add}
 use Rattle.std.proofs.Math.Nat.{zero-add, zero-mul, mul-le-mul_right, le_trans, le_refl}
 use Rattle.std.proofs.lemmas.Bool.Decides.{nat_tests}
-use Rattle.std.proofs.lemmas.List.{append-nil, take_at, drop_at, take_all, drop-drop, nil_from_length, take-append-drop, get_or-take,
-    get_or-drop}
+use Rattle.std.proofs.lemmas.List.{append-nil, take_at, drop_at, take_all, drop-drop, nil_from_length, take-append-drop, get_or-take}
+use Rattle.std.proofs.lemmas.List.{get_or-drop}
 use Rattle.wf_pixel.specs.declared.Size.{Size}
 use Rattle.wf_pixel.specs.declared.Rgba.{Rgba}
 use Rattle.wf_pixel.specs.declared.Format.{Format}
@@ -40,12 +40,12 @@ rows size format bytes paint from n =
 unnamed : (size : Size) (format : Format) (row : List ℕ) (paint : Paint) (y from n : ℕ)
     → ((x : ℕ) → from ≤ x → x < from + n → is_some (named_colour paint size x y) ≡ false)
     → (from + n) * pixel_bytes format ≤ length row → cells size format row paint y from n
-        ≡ take (n * pixel_bytes format) (drop (from * pixel_bytes format) row)
+    ≡ take (n * pixel_bytes format) (drop (from * pixel_bytes format) row)
 unnamed size format row paint y from n none fits =
     cells_are (λ x. stored format (chosen size format row paint y x)) (λ x. stored format (read_at format row (x * pixel_bytes format)))
-        from n
+    from n
     (λ x low high. ap (stored format) (is_kept (named_colour paint size x y) (read_at format row (x * pixel_bytes format))
-        (none x low high)))
+    (none x low high)))
     ∙ kept format row from n fits
   where
     is_kept : (o : Option Rgba) (color : Rgba) → is_some o ≡ false → unwrap_or o color ≡ color
@@ -59,7 +59,7 @@ step done piece old new first n k m len sum before after =
     let front : take n old ≡ done = ap (take n) before ∙ take_at done (drop n first) n len in
     let behind : drop m old ≡ drop m first =
     ap (drop m) before ∙ ap (λ (j : ℕ). drop j (done ++ drop n first)) (omega (arith, len, sum)) ∙ drop-append-add done (drop n first) k
-        ∙ drop-drop k n first ∙ ap (λ (j : ℕ). drop j first) (sym sum) in
+    ∙ drop-drop k n first ∙ ap (λ (j : ℕ). drop j first) (sym sum) in
     after ∙ rw (front, behind) refl
 
 -- what a span says of the columns that a paint names
@@ -82,7 +82,7 @@ module _ (size : Size) (format : Format) (row : List ℕ) (paint : Paint) (y : �
   starts start end order within span =
       let first : cells size format row paint y 0 start ≡ take (start * pixel_bytes format) row =
       unnamed size format row paint y 0 start (λ x low high. span x (omega arith) ∙ left_of start end x (omega arith))
-          (omega (arith, mul-le-mul_right (pixel_bytes format) (le_trans order within)))
+      (omega (arith, mul-le-mul_right (pixel_bytes format) (le_trans order within)))
       ∙ ap (λ (k : ℕ). take (start * pixel_bytes format) (drop k row)) (zero-mul (pixel_bytes format)) in
       rw first (sym (take-append-drop (start * pixel_bytes format) row))
 
@@ -90,7 +90,7 @@ module _ (size : Size) (format : Format) (row : List ℕ) (paint : Paint) (y : �
   pub goes_on : (x : ℕ) (color : Rgba) (old new : List ℕ) → named_colour paint size x y ≡ Some color
       → old ≡ cells size format row paint y 0 x ++ drop (x * pixel_bytes format) row
       → new ≡ take (x * pixel_bytes format) old ++ stored format color ++ drop ((x + 1) * pixel_bytes format) old
-          → new ≡ cells size format row paint y 0 (x + 1) ++ drop ((x + 1) * pixel_bytes format) row
+      → new ≡ cells size format row paint y 0 (x + 1) ++ drop ((x + 1) * pixel_bytes format) row
   goes_on x color old new named before after =
       let size_of = pixel_bytes format in
       let done = cells size format row paint y 0 x in
@@ -100,7 +100,7 @@ module _ (size : Size) (format : Format) (row : List ℕ) (paint : Paint) (y : �
       ∙ ap (λ (k : ℕ). done ++ stored format (chosen size format row paint y k)) (zero-add x)
       ∙ ap (λ (o : Option Rgba). done ++ stored format (unwrap_or o (read_at format row (x * size_of)))) named in
       step done (stored format color) old new row (x * size_of) size_of ((x + 1) * size_of)
-          (length-cells format (chosen size format row paint y) 0 x) (omega arith) before after
+      (length-cells format (chosen size format row paint y) 0 x) (omega arith) before after
       ∙ ap (λ (bytes : List ℕ). bytes ++ drop ((x + 1) * size_of) row) (sym one_more)
 
   -- behind the span nothing changes
@@ -112,9 +112,9 @@ module _ (size : Size) (format : Format) (row : List ℕ) (paint : Paint) (y : �
       let all : end + rest ≡ size.w = omega arith in
       let last : cells size format row paint y end rest ≡ drop (end * size_of) row =
       unnamed size format row paint y end rest (λ x low high. span x (omega arith) ∙ right_of start end x low)
-          (rw (all, count) (le_refl (size.w * size_of)))
+      (rw (all, count) (le_refl (size.w * size_of)))
       ∙ take_all (rest * size_of) (drop (end * size_of) row)
-          (omega (arith, length-drop (end * size_of) row, count, ap (λ (k : ℕ). k * size_of) all)) in
+      (omega (arith, length-drop (end * size_of) row, count, ap (λ (k : ℕ). k * size_of) all)) in
       before ∙ ap (λ (bytes : List ℕ). cells size format row paint y 0 end ++ bytes) (sym last)
       ∙ ap (λ (k : ℕ). cells size format row paint y 0 end ++ cells size format row paint y k rest) (sym (zero-add end))
       ∙ sym (cells-add (λ x. stored format (chosen size format row paint y x)) 0 end rest)
@@ -130,9 +130,12 @@ get_part bytes from count i at within e = get_or-take count (drop from bytes) i 
 four_of_part : (bytes : List ℕ) (from count i at : ℕ) → i + 4 ≤ count → at ≡ from + i
     → read_at Rgba8 (take count (drop from bytes)) i ≡ read_at Rgba8 bytes at
 four_of_part bytes from count i at within e =
-    rw (get_part bytes from count i at (omega arith) e, get_part bytes from count (i + 1) (at + 1) (omega arith) (omega arith),
-        get_part bytes from count (i + 2) (at + 2) (omega arith) (omega arith),
-        get_part bytes from count (i + 3) (at + 3) (omega arith) (omega arith)) refl
+    rw (
+      get_part bytes from count i at (omega arith) e,
+      get_part bytes from count (i + 1) (at + 1) (omega arith) (omega arith),
+      get_part bytes from count (i + 2) (at + 2) (omega arith) (omega arith),
+      get_part bytes from count (i + 3) (at + 3) (omega arith) (omega arith),
+    ) refl
 
 -- a pixel of a row is that of the image
 pixel_of_row : (size : Size) (format : Format) (bytes : List ℕ) (x y : ℕ) → x < size.w
@@ -152,14 +155,18 @@ module _ (size : Size) (format : Format) (bytes : List ℕ) (paint : Paint) wher
   length-rows from zero = sym (zero-mul (size.w * pixel_bytes format))
   length-rows from (suc n) =
       let row = row_at size format bytes from in
-      omega (arith, length-append (painted_row size format row paint from) (rows size format bytes paint (from + 1) n),
-          length-cells format (chosen size format row paint from) 0 size.w, length-rows (from + 1) n)
+      omega (
+        arith,
+        length-append (painted_row size format row paint from) (rows size format bytes paint (from + 1) n),
+        length-cells format (chosen size format row paint from) 0 size.w,
+        length-rows (from + 1) n,
+      )
 
   -- one more row
   pub goes_on_rows : (y : ℕ) (old new : List ℕ) → let stride : ℕ = size.w * pixel_bytes format in
       old ≡ rows size format bytes paint 0 y ++ drop (y * stride) bytes
       → new ≡ take (y * stride) old ++ painted_row size format (take stride (drop (y * stride) old)) paint y
-          ++ drop (y * stride + stride) old
+      ++ drop (y * stride + stride) old
       → new ≡ rows size format bytes paint 0 (y + 1) ++ drop ((y + 1) * stride) bytes
   goes_on_rows y old new before after =
       let stride : ℕ = size.w * pixel_bytes format in
@@ -185,23 +192,23 @@ module _ (size : Size) (format : Format) (bytes : List ℕ) (paint : Paint) wher
   are_painted old count before =
       let stride : ℕ = size.w * pixel_bytes format in
       let behind : drop (size.h * stride) bytes ≡ [] = nil_from_length (drop (size.h * stride) bytes)
-          (omega (arith, length-drop (size.h * stride) bytes, count)) in
+      (omega (arith, length-drop (size.h * stride) bytes, count)) in
       before ∙ ap (λ (rest : List ℕ). rows size format bytes paint 0 size.h ++ rest) behind
-          ∙ append-nil (rows size format bytes paint 0 size.h)
+      ∙ append-nil (rows size format bytes paint 0 size.h)
       ∙ cells_are (λ y. painted_row size format (row_at size format bytes y) paint y)
-          (λ y. drawn_row size.w format (λ x. unwrap_or (named_colour paint size x y)
-          (pixel (record { size = size; format = format; bytes = bytes }) x y))) 0 size.h
+      (λ y. drawn_row size.w format (λ x. unwrap_or (named_colour paint size x y)
+      (pixel (record { size = size; format = format; bytes = bytes }) x y))) 0 size.h
       (λ y low high. cells_are (λ x. stored format (chosen size format (row_at size format bytes y) paint y x))
-          (λ x. stored format (unwrap_or (named_colour paint size x y)
-          (pixel (record { size = size; format = format; bytes = bytes }) x y))) 0 size.w
+      (λ x. stored format (unwrap_or (named_colour paint size x y)
+      (pixel (record { size = size; format = format; bytes = bytes }) x y))) 0 size.w
       (λ x left right. ap (λ (color : Rgba). stored format (unwrap_or (named_colour paint size x y) color))
-          (pixel_of_row size format bytes x y (omega arith))))
+      (pixel_of_row size format bytes x y (omega arith))))
 
 -- a row that is painted in its place
 pub row_in_place : (size : Size) (format : Format) (bytes row : List ℕ) (paint : Paint) (y start n : ℕ) → n ≡ size.w * pixel_bytes format
     → row ≡ painted_row size format (take n (drop start bytes)) paint y
     → put_mid start n bytes row ≡ take start bytes ++ painted_row size format (take (size.w * pixel_bytes format) (drop start bytes)) paint
-        y ++ drop (start + size.w * pixel_bytes format) bytes
+    y ++ drop (start + size.w * pixel_bytes format) bytes
 row_in_place size format bytes row paint y start n same now =
     let stride : ℕ = size.w * pixel_bytes format in
     let after : List ℕ = painted_row size format (take stride (drop start bytes)) paint y in

@@ -1,6 +1,6 @@
 -- What a paint leaves: the pixels that it names get its colours, and the others stay.
-use Rattle.std.specs.Prelude.{List, ℕ, ◌+◌, ◌-◌, ◌*◌, ◌/◌, ◌%◌, ◌==◌, pos, Bool, true, nat_le, length, Option, Some, None, slice_get,
-    unwrap_or, is_some, ◌&&◌, if◌then◌else◌}
+use Rattle.std.specs.Prelude.{List, ℕ, ◌+◌, ◌-◌, ◌*◌, ◌/◌, ◌%◌, ◌==◌, pos, Bool, true, nat_le, length, Option, Some, None, slice_get}
+use Rattle.std.specs.Prelude.{unwrap_or, is_some, ◌&&◌, if◌then◌else◌}
 use Rattle.wf_pixel.specs.declared.Size.{Size}
 use Rattle.wf_pixel.specs.declared.Format.{Format}
 use Rattle.wf_pixel.specs.declared.Rgba.{Rgba}
@@ -42,7 +42,7 @@ painted_row size format row paint y =
 abbrev pub painted_bytes : Size → Format → List ℕ → Paint → List ℕ
 painted_bytes size format bytes paint =
     (drawn size format (λ x y. unwrap_or (named_colour paint size x y)
-        (pixel (record { size = size; format = format; bytes = bytes }) x y))).bytes
+    (pixel (record { size = size; format = format; bytes = bytes }) x y))).bytes
 
 -- an image after a paint
 abbrev pub painted : Bitmap → Paint → Bitmap

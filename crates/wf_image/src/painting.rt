@@ -1,7 +1,7 @@
 //! Paints on the bytes of an image, row by row, and in each row only the span that the paint names.
 
-ghost use Rattle.std.specs.Prelude.{◌≡◌, ℕ, ◌+◌, ◌*◌, ◌<◌, ◌≤◌, ◌++◌, ◌&&◌, pos, length, take, drop, is_some, unwrap_or, nat_le, nat_lt,
-    IsTrue, Some, slice_get};
+ghost use Rattle.std.specs.Prelude.{◌≡◌, ℕ, ◌+◌, ◌*◌, ◌<◌, ◌≤◌, ◌++◌, ◌&&◌, pos, length, take, drop, is_some, unwrap_or, nat_le, nat_lt};
+ghost use Rattle.std.specs.Prelude.{IsTrue, Some, slice_get};
 ghost use Rattle.std.specs.Int.{int_max, int_min};
 ghost use Rattle.wf_pixel.specs.Along.{along};
 ghost use Rattle.wf_pixel.specs.Choice.{has_sides, is_coordinate};

@@ -77,13 +77,14 @@ impl Sink for MemorySink {
         ensures taken { IfOk result (λ n. Puts (λ s bytes. s.held ≡ bytes) self.old self.new (take n bytes.now)) }
         ensures kept { OnErr result (PutsNothing (λ s bytes. s.held ≡ bytes) self.old self.new) }
         ensures cause { HasCause self.old.faults self.new.faults result }
-        ensures fails
-            { IsErr result ↔ (Contains self.old.failing (next_count self.old.calls) ⊎
+        ensures fails { IsErr result ↔ (Contains self.old.failing (next_count self.old.calls) ⊎
             (self.old.room < length self.old.held + length bytes.now)) }
         ensures whole { IfOk result (λ n. n ≡ length bytes.now) }
         ensures put { OnOk result (self.new ≡ record self.old { held = self.old.held ++ bytes.now; calls = next_count self.old.calls }) }
-        ensures failed
-            { OnErr result (self.new ≡ record self.old { calls = next_count self.old.calls; faults = next_count self.old.faults }) }
+        ensures failed { OnErr result (self.new ≡ record self.old {
+          calls = next_count self.old.calls;
+          faults = next_count self.old.faults;
+        }) }
     {
         self.calls = self.calls.saturating_add(1);
         if is_listed(&self.failing, self.calls) || bytes.len() > self.room - self.held.len() {

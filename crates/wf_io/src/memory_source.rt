@@ -27,8 +27,13 @@ impl Model for MemorySource {
 
     ghost Value = { Supply };
 
-    ghost view = { λ s. record { left = drop s.at s.bytes.items; step = s.step; failing = s.failing.items; calls = s.calls;
-        faults = s.faults } };
+    ghost view = { λ s. record {
+      left = drop s.at s.bytes.items;
+      step = s.step;
+      failing = s.failing.items;
+      calls = s.calls;
+      faults = s.faults;
+    } };
 
     ghost invariant = { λ s. (s.at ≤ length s.bytes.items) × (0 < s.step) };
 }
@@ -70,8 +75,10 @@ impl Source for MemorySource {
         ensures count { IfOk result (λ n. n ≡ min (min self.old.step (length into.old)) (length self.old.left)) }
         ensures rest { IfOk result (λ n. into.new ≡ take n self.old.left ++ drop n into.old) }
         ensures taken { IfOk result (λ n. self.new ≡ record self.old { left = drop n self.old.left; calls = next_count self.old.calls }) }
-        ensures failed
-            { OnErr result (self.new ≡ record self.old { calls = next_count self.old.calls; faults = next_count self.old.faults }) }
+        ensures failed { OnErr result (self.new ≡ record self.old {
+          calls = next_count self.old.calls;
+          faults = next_count self.old.faults;
+        }) }
     {
         self.calls = self.calls.saturating_add(1);
         if is_listed(&self.failing, self.calls) {

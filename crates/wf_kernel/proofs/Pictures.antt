@@ -36,20 +36,20 @@ picture_bytes scene contents format four =
     let layers = map (bound contents) scene.layers.items in
     pieces_are (λ y. bound_row scene layers y) (λ y. drawn_row scene.size.w format (λ x. picture_pixel scene contents x y)) 0 scene.size.h
     (λ y. pieces_are (λ x. stored Rgba8Pre (bound_pixel scene layers x y)) (λ x. stored format (picture_pixel scene contents x y)) 0
-        scene.size.w
+    scene.size.w
     (λ x. ap (stored Rgba8Pre) (bound_pixel_is scene contents x y) ∙ stored_four format (picture_pixel scene contents x y) four))
 
 -- an image that gets these bytes is the picture
 pub picture_is : (scene : Scene) (contents : Images) (layers : List Bound) (image : Bitmap) (bytes : List ℕ) → image.size ≡ scene.size
     → pixel_bytes image.format ≡ 4 → length image.bytes ≡ image_bytes image.size image.format
     → layers ≡ map (bound contents) scene.layers.items → bytes ≡ bound_rows scene layers
-        → with_bytes image bytes ≡ picture scene contents image.format
+    → with_bytes image bytes ≡ picture scene contents image.format
 unfolding drawn
 picture_is scene contents layers image bytes size_is four count layers_are bytes_are =
     let count_is : length image.bytes ≡ scene.size.w * scene.size.h * 4 = count ∙ rw (size_is, four) refl in
     let len : length bytes ≡ length image.bytes = ap length bytes_are ∙ length-bound_rows scene layers ∙ omega (arith, count_is) in
     let all : take (length image.bytes) (bytes ++ drop (length bytes) image.bytes) ≡ bytes =
-        take_at bytes (drop (length bytes) image.bytes) (length image.bytes) len in
+    take_at bytes (drop (length bytes) image.bytes) (length image.bytes) len in
     let same : bytes ≡ (picture scene contents image.format).bytes = bytes_are ∙ ap (bound_rows scene) layers_are
-        ∙ picture_bytes scene contents image.format four in
+    ∙ picture_bytes scene contents image.format four in
     rw (all, same, size_is) refl

@@ -1,6 +1,6 @@
 -- The map of the handle table against the list of live objects, and the counts.
-use Rattle.std.proofs.Common.{◌≡◌, ℕ, ◌+◌, ◌-◌, ◌<◌, ◌≤◌, true, false, cond, ◌==◌, not, List, [], ◌∷◌, ◌++◌, map, length, Option, None,
-    Some, is_some, refl, ap, ◌∙◌, arith, slice_set, slice_index, eq-eqb}
+use Rattle.std.proofs.Common.{◌≡◌, ℕ, ◌+◌, ◌-◌, ◌<◌, ◌≤◌, true, false, cond, ◌==◌, not, List, [], ◌∷◌, ◌++◌, map, length, Option, None}
+use Rattle.std.proofs.Common.{Some, is_some, refl, ap, ◌∙◌, arith, slice_set, slice_index, eq-eqb}
 use Rattle.std.specs.Ordering.{nat_cmp}
 use Rattle.std.specs.BTreeMap.{insert_entry, is_at}
 use Rattle.std.specs.Map.{lookup, remove_entry}
@@ -68,8 +68,11 @@ pub rising_without : (low high h : ℕ) (live : List Live) → IsRising low live
 rising_without low high h [] rising = rising
 rising_without low high h (l ∷ live) rising =
     let later = rising_without l.handle high h live rising.1 in
-    elim (l.handle == h) as (λ b. IsRising low (cond (not b) (l ∷ without h live) (without h live)) high) [ true ↦ rising_lower low l.handle
-        high (without h live) later (omega arith) | false ↦ (rising.0, later) ]
+    elim (l.handle == h) as (λ b. IsRising low (cond (not b) (l ∷ without h live) (without h live)) high) [
+      | true ↦ rising_lower low l.handle
+          high (without h live) later (omega arith)
+      | false ↦ (rising.0, later)
+    ]
 
 -- no handle above all is live
 pub is_live_above : (low high h : ℕ) (live : List Live) → IsRising low live high → high < h → is_live h live ≡ false

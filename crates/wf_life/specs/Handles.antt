@@ -1,7 +1,7 @@
 -- The handle table: how many objects were made, and the live handles with what they stand for.
 use Rattle.std.proofs.Common.{arith}
-use Rattle.std.specs.Prelude.{ℕ, ◌+◌, Bool, true, false, ◌&&◌, ◌==◌, nat_lt, not, List, [], ◌∷◌, ◌++◌, count_by, find, filter, Option,
-    option_map}
+use Rattle.std.specs.Prelude.{ℕ, ◌+◌, Bool, true, false, ◌&&◌, ◌==◌, nat_lt, not, List, [], ◌∷◌, ◌++◌, count_by, find, filter, Option}
+use Rattle.std.specs.Prelude.{option_map}
 use Rattle.std.specs.List.{list_any}
 use Rattle.wf_words.specs.Rising.{Rises, RisesTo, rises_to, rises_to_filter, rises_to_more}
 use Rattle.wf_life.specs.declared.Kind.{Kind}

@@ -1,7 +1,7 @@
 -- Values that are counted, each under a key. A pool is seen as a list: at the place of a key what is kept
 -- under it, or nothing.
-use Rattle.std.specs.Prelude.{◌≡◌, ◌≢◌, ℕ, ◌+◌, ◌-◌, ◌<◌, ◌==◌, if◌then◌else◌, List, Option, None, Some, IsSome, option_map,
-    slice_index_or, slice_set}
+use Rattle.std.specs.Prelude.{◌≡◌, ◌≢◌, ℕ, ◌+◌, ◌-◌, ◌<◌, ◌==◌, if◌then◌else◌, List, Option, None, Some, IsSome, option_map, slice_index_or}
+use Rattle.std.specs.Prelude.{slice_set}
 use Rattle.std.specs.Option.{option_and_then}
 use Rattle.wf_life.specs.declared.pool.Kept.{Kept}
 

@@ -47,8 +47,14 @@ same_image false k image = refl
 same_payload : (is_new : Bool) (p : Payload) → SamePayload is_new p p
 same_payload is_new payload.Nothing = refl
 same_payload is_new (payload.Canvas canvas) = refl
-same_payload is_new (payload.Job job) = record { number = refl; kind = refl; scene = refl; contents = refl; image =
-    same_image is_new job.kind job.image }
+same_payload is_new (payload.Job job) = record {
+  number = refl;
+  kind = refl;
+  scene = refl;
+  contents = refl;
+  image =
+      same_image is_new job.kind job.image;
+}
 
 -- an answer as wanted that has no Job to paint
 itself : (r : Reply) → IsPlain r → IsAnswer r r
@@ -150,7 +156,7 @@ module _ (inside : Inside) (h : State) (seen : state_of inside ≡ h) (sound : I
   unfolding act
   as_composed c screen a ours asked steps =
       as_act h left c c (bare a) refl (acts ∙ ap (λ (x : CoreSide × Answer). (with_side x.0 h, bare x.1)) there
-          ∙ ap (λ (t : State). (t, bare a)) left_is) (plain_answer a)
+      ∙ ap (λ (t : State). (t, bare a)) left_is) (plain_answer a)
     where
       m : Bool
       m = is_out_of_memory a.code
@@ -168,11 +174,11 @@ module _ (inside : Inside) (h : State) (seen : state_of inside ≡ h) (sound : I
       there =
           ap (λ (w : CoreSide). core_answer (device_of c) w (core_call (screen_of c h) m c w)) (sym side)
           ∙ ap (λ (s : Option ℕ). core_answer (device_of c) (side_of inside.core inside.store)
-              (core_call s m c (side_of inside.core inside.store))) (sym asked)
+          (core_call s m c (side_of inside.core inside.store))) (sym asked)
           ∙ steps.step
 
       left_is : with_side (side_of core store) h ≡ left
       left_is =
           ap (λ (s : State). with_side (side_of core store) s) (sym seen)
           ∙ ap (λ (n : ℕ). record (state_of inside) { made = store.made; numbered = n; streams = store.streams; core = core })
-              (sym rest.numbered)
+          (sym rest.numbered)

@@ -69,7 +69,7 @@ begun_seen : (k : JobKind) (ns : List ℕ) (n : ℕ) (ss : List KeptStream)
     → SeenSame (buffers_at n ss) (buffers_at n (drawing k (latch ns ss)))
 begun_seen k ns n ss =
     seen_twice (buffers_at n ss) (buffers_at n (latch ns ss)) (buffers_at n (drawing k (latch ns ss)))
-        (seen_mapped (latched_among ns) (latch_keeps ns) n ss) (drawn_seen k n (latch ns ss))
+    (seen_mapped (latched_among ns) (latch_keeps ns) n ss) (drawn_seen k n (latch ns ss))
 
 -- a frame has begun: from the machine as it was to the machine as it is now, with what it took
 pub record HasBegun (was now : Inside) (b : Beginning) (frame : Frame) (contents : Images) : Type 0 where
@@ -144,11 +144,15 @@ module _ (was now : Inside) (b : Beginning) (frame : Frame) (contents : Images) 
         few = omega (arith, as_many, sound.few);
         screens = omega (arith, as_many, numbered_now, sound.screens);
         ports = rw begun.frame_is begun.fit;
-        small = rw streams_are (omega (arith, sound.small, drawn_bytes b.kind (latch names streams),
-            bytes_mapped (latched_among names) (latch_keeps names) streams));
+        small = rw streams_are (omega (
+          arith,
+          sound.small,
+          drawn_bytes b.kind (latch names streams),
+          bytes_mapped (latched_among names) (latch_keeps names) streams,
+        ));
         streams = rw (contents_are, begun.modes, streams_are)
             (drawn_fit b.kind (map port_of was.ports.items) (map content_shape (newest_images names streams)) (latch names streams)
-                latched_fit);
+            latched_fit);
         frame = rw (begun.frame_is, begun.kind_is, begun.size, begun.format_is, begun.modes, streams_are) begun.own;
         once = rw contents_are (taken_once (flat_map layer_names b.scene.layers.items) streams);
         known = rw (contents_are, numbered_now) (all_numbered was.store.numbered (latch names streams) (newest_images names streams)
@@ -162,21 +166,29 @@ module _ (was now : Inside) (b : Beginning) (frame : Frame) (contents : Images) 
   pub left_begun : state_of now ≡ (start b (state_of was)).0
   left_begun =
       let state : ℕ → StoreView → CoreState → List Port → Option Running → State = λ n v core ps f.
-      record { made = v.made; numbered = v.numbered; begun = n; streams = v.streams; core = core; display = record { ports = ps }; frame =
-          f } in
+      record {
+        made = v.made;
+        numbered = v.numbered;
+        begun = n;
+        streams = v.streams;
+        core = core;
+        display = record { ports = ps };
+        frame =
+            f;
+      } in
       let left : StoreView = record was.store { streams = after } in
       let ps = map port_of was.ports.items in
       ap (λ (v : StoreView). state now.begun v now.core (map port_of now.ports.items) (option_map running_of now.frame)) begun.store
       ∙ ap (λ (n : ℕ). state n left now.core (map port_of now.ports.items) (option_map running_of now.frame)) begun.begun
       ∙ ap (λ (core : CoreState). state (was.begun + 1) left core (map port_of now.ports.items) (option_map running_of now.frame))
-          begun.core
+      begun.core
       ∙ ap (λ (qs : List Port). state (was.begun + 1) left was.core qs (option_map running_of now.frame)) begun.modes
       ∙ ap (λ (o : Option Running). state (was.begun + 1) left was.core ps o) frame_is
     where
       frame_is : option_map running_of now.frame ≡ Some (shape_of_job job)
       frame_is =
           let shape : ℕ → JobKind → Size → Format → List Content
-              → Option Running = λ n j size f cs. Some (record { number = n; kind = j; size = size; format = f; contents = cs }) in
+          → Option Running = λ n j size f cs. Some (record { number = n; kind = j; size = size; format = f; contents = cs }) in
           let cs = frame.contents.items in
           ap (λ (o : Option Frame). option_map running_of o) begun.frame_is
           ∙ ap (λ (n : ℕ). shape n frame.kind frame.size frame.format cs) begun.number
@@ -184,7 +196,7 @@ module _ (was now : Inside) (b : Beginning) (frame : Frame) (contents : Images) 
           ∙ ap (λ (size : Size). shape (was.begun + 1) b.kind size frame.format cs) begun.size
           ∙ ap (λ (f : Format). shape (was.begun + 1) b.kind b.scene.size f cs) begun.format_is
           ∙ ap (λ (cs : List Content). shape (was.begun + 1) b.kind b.scene.size b.format cs) (begun.shapes
-              ∙ ap (λ (c : Images). map content_shape c) begun.taken)
+          ∙ ap (λ (c : Images). map content_shape c) begun.taken)
 
   -- a Job that is given as the plain machine gives it
   pub record IsGiven (given : Job) : Type 0 where

@@ -1,6 +1,6 @@
 -- What holds of the streams once a frame has taken their images.
-use Rattle.std.proofs.Common.{◌≡◌, ℕ, ◌+◌, ◌<◌, ◌≤◌, Bool, true, false, not, cond, ◌==◌, List, [], ◌∷◌, map, Option, Some, None, refl, sym,
-    ap, subst, ◌∙◌, arith}
+use Rattle.std.proofs.Common.{◌≡◌, ℕ, ◌+◌, ◌<◌, ◌≤◌, Bool, true, false, not, cond, ◌==◌, List, [], ◌∷◌, map, Option, Some, None, refl, sym}
+use Rattle.std.proofs.Common.{ap, subst, ◌∙◌, arith}
 use Rattle.std.specs.Prelude.{filter, find}
 use Rattle.std.specs.Option.{option_map, IfSome, IsSomeAnd}
 use Rattle.std.proofs.lemmas.Bool.{eq-eqb}
@@ -31,8 +31,8 @@ content_of_image n [] = refl
 content_of_image n (pair ∷ contents) =
     let shape : Bitmap → Content = λ image. content_shape (n, image) in
     by_number (cond (pair.0 == n) (Some (content_shape pair)) (content_at n (map content_shape contents))
-        ≡ option_map shape (option_map (λ (p : ℕ × Bitmap). p.1)
-        (cond (pair.0 == n) (Some pair) (find (λ (p : ℕ × Bitmap). p.0 == n) contents)))) pair.0 n
+    ≡ option_map shape (option_map (λ (p : ℕ × Bitmap). p.1)
+    (cond (pair.0 == n) (Some pair) (find (λ (p : ℕ × Bitmap). p.0 == n) contents)))) pair.0 n
     (λ here same. rw here (ap (λ (k : ℕ). Some (content_shape (k, pair.1))) same))
     (λ apart. rw apart (content_of_image n contents))
 
@@ -95,8 +95,8 @@ module _ (ns : List ℕ) (ports : List Port) (whole : List KeptStream) (shaped :
       shape within image is =
           let has = shaped_at s.number image (latch ns whole) (newest_images ns whole) shaped (image_is true within ∙ is) in
           let here : stream_at s.number (latch ns whole) ≡ Some (record s { buffers = latched s.buffers }) =
-              stream_latched ns s.number whole ∙ ap (λ (o : Option KeptStream). option_map (latched_among ns) o) found
-              ∙ ap (λ (b : Bool). Some (cond b (record s { buffers = latched s.buffers }) s)) within in
+          stream_latched ns s.number whole ∙ ap (λ (o : Option KeptStream). option_map (latched_among ns) o) found
+          ∙ ap (λ (b : Bool). Some (cond b (record s { buffers = latched s.buffers }) s)) within in
           rw here at has
 
       by_member : (b : Bool) → is_in s.number ns ≡ b → Fits b
@@ -147,7 +147,7 @@ contents_once (n ∷ ns) streams none = of_newest (contents_once ns streams none
     of_newest later (Some image) is =
         let absent : content_at n (map content_shape (newest_images ns streams)) ≡ None = content_of_image n (newest_images ns streams)
         ∙ ap (λ (o : Option Bitmap). option_map (λ (i : Bitmap). content_shape (n, i)) o) (image_newest ns n streams
-            ∙ ap (λ (b : Bool). cond b (newest_of (stream_at n streams)) None) none.0) in
+        ∙ ap (λ (b : Bool). cond b (newest_of (stream_at n streams)) None) none.0) in
         rw is (absent, later)
 
 pub taken_once : (ns : List ℕ) (streams : List KeptStream) → AreOnce (map content_shape (newest_images (once ns) streams))
@@ -188,5 +188,5 @@ all_home ports (s ∷ streams) fit = (fit.0.read, all_home ports streams fit.1)
 pub home_without : (m : Inside) → m.frame ≡ None → IsSound m → AreAtHome m.store.streams
 home_without m free sound =
     all_home (map port_of m.ports.items) m.store.streams
-        (subst (λ (f : Option Frame). AllFit (map port_of m.ports.items) (contents_of (option_map running_of f)) m.store.streams) free
-        sound.streams)
+    (subst (λ (f : Option Frame). AllFit (map port_of m.ports.items) (contents_of (option_map running_of f)) m.store.streams) free
+    sound.streams)

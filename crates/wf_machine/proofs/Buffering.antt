@@ -48,8 +48,10 @@ module _ (handle : ℕ) (h : State) where
     no_buffer home blocked = rw (at, blocked, home) refl
 
     pub given : s.buffers.out ≡ false → is_blocked s.buffers ≡ false
-        → acquire_step h (acquirable handle h) ≡ (with_stream s.number acquired h,
-        record { code = code.Ok; value = 0; payload = payload.Canvas (canvas_of s) })
+        → acquire_step h (acquirable handle h) ≡ (
+          with_stream s.number acquired h,
+          record { code = code.Ok; value = 0; payload = payload.Canvas (canvas_of s) },
+        )
     given home free = rw (at, free, home) refl
 
 -- a canvas that is out at a client comes back to its stream
@@ -65,7 +67,7 @@ pub size_is : (s t : Size) → same_size s t ≡ true → s ≡ t
 size_is s t same =
     let parts = and_parts _ _ same in
     ap (λ (w : ℕ). record { w = w; h = s.h }) (eqb-true s.w t.w parts.0)
-        ∙ ap (λ (h : ℕ). record { w = t.w; h = h }) (eqb-true s.h t.h parts.1)
+    ∙ ap (λ (h : ℕ). record { w = t.w; h = h }) (eqb-true s.h t.h parts.1)
 
 pub format_is : (f g : Format) → same_format f g ≡ true → f ≡ g
 format_is Rgba8 Rgba8 same = refl
@@ -99,12 +101,17 @@ out_from canvas h out = of_stream (stream_at canvas.stream h.streams) refl
     of_stream None at = rw at tt
     of_stream (Some s) at =
         let whole : (not (is_target canvas.stream h.frame)
-            && (s.buffers.out && same_size canvas.image.size s.buffers.size && same_format canvas.image.format s.buffers.format))
-            ≡ true = rw at at out in
+        && (s.buffers.out && same_size canvas.image.size s.buffers.size && same_format canvas.image.format s.buffers.format))
+        ≡ true = rw at at out in
         let is = (and_parts (not (is_target canvas.stream h.frame)) (s.buffers.out && same_size canvas.image.size s.buffers.size
-            && same_format canvas.image.format s.buffers.format) whole).1 in
+        && same_format canvas.image.format s.buffers.format) whole).1 in
         let outer = and_parts (s.buffers.out && same_size canvas.image.size s.buffers.size)
-            (same_format canvas.image.format s.buffers.format) is in
+        (same_format canvas.image.format s.buffers.format) is in
         let inner = and_parts s.buffers.out (same_size canvas.image.size s.buffers.size) outer.0 in
-        rw at (inner.0, record { size_is = size_is canvas.image.size s.buffers.size inner.1;
-            format_is = format_is canvas.image.format s.buffers.format outer.1 })
+        rw at (
+          inner.0,
+          record {
+            size_is = size_is canvas.image.size s.buffers.size inner.1;
+            format_is = format_is canvas.image.format s.buffers.format outer.1;
+          },
+        )

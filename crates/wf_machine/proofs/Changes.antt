@@ -1,6 +1,6 @@
 -- Streams by number: what a look-up finds, and what a change leaves.
-use Rattle.std.proofs.Common.{◌≡◌, ℕ, ◌<◌, ◌≤◌, true, false, cond, ◌==◌, ◌&&◌, not, List, [], ◌∷◌, Option, Some, None, Result, Ok, Err,
-    refl, sym, ap, subst, ◌∙◌, arith}
+use Rattle.std.proofs.Common.{◌≡◌, ℕ, ◌<◌, ◌≤◌, true, false, cond, ◌==◌, ◌&&◌, not, List, [], ◌∷◌, Option, Some, None, Result, Ok, Err}
+use Rattle.std.proofs.Common.{refl, sym, ap, subst, ◌∙◌, arith}
 use Rattle.std.specs.Option.{option_map}
 use Rattle.std.specs.Result.{IfOk, OnErr, OnOk}
 use Rattle.std.proofs.lemmas.Bool.{eq-eqb, eqb-true}
@@ -31,7 +31,7 @@ pub change_none : (n : ℕ) (f : Buffers → Buffers) (streams : List KeptStream
 change_none n f [] none = refl
 change_none n f (s ∷ streams) none =
     elim (s.number == n) as (λ b. option_map (λ (t : KeptStream). t.buffers) (cond b (Some s) (stream_at n streams)) ≡ None
-        → cond b (record s { buffers = f s.buffers }) s ∷ change_stream n f streams ≡ s ∷ streams) [
+    → cond b (record s { buffers = f s.buffers }) s ∷ change_stream n f streams ≡ s ∷ streams) [
       | true ↦ λ found. absurd cc
       | false ↦ λ found. ap (λ (ss : List KeptStream). s ∷ ss) (change_none n f streams found)
     ] none
@@ -42,16 +42,16 @@ pub change_const : (low high n : ℕ) (f : Buffers → Buffers) (b : Buffers) (s
 change_const low high n f b [] rising found = refl
 change_const low high n f b (s ∷ streams) rising found =
     elim (s.number == n) as (λ t. (s.number == n) ≡ t → option_map (λ (t : KeptStream). t.buffers) (cond t (Some s) (stream_at n streams))
-        ≡ Some b
+    ≡ Some b
     → cond t (record s { buffers = f b }) s ∷ change_stream n (λ _. f b) streams ≡ cond t (record s { buffers = f s.buffers }) s
-        ∷ change_stream n f streams) [
+    ∷ change_stream n f streams) [
       | true ↦ λ here same. (
           let under : n ≤ s.number = grind (arith, nat_tests) in
           let is : b ≡ s.buffers = cc in
           ap (λ (c : Buffers). record s { buffers = f c } ∷ change_stream n (λ _. f b) streams) is
           ∙ ap (λ (ss : List KeptStream). record s { buffers = f s.buffers } ∷ ss)
-              (change_below s.number high n (λ _. f b) streams rising.1 under
-              ∙ sym (change_below s.number high n f streams rising.1 under)))
+          (change_below s.number high n (λ _. f b) streams rising.1 under
+          ∙ sym (change_below s.number high n f streams rising.1 under)))
       | false ↦ λ apart same. ap (λ (ss : List KeptStream). s ∷ ss) (change_const s.number high n f b streams rising.1 same)
     ] refl found
 
@@ -82,7 +82,7 @@ pub lent_same : (store : StoreView) (n : ℕ) (b now : Buffers) → IsNumbered 0
     → Some b ≡ buffers_at n store.streams → now ≡ b → record store { streams = change_stream n (λ _. now) store.streams } ≡ store
 lent_same store n b now rising found is =
     lent store n (λ c. c) b now rising found is ∙ ap (λ (streams : List KeptStream). record store { streams = streams })
-        (unchanged n store.streams)
+    (unchanged n store.streams)
 
 -- the stream of a handle is that of its number
 above : (low high h : ℕ) (streams : List KeptStream) (s : KeptStream) → IsNumbered low streams high → stream_of h streams ≡ Some s
@@ -99,7 +99,7 @@ pub of_handle : (low high h : ℕ) (streams : List KeptStream) (s : KeptStream) 
 of_handle low high h [] s rising found = absurd cc
 of_handle low high h (t ∷ streams) s rising found =
     elim ((t.handle == h) && not (h == 0)) as (λ b. cond b (Some t) (stream_of h streams) ≡ Some s
-        → cond (t.number == s.number) (Some t) (stream_at s.number streams) ≡ Some s) [
+    → cond (t.number == s.number) (Some t) (stream_at s.number streams) ≡ Some s) [
       | true ↦ λ same. (let is : t ≡ s = cc in let here : (t.number == s.number)
           ≡ true = eq-eqb t.number s.number (ap (λ (u : KeptStream). u.number) is) in rw here same)
       | false ↦ λ same. (let later = above t.number high h streams s rising.1 same in

@@ -1,6 +1,6 @@
 -- A context's frame that begins.
-use Rattle.std.proofs.Common.{◌≡◌, ℕ, ◌+◌, ◌-◌, ◌^◌, ◌<◌, Bool, true, false, cond, ◌==◌, List, [], ◌∷◌, map, Option, Some, None, refl, sym,
-    Ok}
+use Rattle.std.proofs.Common.{◌≡◌, ℕ, ◌+◌, ◌-◌, ◌^◌, ◌<◌, Bool, true, false, cond, ◌==◌, List, [], ◌∷◌, map, Option, Some, None, refl, sym}
+use Rattle.std.proofs.Common.{Ok}
 use Rattle.std.proofs.Common.{ap, subst, ◌∙◌}
 use Rattle.std.specs.Prelude.{find}
 use Rattle.std.specs.List.{AllByRecursion}
@@ -21,8 +21,8 @@ use Rattle.wf_calls.specs.declared.call.JobKind.TheVariants as kind
 use Rattle.wf_calls.specs.declared.reply.Payload.TheVariants as payload
 use Rattle.wf_calls.specs.declared.reply.Reply.{Reply}
 use Rattle.wf_model.specs.declared.Context.{Context}
-use Rattle.wf_model.specs.Frames.{begin_context, begin_next, content_shape, is_running, latch, latched_among, newest_images, next_context,
-    target_ready, is_short, all_begun}
+use Rattle.wf_model.specs.Frames.{begin_context, begin_next, content_shape, is_running, latch, latched_among, newest_images, next_context}
+use Rattle.wf_model.specs.Frames.{target_ready, is_short, all_begun}
 use Rattle.wf_model.specs.Frames.{scene_streams}
 use Rattle.wf_model.specs.Outcome.{refuse_with}
 use Rattle.wf_model.specs.Picture.{Fits as Drawn, Images}
@@ -105,7 +105,7 @@ changed_here f n ss b keeps found = of_stream (stream_at n ss) refl
         let same : s.buffers ≡ b = cc in
         let here : (s.number == n) ≡ true = eq-eqb s.number n (has_number n ss s at) in
         buffers_mapped (changed_at n f) (changed_keeps n f keeps) n ss
-            ∙ ap (λ (o : Option KeptStream). option_map (λ (t : KeptStream). (changed_at n f t).buffers) o) at
+        ∙ ap (λ (o : Option KeptStream). option_map (λ (t : KeptStream). (changed_at n f t).buffers) o) at
         ∙ ap (λ (x : Bool). Some (cond x (record s { buffers = f s.buffers }) s).buffers) here ∙ ap (λ (c : Buffers). Some (f c)) same
 
 -- the buffers of a stream after the newest images of some went away
@@ -119,14 +119,14 @@ latched_here ns n ss b found = of_stream (stream_at n ss) refl
         let is : Some s.buffers ≡ Some b = rw at at found in
         let same : s.buffers ≡ b = cc in
         buffers_mapped (latched_among ns) (latch_keeps ns) n ss
-            ∙ ap (λ (o : Option KeptStream). option_map (λ (t : KeptStream). (latched_among ns t).buffers) o) at
+        ∙ ap (λ (o : Option KeptStream). option_map (λ (t : KeptStream). (latched_among ns t).buffers) o) at
         ∙ elim (is_in s.number ns) as (λ x. Some (cond x (record s { buffers = latched s.buffers }) s).buffers
-            ≡ Some (latched_if x s.buffers)) [
+        ≡ Some (latched_if x s.buffers)) [
           | true ↦ refl
           | false ↦ refl
         ]
         ∙ ap (λ (k : ℕ). Some (latched_if (is_in k ns) s.buffers)) (has_number n ss s at)
-            ∙ ap (λ (c : Buffers). Some (latched_if (is_in n ns) c)) same
+        ∙ ap (λ (c : Buffers). Some (latched_if (is_in n ns) c)) same
 
 latched_out : (b : Buffers) → (latched b).out ≡ b.out
 latched_out b = of_newest (newest b)
@@ -142,7 +142,7 @@ is_ready handle target scene b h ready = of_tests b.out (is_short target scene b
   where
     of_tests : (x y : Bool)
         → (refuse_with code.Busy handle x >>= (λ _. refuse_with code.NoBuffer handle y
-            >>= (λ _. refuse_with code.Limit handle (all_begun h)))) ≡ Ok tt
+        >>= (λ _. refuse_with code.Limit handle (all_begun h)))) ≡ Ok tt
         → (x ≡ false) × (y ≡ false)
     of_tests true y is = absurd cc
     of_tests false true is = absurd cc

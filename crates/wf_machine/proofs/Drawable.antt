@@ -1,6 +1,6 @@
 -- A scene whose layers fit the streams has a picture with the images that were taken of them.
-use Rattle.std.proofs.Common.{◌≡◌, ◌≢◌, ℕ, ◌<◌, Bool, true, false, cond, ◌==◌, ◌&&◌, List, [], ◌∷◌, Option, Some, None, refl, sym, ap,
-    subst, ◌∙◌, arith, IsTrue, T}
+use Rattle.std.proofs.Common.{◌≡◌, ◌≢◌, ℕ, ◌<◌, Bool, true, false, cond, ◌==◌, ◌&&◌, List, [], ◌∷◌, Option, Some, None, refl, sym, ap}
+use Rattle.std.proofs.Common.{subst, ◌∙◌, arith, IsTrue, T}
 use lib.Signed.{le_z_yes}
 use Rattle.std.specs.Prelude.{nat_le, nat_lt, ℤ, pos, negsuc, ◌≤ℤ◌, ◌+ℤ◌, int_le}
 use Rattle.std.specs.List.{All, AllByRecursion}
@@ -113,7 +113,7 @@ pub sides_at : (ports : List Port) (cs : List Content) (n : ℕ) (ss : List Kept
 sides_at ports cs n [] fit = tt
 sides_at ports cs n (s ∷ ss) fit =
     elim (s.number == n) as (λ b. IfSome (option_map (λ (t : KeptStream). t.buffers) (cond b (Some s) (stream_at n ss)))
-        (λ c. has_sides c.size ≡ true)) [ true ↦ fit.0.sides | false ↦ sides_at ports cs n ss fit.1 ]
+    (λ c. has_sides c.size ≡ true)) [ true ↦ fit.0.sides | false ↦ sides_at ports cs n ss fit.1 ]
 
 module _ (ports : List Port) (cs : List Content) (ss : List KeptStream) (contents : Images) (fit : AllFit ports cs ss)
     (shaped : AreShapedAs ss contents) where
@@ -152,9 +152,11 @@ module _ (ports : List Port) (cs : List Content) (ss : List KeptStream) (content
       of_source : (o : Option Bitmap) → image_of l.stream contents ≡ o → IfSome o (λ i. (i.format ≢ A8) × IsTrue (holds_rect i.size l.src))
       of_source None is = tt
       of_source (Some i) is =
-          let b = shape_of l.stream i _ is fits.source in
-          ((λ mask. (let no : is_a8 i.format ≡ false = ap is_a8 b.1.format_is ∙ b.2.0 in
-              absurd (let yes : is_a8 A8 ≡ false = subst (λ (f : Format). is_a8 f ≡ false) mask no in cc))), rw b.1.size_is b.2.1)
+          let b = shape_of l.stream i _ is fits.source in (
+            (λ mask. (let no : is_a8 i.format ≡ false = ap is_a8 b.1.format_is ∙ b.2.0 in
+                absurd (let yes : is_a8 A8 ≡ false = subst (λ (f : Format). is_a8 f ≡ false) mask no in cc))),
+            rw b.1.size_is b.2.1,
+          )
 
       of_mask : IsTrue l.transparency.mask → (o : Option Bitmap) → image_of l.mask contents ≡ o
           → IfSome o (λ i. (i.format ≡ A8) × (i.size ≡ size_of l.dest))

@@ -33,8 +33,12 @@ module _ (g : KeptStream → KeptStream) (keeps : KeepsStream g) where
       of_stream None at = absurd (rw at at is)
       of_stream (Some s) at =
           let was : (s.buffers.out ≡ true) × (size ≡ s.buffers.size) × (format ≡ s.buffers.format) = rw at at is in
-          rw (buffers_mapped g keeps n ss, at) (out s (has_number n ss s at) was.0, was.1 ∙ sym (keeps.size s), was.2
-              ∙ sym (keeps.format s))
+          rw (buffers_mapped g keeps n ss, at) (
+            out s (has_number n ss s at) was.0,
+            was.1 ∙ sym (keeps.size s),
+            was.2
+                ∙ sym (keeps.format s),
+          )
 
   kind_kept : (ports : List Port) (ss : List KeptStream) (size : Size) (format : Format) (k : JobKind)
       → ((n : ℕ) → is_in n (target_names k) ≡ true → StaysOut n) → KindFits ports ss size format k → KindFits ports (map g ss) size format k
@@ -53,7 +57,7 @@ pub frame_acquired : (n : ℕ) (ports : List Port) (ss : List KeptStream) (o : O
 frame_acquired n ports ss o keeps fits =
     frame_kept (changed_at n acquired) (changed_keeps n acquired keeps) ports ss o
     (λ k is s at out. elim (s.number == n) as (λ b. (cond b (record s { buffers = acquired s.buffers }) s).buffers.out
-        ≡ true) [ true ↦ refl | false ↦ out ]) fits
+    ≡ true) [ true ↦ refl | false ↦ out ]) fits
 
 -- the buffers of another stream change
 pub frame_apart : (n : ℕ) (f : Buffers → Buffers) (ports : List Port) (ss : List KeptStream) (o : Option Running) → KeepsShape f
@@ -61,7 +65,7 @@ pub frame_apart : (n : ℕ) (f : Buffers → Buffers) (ports : List Port) (ss : 
 frame_apart n f ports ss o keeps apart fits =
     frame_kept (changed_at n f) (changed_keeps n f keeps) ports ss o
     (λ k is s at out. elim (s.number == n) as (λ b. (s.number == n) ≡ b
-        → (cond b (record s { buffers = f s.buffers }) s).buffers.out ≡ true) [
+    → (cond b (record s { buffers = f s.buffers }) s).buffers.out ≡ true) [
       | true ↦ λ here. absurd (let same : k ≡ n = sym at ∙ eqb-true s.number n here in
           let no : true ≡ false = sym is ∙ ap (λ (j : ℕ). is_target j o) same ∙ apart in cc)
       | false ↦ λ other. out
@@ -73,7 +77,7 @@ pub frame_home : (xs : Images) (ports : List Port) (ss : List KeptStream) (o : O
 frame_home xs ports ss o fits =
     frame_kept (home_among xs) (home_keeps xs) ports ss o
     (λ k is s at out. elim (image_of s.number xs) as (λ (i : Option Bitmap). (home_if i s).buffers.out
-        ≡ true) [ None ↦ out | Some image ↦ out ]) fits
+    ≡ true) [ None ↦ out | Some image ↦ out ]) fits
 
 -- a handle is dead
 pub frame_unnamed : (handle : ℕ) (ports : List Port) (ss : List KeptStream) (o : Option Running) → IfSome o (FrameFits ports ss)
@@ -81,4 +85,4 @@ pub frame_unnamed : (handle : ℕ) (ports : List Port) (ss : List KeptStream) (o
 frame_unnamed handle ports ss o fits =
     frame_kept (unnamed handle) (unnamed_keeps handle) ports ss o
     (λ k is s at out. elim (s.handle == handle) as (λ b. (cond b (record s { handle = 0 }) s).buffers.out
-        ≡ true) [ true ↦ out | false ↦ out ]) fits
+    ≡ true) [ true ↦ out | false ↦ out ]) fits

@@ -1,6 +1,6 @@
 -- Streams without a name are dropped, and what holds of the machine holds still.
-use Rattle.std.proofs.Common.{◌≡◌, ℕ, zero, suc, ◌+◌, ◌<◌, ◌≤◌, Bool, true, false, cond, ◌==◌, ◌||◌, List, [], ◌∷◌, ◌++◌, length, map,
-    filter, Option, Some, None, refl, sym, ap, subst, ◌∙◌, arith}
+use Rattle.std.proofs.Common.{◌≡◌, ℕ, zero, suc, ◌+◌, ◌<◌, ◌≤◌, Bool, true, false, cond, ◌==◌, ◌||◌, List, [], ◌∷◌, ◌++◌, length, map}
+use Rattle.std.proofs.Common.{filter, Option, Some, None, refl, sym, ap, subst, ◌∙◌, arith}
 use Rattle.std.specs.Prelude.{flat_map, sum_by}
 use Rattle.std.specs.List.{range_with_len}
 use Rattle.std.specs.Option.{option_map, IfSome}
@@ -74,8 +74,11 @@ fit_among : (ns : List ℕ) (ports : List Port) (cs : List Content) (ss : List K
     → AllFit ports cs (among ns ss)
 fit_among ns ports cs [] fit = tt
 fit_among ns ports cs (s ∷ ss) fit = elim (is_in s.number ns)
-    as (λ b. AllFit ports cs (cond b (s ∷ among ns ss) (among ns ss))) [ true ↦ (fit.0, fit_among ns ports cs ss fit.1) | false ↦ fit_among
-    ns ports cs ss fit.1 ]
+    as (λ b. AllFit ports cs (cond b (s ∷ among ns ss) (among ns ss))) [
+      | true ↦ (fit.0, fit_among ns ports cs ss fit.1)
+      | false ↦ fit_among
+          ns ports cs ss fit.1
+    ]
 
 -- the names of a state
 
@@ -83,7 +86,7 @@ core_named : (h : State) (n : ℕ) → is_in n (core_names h.core) ≡ true → 
 core_named h n within =
     in_front n ((flat_map own_names h.streams ++ core_names h.core) ++ display_names h.display) (frame_names h.frame)
     (in_front n (flat_map own_names h.streams ++ core_names h.core) (display_names h.display)
-        (in_back n (flat_map own_names h.streams) (core_names h.core) within))
+    (in_back n (flat_map own_names h.streams) (core_names h.core) within))
 
 frame_named : (h : State) (n : ℕ) → is_in n (frame_names h.frame) ≡ true → is_in n (all_names h) ≡ true
 frame_named h n within = in_back n ((flat_map own_names h.streams ++ core_names h.core) ++ display_names h.display) (frame_names h.frame)
@@ -158,10 +161,10 @@ own_left ns n (s ∷ ss) within own =
           rw there (in_front n (own_names s) (flat_map own_names (among ns ss)) here))
       | false ↦ λ other. (
           let behind : is_in n (flat_map own_names ss) ≡ true = ap (λ (b : Bool). b || is_in n (flat_map own_names ss)) (sym other)
-              ∙ sym (list_any-append (λ (x : ℕ). x == n) (own_names s) (flat_map own_names ss)) ∙ own in
+          ∙ sym (list_any-append (λ (x : ℕ). x == n) (own_names s) (flat_map own_names ss)) ∙ own in
           let later = own_left ns n ss within behind in
           elim (is_in s.number ns) as (λ b. is_in n (flat_map own_names (cond b (s ∷ among ns ss) (among ns ss)))
-              ≡ true) [ true ↦ in_back n (own_names s) (flat_map own_names (among ns ss)) later | false ↦ later ])
+          ≡ true) [ true ↦ in_back n (own_names s) (flat_map own_names (among ns ss)) later | false ↦ later ])
     ] refl
 
 -- what is named is named still
@@ -174,12 +177,12 @@ still_named h n within =
     let frame = frame_names h.frame in
     let split : (a b c d : List ℕ) → is_in n (((a ++ b) ++ c) ++ d) ≡ (((is_in n a || is_in n b) || is_in n c) || is_in n d) = λ a b c d.
     list_any-append (λ (x : ℕ). x == n) ((a ++ b) ++ c) d
-        ∙ ap (λ (x : Bool). x || is_in n d) (list_any-append (λ (x : ℕ). x == n) (a ++ b) c
-        ∙ ap (λ (x : Bool). x || is_in n c) (list_any-append (λ (x : ℕ). x == n) a b)) in
+    ∙ ap (λ (x : Bool). x || is_in n d) (list_any-append (λ (x : ℕ). x == n) (a ++ b) c
+    ∙ ap (λ (x : Bool). x || is_in n c) (list_any-append (λ (x : ℕ). x == n) a b)) in
     let was : (((is_in n own || is_in n core) || is_in n display) || is_in n frame) ≡ true = sym (split own core display frame) ∙ within in
     split left core display frame
     ∙ elim (is_in n own) as (λ b. is_in n own ≡ b → (((b || is_in n core) || is_in n display) || is_in n frame) ≡ true
-        → (((is_in n left || is_in n core) || is_in n display) || is_in n frame) ≡ true) [
+    → (((is_in n left || is_in n core) || is_in n display) || is_in n frame) ≡ true) [
       | true ↦ λ here _. rw (own_left (all_names h) n h.streams within here) refl
       | false ↦ λ other rest. or_behind (is_in n left) (is_in n core) (is_in n display) (is_in n frame) rest
     ] refl was
@@ -193,7 +196,7 @@ all_left : (ns ms : List ℕ) (ss : List KeptStream) → ((n : ℕ) → is_in n 
 all_left ns ms [] named = refl
 all_left ns ms (s ∷ ss) named =
     elim (is_in s.number ns) as (λ b. is_in s.number ns ≡ b
-        → among ms (cond b (s ∷ among ns ss) (among ns ss)) ≡ cond b (s ∷ among ns ss) (among ns ss)) [
+    → among ms (cond b (s ∷ among ns ss) (among ns ss)) ≡ cond b (s ∷ among ns ss) (among ns ss)) [
       | true ↦ λ here. (let there = named s.number here in rw there (ap (λ (ts : List KeptStream). s ∷ ts) (all_left ns ms ss named)))
       | false ↦ λ other. all_left ns ms ss named
     ] refl
@@ -217,7 +220,7 @@ screens_left ns k [] named = refl
 screens_left ns k (m ∷ ms) named =
     let here : is_in k ns ≡ true = named k (omega arith) (omega arith) in
     rw here (ap (λ (ss : List KeptStream). screen (k, m) ∷ ss)
-        (screens_left ns (k + 1) ms (λ n from to. named n (omega arith) (omega arith))))
+    (screens_left ns (k + 1) ms (λ n from to. named n (omega arith) (omega arith))))
 
 pub opening_settled : (ports : Ports) → IsSettled (opening ports)
 opening_settled ports =
@@ -226,6 +229,6 @@ opening_settled ports =
     sym (screens_left (all_names h) 1 ms (λ n from to. (
     let many : length (map initial_port ms) ≡ length ms = length-map ms initial_port in
     let named : is_in n (display_names h.display) ≡ true = ap (λ (k : ℕ). is_in n (range_with_len 1 k)) many
-        ∙ in_range n 1 (length ms) from to in
+    ∙ in_range n 1 (length ms) from to in
     in_front n ((flat_map own_names h.streams ++ core_names h.core) ++ display_names h.display) (frame_names h.frame)
-        (in_back n (flat_map own_names h.streams ++ core_names h.core) (display_names h.display) named))))
+    (in_back n (flat_map own_names h.streams ++ core_names h.core) (display_names h.display) named))))

@@ -1,6 +1,6 @@
 -- The machine once its frame has ended.
-use Rattle.std.proofs.Common.{◌≡◌, ℕ, ◌+◌, ◌-◌, ◌<◌, ◌≤◌, true, cond, ◌==◌, List, [], ◌∷◌, length, map, Option, Some, None, refl, sym, ap,
-    subst, ◌∙◌, arith, zero, suc}
+use Rattle.std.proofs.Common.{◌≡◌, ℕ, ◌+◌, ◌-◌, ◌<◌, ◌≤◌, true, cond, ◌==◌, List, [], ◌∷◌, length, map, Option, Some, None, refl, sym, ap}
+use Rattle.std.proofs.Common.{subst, ◌∙◌, arith, zero, suc}
 use Rattle.std.specs.Prelude.{slice_get}
 use Rattle.std.specs.List.{list_all}
 use Rattle.std.specs.Option.{option_map, IfSome, IsSomeAnd}
@@ -27,8 +27,8 @@ use Rattle.wf_model.specs.Picture.{Images}
 use Rattle.wf_machine.specs.declared.frame.Frame.{Frame}
 use Rattle.wf_machine.specs.declared.parts.Parts.TheInside.{Inside}
 use Rattle.wf_machine.specs.declared.port.Port as declared
-use Rattle.wf_machine.specs.Fitting.{AllFit, AreOnce, FrameFits, IsDue, IsOfPort, IsOfTarget, IsRead, IsScreen, KindFits, PortsFit,
-    StreamFits, away_of, content_at, contents_of, is_of_running}
+use Rattle.wf_machine.specs.Fitting.{AllFit, AreOnce, FrameFits, IsDue, IsOfPort, IsOfTarget, IsRead, IsScreen, KindFits, PortsFit}
+use Rattle.wf_machine.specs.Fitting.{StreamFits, away_of, content_at, contents_of, is_of_running}
 use Rattle.wf_machine.specs.Inside.{IsSound, state_of}
 use Rattle.wf_machine.specs.Latching.{AreAwaited, Awaits}
 use Rattle.wf_machine.specs.Ports.{HoldsBut, IsFrameImage, port_of, running_of}
@@ -37,8 +37,8 @@ use Rattle.wf_machine.proofs.Beginning.{seen_twice}
 use Rattle.wf_machine.proofs.Drawing.{frame_home}
 use Rattle.wf_machine.proofs.Latches.{KeepsShape}
 use Rattle.wf_words.specs.Once.{by_number}
-use Rattle.wf_machine.proofs.Mapped.{SeenSame, bytes_mapped, changed_at, changed_keeps, home_among, home_keeps, numbered_mapped,
-    seen_mapped}
+use Rattle.wf_machine.proofs.Mapped.{SeenSame, bytes_mapped, changed_at, changed_keeps, home_among, home_keeps, numbered_mapped}
+use Rattle.wf_machine.proofs.Mapped.{seen_mapped}
 use Rattle.wf_machine.proofs.Shapes.{AreOf, Apart, IsOfShape, all_of, none_there}
 use Rattle.wf_machine.proofs.StillComposed.{still_fits}
 use Rattle.wf_machine.proofs.StillFitting.{all_kept, posted_keeps, shape_kept}
@@ -66,7 +66,7 @@ awaits_one : (cs : List Content) (ports : List Port) (streams : List KeptStream)
 awaits_one cs ports [] p fit of = tt
 awaits_one cs ports (s ∷ streams) p fit of =
     by_number (IfSome (option_map (λ (t : KeptStream). t.buffers) (cond (s.number == p.0) (Some s) (stream_at p.0 streams)))
-        (λ b. (b.read ≡ away) × HasShape b.size b.format p.1)) s.number p.0
+    (λ b. (b.read ≡ away) × HasShape b.size b.format p.1)) s.number p.0
     (λ here same. rw here (of_content (content_at p.0 cs) (subst (λ (k : ℕ). IsRead s.buffers (content_at k cs)) same fit.0.read) of))
     (λ apart. rw apart (awaits_one cs ports streams p fit.1 of))
   where
@@ -74,9 +74,13 @@ awaits_one cs ports (s ∷ streams) p fit of =
         × HasShape s.buffers.size s.buffers.format p.1
     of_content None read of = absurd of
     of_content (Some c) read of =
-        let parts = and_parts (same_size p.1.size c.size) (same_format p.1.format c.format) of in
-        (read.0, record { size_is = size_is p.1.size c.size parts.0 ∙ sym read.1;
-            format_is = format_is p.1.format c.format parts.1 ∙ sym read.2 })
+        let parts = and_parts (same_size p.1.size c.size) (same_format p.1.format c.format) of in (
+          read.0,
+          record {
+            size_is = size_is p.1.size c.size parts.0 ∙ sym read.1;
+            format_is = format_is p.1.format c.format parts.1 ∙ sym read.2;
+          },
+        )
 
 all_await : (cs : List Content) (ports : List Port) (streams : List KeptStream) (xs : Images) → AllFit ports cs streams → AreOf cs xs
     → Apart xs → AreAwaited streams xs
@@ -97,11 +101,17 @@ all_back cs ports (s ∷ streams) xs there fit = (of_image (image_of s.number xs
     of_image : (o : Option Bitmap) → image_of s.number xs ≡ o → StreamFits ports [] (home_if (image_of s.number xs) s)
     of_image None is =
         let none = none_there s.number cs xs there is in
-        rw is (record { sides = fit.0.sides; screen = fit.0.screen;
-            read = subst (λ (o : Option Content). IsRead s.buffers o) none fit.0.read })
+        rw is (record {
+          sides = fit.0.sides;
+          screen = fit.0.screen;
+          read = subst (λ (o : Option Content). IsRead s.buffers o) none fit.0.read;
+        })
     of_image (Some image) is =
-        rw is (record { sides = fit.0.sides; screen = screen_home image s.buffers (nth s.number ports) fit.0.screen;
-        read = λ h. absurd cc })
+        rw is (record {
+          sides = fit.0.sides;
+          screen = screen_home image s.buffers (nth s.number ports) fit.0.screen;
+          read = λ h. absurd cc;
+        })
 
 -- the streams that got what a frame drew
 
@@ -134,7 +144,7 @@ ended_seen : (k : JobKind) (image : Bitmap) (xs : Images) (n : ℕ) (ss : List K
     → SeenSame (buffers_at n ss) (buffers_at n (delivered k image (brought_home xs ss)))
 ended_seen k image xs n ss =
     seen_twice (buffers_at n ss) (buffers_at n (brought_home xs ss)) (buffers_at n (delivered k image (brought_home xs ss)))
-        (seen_mapped (home_among xs) (home_keeps xs) n ss) (delivered_seen k image n (brought_home xs ss))
+    (seen_mapped (home_among xs) (home_keeps xs) n ss) (delivered_seen k image n (brought_home xs ss))
 
 -- the frame that ends is the one that runs
 pub running_frame : (m : Inside) (job : Job) → is_of_running job (option_map running_of m.frame) ≡ true → (f : Frame) × (m.frame ≡ Some f)
@@ -155,7 +165,7 @@ same_kind_is : (j k : JobKind) → same_kind j k ≡ true → k ≡ j
 same_kind_is (kind.Context handle target) (kind.Context other into) is =
     let both = and_parts (handle == other) (target == into) is in
     ap (λ (n : ℕ). kind.Context n into) (sym (eqb-true handle other both.0))
-        ∙ ap (λ (n : ℕ). kind.Context handle n) (sym (eqb-true target into both.1))
+    ∙ ap (λ (n : ℕ). kind.Context handle n) (sym (eqb-true target into both.1))
 same_kind_is (kind.Port p) (kind.Port q) is = ap (λ (n : ℕ). kind.Port n) (sym (eqb-true p q is))
 same_kind_is (kind.Context handle target) (kind.Port q) is = absurd cc
 same_kind_is (kind.Port p) (kind.Context other into) is = absurd cc
@@ -165,10 +175,14 @@ none_away : (f : Running) (handle target : ℕ) → f.kind ≡ kind.Context hand
     → PortsFit (Some f) k ps → PortsFit None k ps
 none_away f handle target is k [] fit = tt
 none_away f handle target is k (p ∷ ps) fit =
-    let none : away_of (Some f) k ≡ 0 = rw is refl in
-    (record { some = fit.0.some; sides = fit.0.sides;
-        images = subst (λ (n : ℕ). HoldsBut n p.modes.items p.images.items) none fit.0.images },
-        none_away f handle target is (k + 1) ps fit.1)
+    let none : away_of (Some f) k ≡ 0 = rw is refl in (
+      record {
+        some = fit.0.some;
+        sides = fit.0.sides;
+        images = subst (λ (n : ℕ). HoldsBut n p.modes.items p.images.items) none fit.0.images;
+      },
+      none_away f handle target is (k + 1) ps fit.1,
+    )
 
 module _ (m : Inside) (job : Job) (is : is_of_running job (option_map running_of m.frame) ≡ true) (sound : IsSound m) where
   abbrev f : Frame
@@ -205,9 +219,9 @@ module _ (m : Inside) (job : Job) (is : is_of_running job (option_map running_of
   fits_home : KindFits ports home f.size f.format job.kind
   fits_home =
       let runs_so : IfSome (Some (running_of f)) (FrameFits ports m.store.streams) =
-          subst (λ (o : Option Frame). IfSome (option_map running_of o) (FrameFits ports m.store.streams)) runs sound.frame in
+      subst (λ (o : Option Frame). IfSome (option_map running_of o) (FrameFits ports m.store.streams)) runs sound.frame in
       subst (λ (k : JobKind). KindFits ports home f.size f.format k) kind_is
-          (frame_home job.contents ports m.store.streams (Some (running_of f)) runs_so)
+      (frame_home job.contents ports m.store.streams (Some (running_of f)) runs_so)
 
   ports_fit : PortsFit (Some (running_of f)) 1 m.ports.items
   ports_fit = subst (λ (o : Option Frame). PortsFit (option_map running_of o) 1 m.ports.items) runs sound.ports
@@ -221,8 +235,10 @@ module _ (m : Inside) (job : Job) (is : is_of_running job (option_map running_of
   -- the write buffer of a context's target
   due_target : (handle target : ℕ) → f.kind ≡ kind.Context handle target → IsOfTarget (buffers_at target home) f.size f.format
       → IsDue home m.ports.items (kind.Context handle target) job.image
-  due_target handle target is fits = (of_buffers (buffers_at target home) fits,
-      none_away (running_of f) handle target is 1 m.ports.items ports_fit)
+  due_target handle target is fits = (
+    of_buffers (buffers_at target home) fits,
+    none_away (running_of f) handle target is 1 m.ports.items ports_fit,
+  )
     where
       of_buffers : (o : Option Buffers) → IsOfTarget o f.size f.format → IfSome o (λ b. (b.out ≡ true) × HasShape b.size b.format job.image)
       of_buffers None fits = tt
@@ -249,9 +265,12 @@ module _ (m : Inside) (job : Job) (is : is_of_running job (option_map running_of
       → IsDue home m.ports.items (kind.Port port) job.image
   due_port port is fits =
       let found = at_place port ports (λ p. (f.size ≡ mode_size 1 p.modes) × (f.format ≡ Rgba8Pre)) fits in
-      let back : port ≡ port - 1 + 1 = omega (arith, found.0) in
-      (found.0, omega (arith, found.1, length-map m.ports.items port_of), (running_of f, is ∙ ap (λ (n : ℕ). kind.Port n) back, ports_fit),
-          of_place (slice_get ports (port - 1)) found.2)
+      let back : port ≡ port - 1 + 1 = omega (arith, found.0) in (
+        found.0,
+        omega (arith, found.1, length-map m.ports.items port_of),
+        (running_of f, is ∙ ap (λ (n : ℕ). kind.Port n) back, ports_fit),
+        of_place (slice_get ports (port - 1)) found.2,
+      )
     where
       of_place : (o : Option Port) → IfSome o (λ p. (f.size ≡ mode_size 1 p.modes) × (f.format ≡ Rgba8Pre))
           → IfSome o (λ p. IsFrameImage (mode_size 1 p.modes) (Some job.image))
@@ -312,8 +331,12 @@ module _ (m : Inside) (job : Job) (is : is_of_running job (option_map running_of
             few = omega (arith, as_many, sound.few);
             screens = omega (arith, as_many, now_numbered, sound.screens);
             ports = rw (free, ports-are) ended.fit;
-            small = rw now_streams (omega (arith, sound.small, delivered_bytes job.kind job.image home,
-                bytes_mapped (home_among job.contents) (home_keeps job.contents) m.store.streams));
+            small = rw now_streams (omega (
+              arith,
+              sound.small,
+              delivered_bytes job.kind job.image home,
+              bytes_mapped (home_among job.contents) (home_keeps job.contents) m.store.streams,
+            ));
             streams = rw (no_contents, now_ports, now_streams)
                 (delivered_fit job.kind job.image ports [] home (all_back f.contents.items ports m.store.streams job.contents parts.there
                 fit));
@@ -325,8 +348,15 @@ module _ (m : Inside) (job : Job) (is : is_of_running job (option_map running_of
       state_is : state_of now ≡ record (state_of m) { streams = after; frame = None }
       state_is =
           let state : ℕ → StoreView → CoreState → List Port → Option Frame → State = λ n v core ps o.
-          record { made = v.made; numbered = v.numbered; begun = n; streams = v.streams; core = core; display = record { ports = ps };
-              frame = option_map running_of o } in
+          record {
+            made = v.made;
+            numbered = v.numbered;
+            begun = n;
+            streams = v.streams;
+            core = core;
+            display = record { ports = ps };
+            frame = option_map running_of o;
+          } in
           let store : StoreView = record m.store { streams = after } in
           ap (λ (n : ℕ). state n now.store now.core (map port_of now.ports.items) now.frame) begun-is
           ∙ ap (λ (v : StoreView). state m.begun v now.core (map port_of now.ports.items) now.frame) now_store

@@ -1,6 +1,6 @@
 -- Images that come home one after another.
-use Rattle.std.proofs.Common.{◌≡◌, ℕ, Bool, true, false, cond, ◌==◌, List, [], ◌∷◌, ◌++◌, Option, Some, None, refl, sym, ap, subst, ◌∙◌,
-    append_assoc, arith}
+use Rattle.std.proofs.Common.{◌≡◌, ℕ, Bool, true, false, cond, ◌==◌, List, [], ◌∷◌, ◌++◌, Option, Some, None, refl, sym, ap, subst, ◌∙◌}
+use Rattle.std.proofs.Common.{append_assoc, arith}
 use Rattle.std.specs.Prelude.{find}
 use Rattle.std.specs.Option.{option_map, IfSome}
 use Rattle.std.proofs.lemmas.Bool.{eq-eqb}
@@ -26,7 +26,7 @@ buffers_home n contents [] none = refl
 buffers_home n contents (s ∷ streams) none =
     let t = home_if (image_of s.number contents) s in
     let at : Bool → KeptStream → List KeptStream → Option Buffers =
-        λ b u us. option_map (λ (v : KeptStream). v.buffers) (cond b (Some u) (stream_at n us)) in
+    λ b u us. option_map (λ (v : KeptStream). v.buffers) (cond b (Some u) (stream_at n us)) in
     ap (λ (k : ℕ). at (k == n) t (brought_home contents streams)) (number_home (image_of s.number contents) s)
     ∙ by_number (at (s.number == n) t (brought_home contents streams) ≡ at (s.number == n) s streams) s.number n
     (λ here same. (
@@ -38,7 +38,7 @@ pub still_awaits : (pair : ℕ × Bitmap) (contents : Images) (streams : List Ke
     → Awaits streams pair → Awaits (brought_home contents streams) pair
 still_awaits pair contents streams none awaits =
     subst (λ (o : Option Buffers). IfSome o (λ s. (s.read ≡ away) × HasShape s.size s.format pair.1))
-        (sym (buffers_home pair.0 contents streams none)) awaits
+    (sym (buffers_home pair.0 contents streams none)) awaits
 
 -- one more image comes home
 pub home_more : (n : ℕ) (image : Bitmap) (contents : Images) (streams : List KeptStream) → image_of n contents ≡ None
@@ -49,8 +49,8 @@ home_more n image contents (s ∷ streams) none =
     let home : KeptStream → KeptStream = λ u. record u { buffers = returned image u.buffers } in
     let changed : Bool → KeptStream → KeptStream = λ b u. cond b (home u) u in
     let found : Bool
-        → Option Bitmap = λ b. option_map (λ (p : ℕ × Bitmap). p.1)
-        (cond b (Some (n, image)) (find (λ (p : ℕ × Bitmap). p.0 == s.number) contents)) in
+    → Option Bitmap = λ b. option_map (λ (p : ℕ × Bitmap). p.1)
+    (cond b (Some (n, image)) (find (λ (p : ℕ × Bitmap). p.0 == s.number) contents)) in
     ap (λ (k : ℕ). changed (k == n) (home_if o s) ∷ change_stream n (returned image) (brought_home contents streams)) (number_home o s)
     ∙ both_same _ _ _ _
     (by_number (changed (s.number == n) (home_if o s) ≡ home_if (found (n == s.number)) s) s.number n

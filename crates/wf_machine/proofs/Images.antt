@@ -1,6 +1,6 @@
 -- The images that ports keep for their frames.
-use Rattle.std.proofs.Common.{◌≡◌, ℕ, ◌-◌, List, [], ◌∷◌, ◌++◌, Option, Some, ap, sym, subst, ◌∙◌, ◌<◌, ◌+◌, length, take, get_or, None,
-    refl, arith, slice_set}
+use Rattle.std.proofs.Common.{◌≡◌, ℕ, ◌-◌, List, [], ◌∷◌, ◌++◌, Option, Some, ap, sym, subst, ◌∙◌, ◌<◌, ◌+◌, length, take, get_or, None}
+use Rattle.std.proofs.Common.{refl, arith, slice_set}
 use Rattle.std.proofs.lemmas.List.{take_more}
 use Rattle.wf_pixel.specs.declared.Size.{Size}
 use Rattle.wf_pixel.specs.declared.Format.TheVariants.{Rgba8Pre}

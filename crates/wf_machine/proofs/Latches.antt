@@ -1,6 +1,6 @@
 -- Streams that are latched one after another.
-use Rattle.std.proofs.Common.{◌≡◌, ◌≢◌, ℕ, ◌+◌, ◌<◌, ◌≤◌, Bool, true, false, not, cond, ◌==◌, ◌||◌, List, [], ◌∷◌, ◌++◌, length, map,
-    Option, Some, None, refl, sym, ap, subst, ◌∙◌, arith, length-append, append-nil, append_assoc, get_or, take}
+use Rattle.std.proofs.Common.{◌≡◌, ◌≢◌, ℕ, ◌+◌, ◌<◌, ◌≤◌, Bool, true, false, not, cond, ◌==◌, ◌||◌, List, [], ◌∷◌, ◌++◌, length, map}
+use Rattle.std.proofs.Common.{Option, Some, None, refl, sym, ap, subst, ◌∙◌, arith, length-append, append-nil, append_assoc, get_or, take}
 use Rattle.std.specs.Prelude.{filter, filter_map, flat_map, find, is_some, option_to_list}
 use Rattle.std.specs.Option.{option_map, IfSome, IsSomeAnd}
 use Rattle.std.proofs.lemmas.Bool.{eqb-true, eq-eqb}
@@ -56,14 +56,16 @@ shaped_one f n m image (s ∷ streams) keeps shaped =
     let changed : KeptStream = record s { buffers = f s.buffers } in
     let shape : Buffers → Type 0 = λ c. HasShape c.size c.format image in
     let at : Bool → KeptStream → List KeptStream → Option Buffers =
-        λ b t ts. option_map (λ (u : KeptStream). u.buffers) (cond b (Some t) (stream_at m ts)) in
+    λ b t ts. option_map (λ (u : KeptStream). u.buffers) (cond b (Some t) (stream_at m ts)) in
     elim (s.number == n) as (λ b. IsSomeAnd (at ((cond b changed s).number == m) (cond b changed s) (change_stream n f streams)) shape) [
       | true ↦ elim (s.number == m) as (λ b. IsSomeAnd (at b s streams) shape
           → IsSomeAnd (at b changed (change_stream n f streams)) shape) [
-        | true ↦ λ here. record { size_is = here.size_is ∙ sym (keeps.size s.buffers);
-            format_is = here.format_is ∙ sym (keeps.format s.buffers) }
-        | false ↦ later
-      ] shaped
+            | true ↦ λ here. record {
+              size_is = here.size_is ∙ sym (keeps.size s.buffers);
+              format_is = here.format_is ∙ sym (keeps.format s.buffers);
+            }
+            | false ↦ later
+          ] shaped
       | false ↦ elim (s.number == m) as (λ b. IsSomeAnd (at b s streams) shape → IsSomeAnd (at b s (change_stream n f streams)) shape) [
         | true ↦ λ here. here
         | false ↦ later
@@ -88,14 +90,14 @@ once_more (x ∷ ns) n =
     ap (λ (rest : List ℕ). x ∷ filter keeps rest) (once_more ns n)
     ∙ by_number (x ∷ filter keeps (named (once ns) n) ≡ named (x ∷ filter keeps (once ns)) n) x n
     (λ here same. rw here (elim (is_in n (once ns)) as (λ b. x ∷ filter keeps (cond b (once ns) (once ns ++ n ∷ [])) ≡ x
-        ∷ filter keeps (once ns)) [
+    ∷ filter keeps (once ns)) [
       | true ↦ refl
       | false ↦ ap (λ (rest : List ℕ). x ∷ rest) (filter-append keeps (once ns) (n ∷ [])
           ∙ (let gone : (n == x) ≡ true = eq-eqb n x (sym same) in rw gone (append-nil (filter keeps (once ns)))))
     ]))
     (λ apart. rw (apart, is_in-without n x (once ns) apart)
-        (elim (is_in n (once ns)) as (λ b. x ∷ filter keeps (cond b (once ns) (once ns ++ n ∷ []))
-        ≡ cond b (x ∷ filter keeps (once ns)) (x ∷ filter keeps (once ns) ++ n ∷ [])) [
+    (elim (is_in n (once ns)) as (λ b. x ∷ filter keeps (cond b (once ns) (once ns ++ n ∷ []))
+    ≡ cond b (x ∷ filter keeps (once ns)) (x ∷ filter keeps (once ns) ++ n ∷ [])) [
       | true ↦ refl
       | false ↦ ap (λ (rest : List ℕ). x ∷ rest) (filter-append keeps (once ns) (n ∷ [])
           ∙ (let stays : (n == x) ≡ false = grind (arith, nat_tests, apart) in rw stays refl))
@@ -123,8 +125,8 @@ image_newest (m ∷ ns) n streams = of_newest (image_newest ns n streams) (newes
         (λ apart. rw apart refl))
     of_newest later (Some image) is =
         rw is (by_number (option_map (λ (p : ℕ × Bitmap). p.1)
-            (cond (m == n) (Some (m, image)) (find (λ (p : ℕ × Bitmap). p.0 == n) (newest_images ns streams)))
-            ≡ cond ((m == n) || is_in n ns) (newest_at n) None) m n
+        (cond (m == n) (Some (m, image)) (find (λ (p : ℕ × Bitmap). p.0 == n) (newest_images ns streams)))
+        ≡ cond ((m == n) || is_in n ns) (newest_at n) None) m n
         (λ here same. rw here (sym (ap newest_at (sym same) ∙ is)))
         (λ apart. rw apart later))
 
@@ -147,18 +149,20 @@ same_stream ns n [] none = refl
 same_stream ns n (s ∷ streams) none =
     rw (number_latched ns s)
     (by_number (cond (s.number == n) (Some (latched_among ns s)) (stream_at n (latch ns streams))
-        ≡ cond (s.number == n) (Some s) (stream_at n streams)) s.number n
+    ≡ cond (s.number == n) (Some s) (stream_at n streams)) s.number n
     (λ here same. rw here (ap (λ (t : KeptStream). Some t)
-        (latched_same ns s
-        (λ within. (let found : newest_of (cond (s.number == n) (Some s) (stream_at n streams)) ≡ None = none (rw same at within) in
-        rw here at found)))))
+    (latched_same ns s
+    (λ within. (let found : newest_of (cond (s.number == n) (Some s) (stream_at n streams)) ≡ None = none (rw same at within) in
+    rw here at found)))))
     (λ apart. rw apart (same_stream ns n streams (λ within. (let found = none within in rw apart at found)))))
 
 pub home_at : (n : ℕ) (streams : List KeptStream) → AreAtHome streams → IsAtHome n streams
 home_at n [] home = tt
 home_at n (s ∷ streams) home = elim (s.number == n)
     as (λ b. IfSome (option_map (λ (t : KeptStream). t.buffers) (cond b (Some s) (stream_at n streams))) (λ c. c.read ≢ away)) [
-    true ↦ home.0 | false ↦ home_at n streams home.1 ]
+      | true ↦ home.0
+      | false ↦ home_at n streams home.1
+    ]
 
 -- a stream of which no image was taken is at home still
 pub still_home : (ns : List ℕ) (n : ℕ) (streams : List KeptStream) → AreAtHome streams → image_of n (newest_images ns streams) ≡ None
@@ -166,7 +170,7 @@ pub still_home : (ns : List ℕ) (n : ℕ) (streams : List KeptStream) → AreAt
 still_home ns n streams home none =
     let same = same_stream ns n streams (λ within. (let is = sym (image_newest ns n streams) ∙ none in rw within at is)) in
     subst (λ (o : Option KeptStream). IfSome (option_map (λ (t : KeptStream). t.buffers) o) (λ c. c.read ≢ away)) (sym same)
-        (home_at n streams home)
+    (home_at n streams home)
 
 pub numbered_latch : (ns : List ℕ) (low high : ℕ) (streams : List KeptStream) → IsNumbered low streams high
     → IsNumbered low (latch ns streams) high
@@ -195,12 +199,12 @@ change_again : (ns : List ℕ) (n low high : ℕ) (streams : List KeptStream) �
 change_again ns n low high [] rising none = refl
 change_again ns n low high (s ∷ streams) rising none =
     by_number (latched_at n (latched_among ns s) ∷ change_stream n latched (latch ns streams) ≡ latched_among ns s ∷ latch ns streams)
-        s.number n
+    s.number n
     (λ here same. (
     let found : newest s.buffers ≡ None = rw here at none in
     let as_was = latched_same ns s (λ _. found) in
     let below = change_below s.number high n latched (latch ns streams) (numbered_latch ns s.number high streams rising.1)
-        (omega (arith, same)) in
+    (omega (arith, same)) in
     both_same _ _ _ _ (ap (latched_at n) as_was ∙ latched_without n s found ∙ sym as_was) below))
     (λ apart. (
     let other : ((latched_among ns s).number == n) ≡ false = ap (λ (k : ℕ). k == n) (number_latched ns s) ∙ apart in
@@ -212,10 +216,10 @@ change_more : (ns : List ℕ) (n : ℕ) (streams : List KeptStream) → is_in n 
 change_more ns n [] new = refl
 change_more ns n (s ∷ streams) new =
     let among : is_in s.number (ns ++ n ∷ []) ≡ (is_in s.number ns || ((n == s.number) || false)) =
-        list_any-append (λ (x : ℕ). x == s.number) ns (n ∷ []) in
+    list_any-append (λ (x : ℕ). x == s.number) ns (n ∷ []) in
     let late : KeptStream = record s { buffers = latched s.buffers } in
     by_number (latched_at n (latched_among ns s) ∷ change_stream n latched (latch ns streams) ≡ latched_among (ns ++ n ∷ []) s
-        ∷ latch (ns ++ n ∷ []) streams) s.number n
+    ∷ latch (ns ++ n ∷ []) streams) s.number n
     (λ here same. (
     let absent : is_in s.number ns ≡ false = rw same new in
     let back : (n == s.number) ≡ true = eq-eqb n s.number (sym same) in
@@ -228,7 +232,7 @@ change_more ns n (s ∷ streams) new =
     let other : ((latched_among ns s).number == n) ≡ false = ap (λ (k : ℕ). k == n) (number_latched ns s) ∙ apart in
     let still : is_in s.number (ns ++ n ∷ []) ≡ is_in s.number ns = among ∙ rw back (or_none (is_in s.number ns)) in
     both_same _ _ _ _ (latched_other n (latched_among ns s) other ∙ sym (ap (λ (b : Bool). cond b late s) still))
-        (change_more ns n streams new)))
+    (change_more ns n streams new)))
   where
     or_none : (b : Bool) → (b || (false || false)) ≡ b
     or_none true = refl
@@ -237,7 +241,7 @@ change_more ns n (s ∷ streams) new =
 -- what is taken of one more stream
 pub latched_more : (ns : List ℕ) (n high : ℕ) (streams : List KeptStream) → IsNumbered 0 streams high
     → (with_newest n (latch ns streams) (newest_images ns streams) ≡ newest_images (named ns n) streams)
-        × (without_newest n (newest_images ns streams) (latch ns streams) ≡ latch (named ns n) streams)
+    × (without_newest n (newest_images ns streams) (latch ns streams) ≡ latch (named ns n) streams)
 latched_more ns n high streams rising =
     elim (is_in n ns) as (λ b. is_in n ns ≡ b → Goal b) [
       | true ↦ λ within. of_newest within (newest_of (stream_at n streams)) refl
@@ -294,12 +298,12 @@ pub take_home : (before store : StoreView) (ns : List ℕ) (n : ℕ) (images : I
     → IsTaken before ns images store → image_of n images ≡ None → IsAtHome n store.streams
 take_home before store ns n images home done none =
     subst (λ (v : StoreView). IsAtHome n v.streams) (sym done.left)
-        (still_home ns n before.streams home (ap (image_of n) (sym done.taken) ∙ none))
+    (still_home ns n before.streams home (ap (image_of n) (sym done.taken) ∙ none))
 
 pub take_step : (before store left : StoreView) (ns : List ℕ) (n high : ℕ) (images more : Images) → IsNumbered 0 before.streams high
     → IsTaken before ns images store
     → more ≡ with_newest n store.streams images → left ≡ record store { streams = without_newest n images store.streams }
-        → (AreShapedAs store.streams images → AreShapedAs left.streams more)
+    → (AreShapedAs store.streams images → AreShapedAs left.streams more)
     → IsTaken before (named ns n) more left
 take_step before store left ns n high images more rising done is leaves shapes =
     let step = latched_more ns n high before.streams rising in
@@ -317,7 +321,7 @@ take_step before store left ns n high images more rising done is leaves shapes =
 few_more : (n : ℕ) (streams : List KeptStream) (images : Images) → length (with_newest n streams images) ≤ length images + 1
 few_more n streams images =
     elim (is_some (image_of n images)) as (λ b. length
-        (cond b images (images ++ map with_number (option_to_list (newest_of (stream_at n streams))))) ≤ length images + 1) [
+    (cond b images (images ++ map with_number (option_to_list (newest_of (stream_at n streams))))) ≤ length images + 1) [
       | true ↦ omega arith
       | false ↦ of_newest (newest_of (stream_at n streams))
     ]
@@ -336,7 +340,7 @@ few_step n streams images more is = omega (arith, ap length is, few_more n strea
 -- the names of one more layer
 pub names_more : (i : ℕ) (layers : List Layer) (d : Layer) → i < length layers
     → once (flat_map layer_names (take (i + 1) layers))
-        ≡ named (named (once (flat_map layer_names (take i layers))) (get_or layers i d).stream) (get_or layers i d).mask
+    ≡ named (named (once (flat_map layer_names (take i layers))) (get_or layers i d).stream) (get_or layers i d).mask
 names_more i layers d within =
     let l = get_or layers i d in
     let before = flat_map layer_names (take i layers) in

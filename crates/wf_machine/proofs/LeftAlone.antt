@@ -1,6 +1,6 @@
 -- Every call but the end of a frame leaves the running frame and its images alone.
-use Rattle.std.proofs.Common.{◌≡◌, ◌∙◌, ℕ, ◌+◌, Bool, true, false, cond, ◌==◌, List, [], ◌∷◌, ◌++◌, map, filter, flat_map, Option, Some,
-    refl, sym, ap, subst, inl, inr}
+use Rattle.std.proofs.Common.{◌≡◌, ◌∙◌, ℕ, ◌+◌, Bool, true, false, cond, ◌==◌, List, [], ◌∷◌, ◌++◌, map, filter, flat_map, Option, Some}
+use Rattle.std.proofs.Common.{refl, sym, ap, subst, inl, inr}
 use Rattle.std.specs.Option.{IsSomeAnd, is_some}
 use Rattle.std.proofs.lemmas.Bool.{eqb-true}
 use Rattle.std.proofs.lemmas.List.Folds.{list_any-append}
@@ -44,7 +44,7 @@ module _ (n : ℕ) (s : KeptStream) where
   mapped_read g keeps [] found = absurd cc
   mapped_read g keeps (t ∷ ss) found =
       elim (t.number == n) as (λ b. (t.number == n) ≡ b → cond b (Some t) (stream_at n ss) ≡ Some s
-          → HasRead s (stream_at n (map g (t ∷ ss)))) [
+      → HasRead s (stream_at n (map g (t ∷ ss)))) [
         | true ↦ λ here same.
             let is : t ≡ s = cc in
             let at : ((g t).number == n) ≡ true = ap (λ (k : ℕ). k == n) (keeps.number t) ∙ here in
@@ -58,7 +58,7 @@ module _ (n : ℕ) (s : KeptStream) where
   more_read new [] found = absurd cc
   more_read new (t ∷ ss) found =
       elim (t.number == n)
-          as (λ b. cond b (Some t) (stream_at n ss) ≡ Some s → HasRead s (cond b (Some t) (stream_at n (ss ++ new ∷ [])))) [
+      as (λ b. cond b (Some t) (stream_at n ss) ≡ Some s → HasRead s (cond b (Some t) (stream_at n (ss ++ new ∷ [])))) [
         | true ↦ λ same. (let is : t ≡ s = cc in ap (λ (x : KeptStream). x.buffers.read) is)
         | false ↦ λ rest. more_read new ss rest
       ] found
@@ -69,14 +69,14 @@ module _ (n : ℕ) (s : KeptStream) where
   kept_read ns named o [] has = has
   kept_read ns named o (t ∷ ss) has =
       elim (t.number == n)
-          as (λ b. (t.number == n) ≡ b → HasRead o (cond b (Some t) (stream_at n ss))
-          → HasRead o (stream_at n (filter (λ t. is_in t.number ns) (t ∷ ss)))) [
+      as (λ b. (t.number == n) ≡ b → HasRead o (cond b (Some t) (stream_at n ss))
+      → HasRead o (stream_at n (filter (λ t. is_in t.number ns) (t ∷ ss)))) [
         | true ↦ λ here read.
             let stays : is_in t.number ns ≡ true = ap (λ (k : ℕ). is_in k ns) (eqb-true t.number n here) ∙ named in
             rw (stays, here) read
         | false ↦ λ other rest.
             elim (is_in t.number ns)
-                as (λ b. HasRead o (stream_at n (cond b (t ∷ filter (λ t. is_in t.number ns) ss) (filter (λ t. is_in t.number ns) ss)))) [
+            as (λ b. HasRead o (stream_at n (cond b (t ∷ filter (λ t. is_in t.number ns) ss) (filter (λ t. is_in t.number ns) ss)))) [
               | true ↦ rw other (kept_read ns named o ss rest)
               | false ↦ kept_read ns named o ss rest
             ]
@@ -147,7 +147,7 @@ module _ (h : State) (c : Call) (x : State × Reply) (f : Running) (runs : h.fra
     read_left : Effect h c x → Left x.0.streams
     read_left (refuses honest left) =
         by_streams h.streams (ap (λ (t : State). t.streams) left ∙ (offered_leaves (register_of c) x.1.code).1)
-            (same_read n s h.streams found)
+        (same_read n s h.streams found)
     read_left (composes made core value is) =
         by_streams h.streams (ap (λ (y : State × Reply). y.0.streams) is) (same_read n s h.streams found)
     read_left (makes new is) =
@@ -155,15 +155,15 @@ module _ (h : State) (c : Call) (x : State × Reply) (f : Running) (runs : h.fra
         by_streams (h.streams ++ made ∷ []) (ap (λ (y : State × Reply). y.0.streams) is) (more_read n s made h.streams found)
     read_left (unnames handle is) =
         by_streams (map (unnamed handle) h.streams) (ap (λ (y : State × Reply). y.0.streams) is)
-            (mapped_read n s (unnamed handle) (unnamed_read handle) h.streams found)
+        (mapped_read n s (unnamed handle) (unnamed_read handle) h.streams found)
     read_left (acquires handle t at is) =
         by_streams (change_stream t.number acquired h.streams) (ap (λ (y : State × Reply). y.0.streams) is)
-            (mapped_read n s (λ u. cond (u.number == t.number) (record u { buffers = acquired u.buffers }) u)
-            (changed_read t.number acquired (λ b. refl)) h.streams found)
+        (mapped_read n s (λ u. cond (u.number == t.number) (record u { buffers = acquired u.buffers }) u)
+        (changed_read t.number acquired (λ b. refl)) h.streams found)
     read_left (returns canvas g way out is) =
         by_streams (change_stream canvas.stream g h.streams) (ap (λ (y : State × Reply). y.0.streams) is)
-            (mapped_read n s (λ u. cond (u.number == canvas.stream) (record u { buffers = g u.buffers }) u)
-            (changed_read canvas.stream g (return_read canvas g way)) h.streams found)
+        (mapped_read n s (λ u. cond (u.number == canvas.stream) (record u { buffers = g u.buffers }) u)
+        (changed_read canvas.stream g (return_read canvas g way)) h.streams found)
     read_left (begins b free begun is) = runs_not free
     read_left (ends job g call_is at own is) = ends_not job call_is
     read_left (tells value is) = by_streams h.streams (ap (λ (y : State × Reply). y.0.streams) is) (same_read n s h.streams found)

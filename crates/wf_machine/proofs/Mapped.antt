@@ -29,7 +29,7 @@ module _ (g : KeptStream → KeptStream) (keeps : KeepsStream g) where
   found_mapped n (s ∷ ss) =
       ap (λ (k : ℕ). cond (k == n) (Some (g s)) (stream_at n (map g ss))) (keeps.number s)
       ∙ (elim (s.number == n) as (λ b. cond b (Some (g s)) (stream_at n (map g ss))
-          ≡ option_map g (cond b (Some s) (stream_at n ss))) [ true ↦ refl | false ↦ found_mapped n ss ])
+      ≡ option_map g (cond b (Some s) (stream_at n ss))) [ true ↦ refl | false ↦ found_mapped n ss ])
 
   pub buffers_mapped : (n : ℕ) (ss : List KeptStream)
       → buffers_at n (map g ss) ≡ option_map (λ (s : KeptStream). (g s).buffers) (stream_at n ss)
@@ -68,7 +68,7 @@ module _ (g : KeptStream → KeptStream) (keeps : KeepsStream g) where
       let each : KeptStream → ℕ = λ t. buffer_bytes t.buffers in
       let same : each (g s) ≡ each s = rw (keeps.size s, keeps.format s, keeps.buffers s) refl in
       sum_by-cons each (g s) (map g ss) ∙ ap (λ (k : ℕ). k + sum_by each (map g ss)) same ∙ ap (λ (k : ℕ). each s + k) (bytes_mapped ss)
-          ∙ sym (sum_by-cons each s ss)
+      ∙ sym (sum_by-cons each s ss)
 
 -- the buffers of one stream change
 abbrev pub changed_at : ℕ → (Buffers → Buffers) → KeptStream → KeptStream

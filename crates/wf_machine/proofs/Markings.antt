@@ -1,6 +1,6 @@
 -- Marks that add up.
-use Rattle.std.proofs.Common.{◌≡◌, ℕ, zero, suc, ◌+◌, Bool, true, false, not, cond, ◌==◌, ◌||◌, ◌&&◌, List, [], ◌∷◌, ◌++◌, refl, sym, ap,
-    subst, ◌∙◌, arith}
+use Rattle.std.proofs.Common.{◌≡◌, ℕ, zero, suc, ◌+◌, Bool, true, false, not, cond, ◌==◌, ◌||◌, ◌&&◌, List, [], ◌∷◌, ◌++◌, refl, sym, ap}
+use Rattle.std.proofs.Common.{subst, ◌∙◌, arith}
 use Rattle.std.specs.Prelude.{flat_map}
 use Rattle.std.specs.List.{range_with_len}
 use Rattle.std.specs.Option.{IsSome}
@@ -35,9 +35,9 @@ more_marked a b c ns ms first second =
     record {
       marked = λ n kept. (
           let there : IsSome (stream_at n b.streams) = subst (λ (ss : List KeptStream). IsSome (stream_at n ss))
-              (sym (streams_of a b first.rest)) kept in
+          (sym (streams_of a b first.rest)) kept in
           second.marked n there ∙ ap (λ (x : Bool). x || is_in n ms) (first.marked n kept)
-              ∙ or_assoc (is_in n a.marked) (is_in n ns) (is_in n ms)
+          ∙ or_assoc (is_in n a.marked) (is_in n ns) (is_in n ms)
           ∙ ap (λ (x : Bool). is_in n a.marked || x) (sym (list_any-append (λ (x : ℕ). x == n) ns ms)));
       rest = second.rest ∙ first.rest;
     }
@@ -57,12 +57,15 @@ range_more low many = (let next : many + 1 ≡ suc many = omega arith in ap (ran
 one_own : (n : ℕ) (s : KeptStream) → (has_own_name s && (s.number == n)) ≡ is_in n (own_names s)
 one_own n s =
     elim (s.handle == 0) as (λ b. ((not b || s.buffers.out) && (s.number == n))
-        ≡ is_in n (cond b [] (s.number ∷ []) ++ cond s.buffers.out (s.number ∷ []) [])) [
+    ≡ is_in n (cond b [] (s.number ∷ []) ++ cond s.buffers.out (s.number ∷ []) [])) [
       | true ↦ elim s.buffers.out as (λ b. (b && (s.number == n))
           ≡ is_in n (cond b (s.number ∷ []) [])) [ true ↦ or_false (s.number == n) | false ↦ refl ]
       | false ↦
-          elim s.buffers.out as (λ b. (s.number == n) ≡ ((s.number == n) || is_in n (cond b (s.number ∷ []) []))) [ true ↦ twice
-          (s.number == n) | false ↦ or_false (s.number == n) ]
+          elim s.buffers.out as (λ b. (s.number == n) ≡ ((s.number == n) || is_in n (cond b (s.number ∷ []) []))) [
+            | true ↦ twice
+                (s.number == n)
+            | false ↦ or_false (s.number == n)
+          ]
     ]
   where
     twice : (b : Bool) → b ≡ (b || (b || false))
@@ -73,7 +76,7 @@ own_is : (n : ℕ) (ss : List KeptStream) → is_own n ss ≡ is_in n (flat_map 
 own_is n [] = refl
 own_is n (s ∷ ss) =
     ap (λ (b : Bool). b || is_own n ss) (one_own n s) ∙ ap (λ (b : Bool). is_in n (own_names s) || b) (own_is n ss)
-        ∙ sym (list_any-append (λ (x : ℕ). x == n) (own_names s) (flat_map own_names ss))
+    ∙ sym (list_any-append (λ (x : ℕ). x == n) (own_names s) (flat_map own_names ss))
 
 among_same : (ns ms : List ℕ) (whole ss : List KeptStream) → AllFound whole ss
     → ((n : ℕ) → IsSome (stream_at n whole) → is_in n ns ≡ is_in n ms) → among ns ss ≡ among ms ss
@@ -82,7 +85,7 @@ among_same ns ms whole (s ∷ ss) found same =
     let later = among_same ns ms whole ss found.1 same in
     let here : is_in s.number ns ≡ is_in s.number ms = same s.number (rw found.0 refl) in
     ap (λ (b : Bool). cond b (s ∷ among ns ss) (among ns ss)) here
-        ∙ ap (λ (ts : List KeptStream). cond (is_in s.number ms) (s ∷ ts) ts) later
+    ∙ ap (λ (ts : List KeptStream). cond (is_in s.number ms) (s ∷ ts) ts) later
 
 -- the streams that a call marks: its own, those of composition, the screens, and those of the running frame
 module _ (m : Inside) (a b c d e : StoreView) (numbered : IsNumbered 0 m.store.streams m.store.numbered)
@@ -98,8 +101,11 @@ module _ (m : Inside) (a b c d e : StoreView) (numbered : IsNumbered 0 m.store.s
 
   pub own_marks : ((n : ℕ) → is_in n b.marked ≡ (is_in n a.marked || is_own n a.streams))
       → record b { marked = [] } ≡ record a { marked = [] } → Marks a b (flat_map own_names ss)
-  own_marks marked rest = record { marked = λ n kept. marked n
-      ∙ ap (λ (x : Bool). is_in n a.marked || x) (ap (is_own n) start ∙ own_is n ss); rest = rest }
+  own_marks marked rest = record {
+    marked = λ n kept. marked n
+        ∙ ap (λ (x : Bool). is_in n a.marked || x) (ap (is_own n) start ∙ own_is n ss);
+    rest = rest;
+  }
 
   pub all_marked : Marks a b (flat_map own_names ss) → Marks b c (core_names m.core) → Marks c d (display_names h.display)
       → Marks d e (frame_names h.frame) → (swept e).streams ≡ kept h
@@ -107,13 +113,13 @@ module _ (m : Inside) (a b c d e : StoreView) (numbered : IsNumbered 0 m.store.s
       let two = more_marked a b c (flat_map own_names ss) (core_names m.core) own core in
       let three = more_marked a c d (flat_map own_names ss ++ core_names m.core) (display_names h.display) two display in
       let four = more_marked a d e ((flat_map own_names ss ++ core_names m.core) ++ display_names h.display) (frame_names h.frame) three
-          frame in
+      frame in
       let same : e.streams ≡ ss = streams_of a e four.rest ∙ start in
       let none : a.marked ≡ [] = ap (λ (v : StoreView). v.marked) unmarked in
       ap (among e.marked) same
       ∙ among_same e.marked (all_names h) ss ss (all_found 0 m.store.numbered ss numbered)
       (λ n kept. four.marked n (subst (λ (ts : List KeptStream). IsSome (stream_at n ts)) (sym start) kept)
-          ∙ ap (λ (ns : List ℕ). is_in n ns || is_in n (all_names h)) none)
+      ∙ ap (λ (ns : List ℕ). is_in n ns || is_in n (all_names h)) none)
 
   -- what else is kept is as it was
   pub rest_marked : Marks a b (flat_map own_names ss) → Marks b c (core_names m.core) → Marks c d (display_names h.display)

@@ -19,7 +19,7 @@ of_layers : (n : ℕ) (ls : List Layer) → list_any (λ l. (l.stream == n) || (
 of_layers n [] = refl
 of_layers n (l ∷ ls) =
     elim (l.stream == n) as (λ b. ((b || (l.mask == n)) || list_any (λ m. (m.stream == n) || (m.mask == n)) ls)
-        ≡ (b || ((l.mask == n) || is_in n (flat_map layer_names ls)))) [
+    ≡ (b || ((l.mask == n) || is_in n (flat_map layer_names ls)))) [
       | true ↦ refl
       | false ↦ ap (λ (b : Bool). (l.mask == n) || b) (of_layers n ls)
     ]

@@ -1,6 +1,6 @@
 -- The machine before its first call.
-use Rattle.std.proofs.Common.{◌≡◌, ℕ, suc, ◌+◌, ◌<◌, ◌≤◌, Bool, true, false, List, [], ◌∷◌, ◌++◌, length, map, get_or, take, Option, Some,
-    None, refl, sym, ap, subst, ◌∙◌, arith, append_assoc, length-append, add-zero, ◌&&◌, ◌*◌, lit≤}
+use Rattle.std.proofs.Common.{◌≡◌, ℕ, suc, ◌+◌, ◌<◌, ◌≤◌, Bool, true, false, List, [], ◌∷◌, ◌++◌, length, map, get_or, take, Option, Some}
+use Rattle.std.proofs.Common.{None, refl, sym, ap, subst, ◌∙◌, arith, append_assoc, length-append, add-zero, ◌&&◌, ◌*◌, lit≤}
 use Rattle.std.proofs.Math.Nat.{mul-le-mul_left, mul-le-mul_right}
 use Rattle.std.specs.Prelude.{zip, slice_get, nat_le, IfSome}
 use Rattle.std.specs.Option.{option_map}
@@ -38,7 +38,7 @@ screens_more k [] m = ap (λ (n : ℕ). screen (n, m) ∷ []) (omega arith)
 screens_more k (x ∷ ms) m =
     let later : k + 1 + length ms ≡ k + suc (length ms) = omega arith in
     ap (λ (ss : List KeptStream). screen (k, x) ∷ ss) (screens_more (k + 1) ms m
-        ∙ ap (λ (n : ℕ). screens (k + 1) ms ++ screen (n, m) ∷ []) later)
+    ∙ ap (λ (n : ℕ). screens (k + 1) ms ++ screen (n, m) ∷ []) later)
 
 pub screens_numbered : (low k high : ℕ) (ms : List Modes) → low < k → k + length ms ≤ high + 1 → IsNumbered low (screens k ms) high
 screens_numbered low k high [] under within = omega arith
@@ -75,7 +75,7 @@ screens_fit front (m ∷ ms) k is may =
     } in
     let regroup : (front ++ p ∷ []) ++ map initial_port ms ≡ ports = append_assoc front (p ∷ []) (map initial_port ms) in
     let later = screens_fit (front ++ p ∷ []) ms (k + 1) (omega (arith, is, length-append front (p ∷ [])))
-        (and_parts (may_have m) (list_all may_have ms) may).1 in
+    (and_parts (may_have m) (list_all may_have ms) may).1 in
     (first, subst (λ (ps : List Port). AllFit ps [] (screens (k + 1) ms)) regroup later)
 
 pub all_at : {A : Type 0} (p : A → Bool) (xs : List A) (i : ℕ) (d : A) → i < length xs → list_all p xs ≡ true → p (get_or xs i d) ≡ true
@@ -118,7 +118,7 @@ no_ports_open store opened is none =
 pub one_more_open : (store left : StoreView) (opened more : List declared.Port) (ms : List Modes) (m : Modes) (p : declared.Port)
     (size : Size) → IsOpen store opened ms
     → may_have m ≡ true → size ≡ mode_size 1 m.sizes.items → left ≡ with_screen size store → more ≡ opened ++ p ∷ []
-        → p.modes.items ≡ m.sizes.items → HoldsBut 0 p.modes.items p.images.items → IsOpen left more (ms ++ m ∷ [])
+    → p.modes.items ≡ m.sizes.items → HoldsBut 0 p.modes.items p.images.items → IsOpen left more (ms ++ m ∷ [])
 one_more_open store left opened more ms m p size so_far may size-is left-is more-is modes-are images =
     let new : KeptStream = record { number = store.numbered + 1; handle = 0; buffers = fresh size Rgbx8 3 } in
     let is : new ≡ screen (1 + length ms, m) =
@@ -136,7 +136,7 @@ one_more_open store left opened more ms m p size so_far may size-is left-is more
       ports = ap (λ (ps : List declared.Port). map port_of ps) more-is ∙ map-append port_of opened (p ∷ [])
           ∙ ap (λ (ps : List Port). ps ++ port_of p ∷ []) so_far.ports
           ∙ ap (λ (q : Port). map initial_port ms ++ q ∷ []) (ap (λ (sizes : List Size). record { modes = sizes }) modes-are)
-              ∙ sym (map-append initial_port ms (m ∷ []));
+          ∙ sym (map-append initial_port ms (m ∷ []));
       fit = subst (λ (ps : List declared.Port). PortsFit None 1 ps) (sym more-is)
           (ports_more None 1 opened p so_far.fit (record {
             some = omega (arith, some, ap length modes-are);
@@ -166,8 +166,12 @@ screens_bytes : (k : ℕ) (ms : List Modes) → list_all may_have ms ≡ true �
 screens_bytes k [] may = lit≤ tt
 screens_bytes k (m ∷ ms) may =
     let each = and_parts (may_have m) (list_all may_have ms) may in
-    omega (arith, screens_bytes (k + 1) ms each.1, screen_bytes m each.0,
-        sum_by-cons (λ (s : KeptStream). buffer_bytes s.buffers) (screen (k, m)) (screens (k + 1) ms))
+    omega (
+      arith,
+      screens_bytes (k + 1) ms each.1,
+      screen_bytes m each.0,
+      sum_by-cons (λ (s : KeptStream). buffer_bytes s.buffers) (screen (k, m)) (screens (k + 1) ms),
+    )
 
 -- no objects fit a store without handles
 none_fit : (store : StoreView) → store.others ≡ [] → Fits no_objects store
@@ -199,8 +203,13 @@ sound_when_open m ms opened few may empty none =
       few = few;
       screens = omega (arith, opened.numbered, length-map m.ports.items port_of, length-map ms initial_port, ap length opened.ports);
       ports = subst (λ (f : Option Running). PortsFit f 1 m.ports.items) (sym no_frame) opened.fit;
-      small = rw opened.streams (omega (arith, screens_bytes 1 ms may, length-map m.ports.items port_of, length-map ms initial_port,
-          ap length opened.ports));
+      small = rw opened.streams (omega (
+        arith,
+        screens_bytes 1 ms may,
+        length-map m.ports.items port_of,
+        length-map ms initial_port,
+        ap length opened.ports,
+      ));
       streams = rw (contents-are, opened.ports, opened.streams) (screens_fit [] ms 1 refl may);
       frame = rw no_frame tt;
       once = rw contents-are tt;
@@ -211,7 +220,7 @@ sound_when_open m ms opened few may empty none =
 pub declared_modes : (ports : Ports) → may_declare ports ≡ true → list_all may_have ports.modes.items ≡ true
 declared_modes ports may =
     third (nat_le 1 (length ports.modes.items)) (nat_le (length ports.modes.items) 4) (list_all may_have ports.modes.items)
-        (nat_le ports.pipes 8) may
+    (nat_le ports.pipes 8) may
   where
     third : (a b c d : Bool) → (a && b && c && d) ≡ true → c ≡ true
     third true true true d h = refl
@@ -227,8 +236,8 @@ pub first_of : (sizes : List Size) (m : Modes) (d : Size) → sizes ≡ m.sizes.
     → get_or sizes 0 d ≡ mode_size 1 m.sizes.items
 first_of sizes m d is may =
     let some =
-        leb-true 1 (length m.sizes.items) (and_parts (nat_le 1 (length m.sizes.items)) (nat_le (length m.sizes.items) 4)
-        (and_parts (nat_le 1 (length m.sizes.items) && nat_le (length m.sizes.items) 4) (list_all has_sides m.sizes.items) may).0).0 in
+    leb-true 1 (length m.sizes.items) (and_parts (nat_le 1 (length m.sizes.items)) (nat_le (length m.sizes.items) 4)
+    (and_parts (nat_le 1 (length m.sizes.items) && nat_le (length m.sizes.items) 4) (list_all has_sides m.sizes.items) may).0).0 in
     ap (λ (xs : List Size). get_or xs 0 d) is ∙ first_mode m.sizes.items d (omega (arith, some))
 
 -- the machine whose declared ports stand open is as it opens
@@ -237,8 +246,15 @@ pub opening_is : (m : Inside) (ports : Ports) → IsOpen m.store m.ports.items p
 opening_is m ports opened empty begun none =
     let with_core : CoreState → State = λ core. record (state_of m) { core = core } in
     let state : ℕ → ℕ → ℕ → List KeptStream → List Port → Option Running → State = λ made numbered begun streams ps frame.
-    record { made = made; numbered = numbered; begun = begun; streams = streams; core = no_objects; display = record { ports = ps };
-        frame = frame } in
+    record {
+      made = made;
+      numbered = numbered;
+      begun = begun;
+      streams = streams;
+      core = no_objects;
+      display = record { ports = ps };
+      frame = frame;
+    } in
     let ps = map port_of m.ports.items in
     let frame = option_map running_of m.frame in
     ap with_core empty ∙ ap (λ (n : ℕ). state n m.store.numbered m.begun m.store.streams ps frame) opened.made
@@ -247,7 +263,7 @@ opening_is m ports opened empty begun none =
     ∙ ap (λ (ss : List KeptStream). state 0 (length ports.modes.items) 0 ss ps frame) opened.streams
     ∙ ap (λ (qs : List Port). state 0 (length ports.modes.items) 0 (screens 1 ports.modes.items) qs frame) opened.ports
     ∙ ap (λ (f : Option Frame). state 0 (length ports.modes.items) 0 (screens 1 ports.modes.items) (map initial_port ports.modes.items)
-        (option_map running_of f)) none
+    (option_map running_of f)) none
 
 -- all the modes, once the last was passed
 pub whole_modes : (all modes : List Modes) (i : ℕ) → all ≡ modes → length all ≤ i → take i all ≡ modes

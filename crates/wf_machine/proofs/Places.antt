@@ -1,6 +1,6 @@
 -- A port whose image is taken, or comes back.
-use Rattle.std.proofs.Common.{◌≡◌, ◌≢◌, ℕ, zero, suc, ◌+◌, ◌<◌, true, false, ◌==◌, List, [], ◌∷◌, length, map, get_or, Option, Some, None,
-    refl, sym, ap, subst, ◌∙◌, arith, slice_set}
+use Rattle.std.proofs.Common.{◌≡◌, ◌≢◌, ℕ, zero, suc, ◌+◌, ◌<◌, true, false, ◌==◌, List, [], ◌∷◌, length, map, get_or, Option, Some, None}
+use Rattle.std.proofs.Common.{refl, sym, ap, subst, ◌∙◌, arith, slice_set}
 use Rattle.std.specs.Prelude.{slice_get}
 use Rattle.std.specs.Option.{IfSome}
 use Rattle.std.proofs.lemmas.Bool.{eq-eqb}
@@ -30,8 +30,11 @@ fits_at frame ports place p within is fit = subst (λ (q : declared.Port). PortF
 -- a port of which the same image is away in another frame
 other_fits : (old new : Option Running) (n : ℕ) (p : declared.Port) → away_of old n ≡ away_of new n → PortFits old n p → PortFits new n p
 other_fits old new n p same fits =
-    record { some = fits.some; sides = fits.sides;
-        images = subst (λ (away : ℕ). HoldsBut away p.modes.items p.images.items) same fits.images }
+    record {
+      some = fits.some;
+      sides = fits.sides;
+      images = subst (λ (away : ℕ). HoldsBut away p.modes.items p.images.items) same fits.images;
+    }
 
 all_others : (old new : Option Running) (k : ℕ) (ports : List declared.Port) → ((n : ℕ) → k < n + 1 → away_of old n ≡ away_of new n)
     → PortsFit old k ports → PortsFit new k ports
@@ -44,9 +47,10 @@ set_fit : (old new : Option Running) (k : ℕ) (ports : List declared.Port) (i :
     → ((n : ℕ) → n ≢ k + i → away_of old n ≡ away_of new n) → PortsFit old k ports → PortFits new (k + i) p
     → PortsFit new k (slice_set ports i p)
 set_fit old new k [] i p within same fit one = absurd (omega (arith, within))
-set_fit old new k (q ∷ ports) zero p within same fit one =
-    (subst (λ (n : ℕ). PortFits new n p) (omega arith) one,
-        all_others old new (k + 1) ports (λ n above. same n (λ is. absurd (omega (arith, above, is)))) fit.1)
+set_fit old new k (q ∷ ports) zero p within same fit one = (
+  subst (λ (n : ℕ). PortFits new n p) (omega arith) one,
+  all_others old new (k + 1) ports (λ n above. same n (λ is. absurd (omega (arith, above, is)))) fit.1,
+)
 set_fit old new k (q ∷ ports) (suc i) p within same fit one =
     let behind : k + suc i ≡ k + 1 + i = omega arith in (
       other_fits old new k q (same k (λ is. absurd (omega (arith, is)))) fit.0,
@@ -96,21 +100,21 @@ pub when_back : (frame : Running) (ports : List declared.Port) (place : ℕ) (p 
 when_back frame ports place p d within is fit modes images =
     let was = port_at (Some frame) 1 ports place d within fit in
     set_fit (Some frame) None 1 ports place p within (λ n apart. away_apart frame place n is apart) fit
-        (record { some = rw modes was.some; sides = rw modes was.sides; images = images })
+    (record { some = rw modes was.some; sides = rw modes was.sides; images = images })
 
 pub away_at : (frame : Running) (ports : List declared.Port) (place : ℕ) (d : declared.Port) → place < length ports
     → frame.kind ≡ kind.Port (place + 1) → PortsFit (Some frame) 1 ports
     → HoldsBut 1 (get_or ports place d).modes.items (get_or ports place d).images.items
 away_at frame ports place d within is fit =
     subst (λ (away : ℕ). HoldsBut away (get_or ports place d).modes.items (get_or ports place d).images.items) (away_here frame place is)
-        (port_at (Some frame) 1 ports place d within fit).images
+    (port_at (Some frame) 1 ports place d within fit).images
 
 pub shape_at : (ports : List declared.Port) (place : ℕ) (d : declared.Port) (image : Bitmap) → place < length ports
     → IfSome (slice_get (map port_of ports) place) (λ port. IsFrameImage (mode_size 1 port.modes) (Some image))
-        → IsFrameImage (mode_size 1 (get_or ports place d).modes.items) (Some image)
+    → IsFrameImage (mode_size 1 (get_or ports place d).modes.items) (Some image)
 shape_at ports place d image within shape = rw (get_port ports place d within) at shape
 
 pub shape_of : (ports : List declared.Port) (place : ℕ) (d : declared.Port) (image : Bitmap) → place < length ports
     → IsFrameImage (mode_size 1 (get_or ports place d).modes.items) (Some image)
-        → IfSome (slice_get (map port_of ports) place) (λ port. IsFrameImage (mode_size 1 port.modes) (Some image))
+    → IfSome (slice_get (map port_of ports) place) (λ port. IsFrameImage (mode_size 1 port.modes) (Some image))
 shape_of ports place d image within shape = rw (get_port ports place d within) shape

@@ -1,6 +1,6 @@
 -- A port's frame that begins.
-use Rattle.std.proofs.Common.{◌≡◌, ◌≢◌, ℕ, zero, suc, ◌+◌, ◌-◌, ◌^◌, ◌<◌, ◌≤◌, true, List, [], ◌∷◌, length, map, Option, Some, None, refl,
-    sym, ap, subst, ◌∙◌, arith, IsTrue, zero-add, get_or, Ok, nat_lt}
+use Rattle.std.proofs.Common.{◌≡◌, ◌≢◌, ℕ, zero, suc, ◌+◌, ◌-◌, ◌^◌, ◌<◌, ◌≤◌, true, List, [], ◌∷◌, length, map, Option, Some, None, refl}
+use Rattle.std.proofs.Common.{sym, ap, subst, ◌∙◌, arith, IsTrue, zero-add, get_or, Ok, nat_lt}
 use Rattle.std.specs.Prelude.{slice_get, nat_le, ℤ}
 use Rattle.std.specs.List.{list_all}
 use Rattle.std.specs.Option.{option_map, IfSome, IsSomeAnd}
@@ -74,14 +74,20 @@ whole_drawn size sides =
 holds_whole : (size : Size) → has_sides size ≡ true → holds_rect size (whole_of size) ≡ true
 holds_whole size sides =
     let drawn = whole_drawn size sides in
-    rw (lt-ltb 0 size.w (omega (arith, drawn.w_low)), lt-ltb 0 size.h (omega (arith, drawn.h_low)), zero-add size.w, zero-add size.h,
-        le-leb size.w size.w (omega arith), le-leb size.h size.h (omega arith)) refl
+    rw (
+      lt-ltb 0 size.w (omega (arith, drawn.w_low)),
+      lt-ltb 0 size.h (omega (arith, drawn.h_low)),
+      zero-add size.w,
+      zero-add size.h,
+      le-leb size.w size.w (omega arith),
+      le-leb size.h size.h (omega arith),
+    ) refl
 
 -- the layer of a port's screen over the images that were taken
 pub layer_fits : (number : ℕ) (mode : Size) (port : Port) (ports : List Port) (streams : List KeptStream) (numbered : ℕ) (contents : Images)
     (cs : List Content) → has_sides mode ≡ true → mode ≡ mode_size 1 port.modes
     → nth number ports ≡ Some port → AllFit ports cs streams → AreShapedAs streams contents
-        → LayerFits contents (screen_layer number mode mode)
+    → LayerFits contents (screen_layer number mode mode)
 layer_fits number mode port ports streams numbered contents cs sides mode-is here fit shaped =
     record {
       src = whole_drawn mode sides;
@@ -107,7 +113,6 @@ layer_fits number mode port ports streams numbered contents cs sides mode-is her
     of_image (Some i) is =
         rw is (shows i (buffers_at number streams) (shaped_at number i streams contents shaped is) (screen_at number ports cs streams fit))
 
-
 module _ (m : Inside) (s : State) (seen : state_of m ≡ s) (place : ℕ) (p : declared.Port) (p-is : p ≡ get_or m.ports.items place p)
     (within : place < length s.display.ports) where
   as_many : place < length m.ports.items
@@ -117,7 +122,7 @@ module _ (m : Inside) (s : State) (seen : state_of m ≡ s) (place : ℕ) (p : d
   pub port_here : slice_get s.display.ports place ≡ Some (port_of p)
   port_here =
       sym (ap (λ (t : State). slice_get t.display.ports place) seen) ∙ get_port m.ports.items place p as_many
-          ∙ ap (λ (q : declared.Port). Some (port_of q)) (sym p-is)
+      ∙ ap (λ (q : declared.Port). Some (port_of q)) (sym p-is)
 
   pub has_mode : IsSound m → 1 ≤ length p.modes.items
   has_mode sound = (fits_at (option_map running_of m.frame) m.ports.items place p as_many p-is sound.ports).some
@@ -133,6 +138,6 @@ module _ (m : Inside) (s : State) (seen : state_of m ≡ s) (place : ℕ) (p : d
         → begin_port port s ≡ Ok (Some (beginning_of (kind.Port (place + 1)) scene (place + 1) s))
     port_begins port counted free few =
         let found : nth (count_of port) s.display.ports ≡ Some (port_of p) =
-            ap (λ (n : ℕ). nth n s.display.ports) counted ∙ nth_next place s.display.ports ∙ port_here in
+        ap (λ (n : ℕ). nth n s.display.ports) counted ∙ nth_next place s.display.ports ∙ port_here in
         let some : nat_lt s.begun (2 ^ 64 - 1) ≡ true = lt-ltb s.begun (2 ^ 64 - 1) few in
         rw (found, free, some, counted, scene-is) refl

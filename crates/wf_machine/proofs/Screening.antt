@@ -24,7 +24,7 @@ pub screen_at : (n : ℕ) (ports : List Port) (cs : List Content) (ss : List Kep
 screen_at n ports cs [] fits = tt
 screen_at n ports cs (s ∷ ss) fits =
     by_number (IfSome (option_map (λ (t : KeptStream). t.buffers) (cond (s.number == n) (Some s) (stream_at n ss)))
-        (λ b. IfSome (nth n ports) (IsScreen b))) s.number n
+    (λ b. IfSome (nth n ports) (IsScreen b))) s.number n
     (λ at same. rw at (subst (λ (k : ℕ). IfSome (nth k ports) (IsScreen s.buffers)) same fits.0.screen))
     (λ apart. rw apart (screen_at n ports cs ss fits.1))
 
@@ -48,9 +48,9 @@ screen_pixels m s seen sound port = subst (λ (t : State). IfSome (declared_scre
     of_port None none = rw none tt
     of_port (Some p) some =
         let all = screen_at (count_of port) (map port_of m.ports.items) (contents_of (option_map running_of m.frame))
-            m.store.streams sound.streams in
+        m.store.streams sound.streams in
         let this : IfSome (buffers_at (count_of port) m.store.streams) (λ b. IfSome (Some p) (IsScreen b)) =
-            subst (λ (o : Option Port). IfSome (buffers_at (count_of port) m.store.streams) (λ b. IfSome o (IsScreen b))) some all in
+        subst (λ (o : Option Port). IfSome (buffers_at (count_of port) m.store.streams) (λ b. IfSome o (IsScreen b))) some all in
         rw some (pixels p (buffers_at (count_of port) m.store.streams) this)
 
 -- the screen that a call asks for is one of pixels

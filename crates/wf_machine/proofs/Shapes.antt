@@ -1,6 +1,6 @@
 -- The contents of a Job that has the shape of the running frame: the images of the frame's streams, each once.
-use Rattle.std.proofs.Common.{◌≡◌, ℕ, suc, ◌+◌, Bool, true, false, cond, ◌==◌, List, [], ◌∷◌, length, Option, Some, None, refl, sym, ap,
-    subst, ◌∙◌, arith}
+use Rattle.std.proofs.Common.{◌≡◌, ℕ, suc, ◌+◌, Bool, true, false, cond, ◌==◌, List, [], ◌∷◌, length, Option, Some, None, refl, sym, ap}
+use Rattle.std.proofs.Common.{subst, ◌∙◌, arith}
 use Rattle.std.specs.Prelude.{find}
 use Rattle.std.specs.List.{list_all}
 use Rattle.std.specs.Option.{option_map, IsSomeAnd}
@@ -48,7 +48,7 @@ others_stay : (n m : ℕ) (xs : Images) → (n == m) ≡ false → image_of m (w
 others_stay n m [] other = refl
 others_stay n m (p ∷ xs) other =
     let at : Bool → Images
-        → Option Bitmap = λ b ys. option_map (λ (q : ℕ × Bitmap). q.1) (cond b (Some p) (find (λ (q : ℕ × Bitmap). q.0 == m) ys)) in
+    → Option Bitmap = λ b ys. option_map (λ (q : ℕ × Bitmap). q.1) (cond b (Some p) (find (λ (q : ℕ × Bitmap). q.0 == m) ys)) in
     by_number (image_of m (cond (p.0 == n) xs (p ∷ without n xs)) ≡ at (p.0 == m) xs) p.0 n
     (λ here same. (let no : (p.0 == m) ≡ false = ap (λ (k : ℕ). k == m) same ∙ other in rw (here, no) refl))
     (λ apart. rw apart (elim (p.0 == m) as (λ b. at b (without n xs) ≡ at b xs) [ true ↦ refl | false ↦ others_stay n m xs other ]))
@@ -127,9 +127,10 @@ all_of (c ∷ fs) xs once many there =
         let here : (n == n) ≡ true = eq-eqb n n refl in
         let shape : IsOfShape c i = rw is at first in
         let this : (j : Bitmap) → image_of n xs ≡ Some j → IsSomeAnd (content_at n (c ∷ fs)) (λ d. IsOfShape d j) =
-            (λ j found. (let same : i ≡ j = cc (is, found) in rw here (subst (λ (k : Bitmap). IsOfShape c k) same shape))) in
-        (back (c ∷ fs) n xs this (more_of c fs (without n xs) once.0 deeper.0),
-            apart_back n xs (none_of fs n (without n xs) once.0 deeper.0) deeper.1)
+        (λ j found. (let same : i ≡ j = cc (is, found) in rw here (subst (λ (k : Bitmap). IsOfShape c k) same shape))) in (
+          back (c ∷ fs) n xs this (more_of c fs (without n xs) once.0 deeper.0),
+          apart_back n xs (none_of fs n (without n xs) once.0 deeper.0) deeper.1,
+        )
 
 -- a stream without an image is none of the frame's
 pub none_there : (n : ℕ) (fs : List Content) (xs : Images) → all_there fs xs ≡ true → image_of n xs ≡ None → content_at n fs ≡ None
@@ -138,5 +139,5 @@ none_there n (c ∷ fs) xs there none =
     let each = and_parts (has_shape (image_of c.stream xs) c) (all_there fs xs) there in
     by_number (cond (c.stream == n) (Some c) (content_at n fs) ≡ None) c.stream n
     (λ here same. absurd (let gone : image_of c.stream xs ≡ None = ap (λ (k : ℕ). image_of k xs) same ∙ none in
-        let no : has_shape None c ≡ true = rw gone at each.0 in cc))
+    let no : has_shape None c ≡ true = rw gone at each.0 in cc))
     (λ apart. rw apart (none_there n fs xs each.1 none))

@@ -1,6 +1,6 @@
 -- What holds of the machine holds after each call on streams.
-use Rattle.std.proofs.Common.{◌≡◌, ℕ, ◌+◌, ◌≤◌, true, false, ◌||◌, ◌==◌, List, [], ◌∷◌, ◌++◌, length, map, cond, Option, Some, None, refl,
-    sym, ap, subst, ◌∙◌, arith}
+use Rattle.std.proofs.Common.{◌≡◌, ℕ, ◌+◌, ◌≤◌, true, false, ◌||◌, ◌==◌, List, [], ◌∷◌, ◌++◌, length, map, cond, Option, Some, None, refl}
+use Rattle.std.proofs.Common.{sym, ap, subst, ◌∙◌, arith}
 use Rattle.std.specs.Prelude.{nat_le, nat_lt, ℤ, pos, negsuc, ◌&&◌}
 use Rattle.std.specs.Option.{option_map, IfSome}
 use Rattle.std.proofs.lemmas.Bool.{and_from, and_parts, ltb-false}
@@ -12,8 +12,8 @@ use Rattle.wf_pixel.specs.declared.Format.{Format}
 use Rattle.wf_pixel.specs.Choice.{has_sides, is_between, is_side}
 use Rattle.wf_life.specs.Handles.{is_full}
 use Rattle.wf_stream.specs.Buffers.{Buffers, buffer_bytes, fresh}
-use Rattle.wf_stream.specs.Streams.{KeptStream, StoreView, buffers_at, change_stream, has_no_room, held, stream_at, unnamed,
-    with_live_stream}
+use Rattle.wf_stream.specs.Streams.{KeptStream, StoreView, buffers_at, change_stream, has_no_room, held, stream_at, unnamed}
+use Rattle.wf_stream.specs.Streams.{with_live_stream}
 use Rattle.wf_calls.specs.declared.code.Code.TheVariants as code
 use Rattle.wf_calls.specs.declared.call.JobKind.{JobKind}
 use Rattle.wf_calls.specs.declared.call.JobKind.TheVariants as kind
@@ -77,7 +77,7 @@ sound_unnamed m handle sound =
 room : (new : Buffers) (streams : List KeptStream) → has_no_room new streams ≡ false → (held streams).bytes + buffer_bytes new ≤ 134217728
 room new streams free =
     elim (nat_le 64 (length streams)) as (λ b. (b || nat_lt 134217728 ((held streams).bytes + buffer_bytes new)) ≡ false
-        → (held streams).bytes + buffer_bytes new ≤ 134217728) [
+    → (held streams).bytes + buffer_bytes new ≤ 134217728) [
       | true ↦ λ no. absurd cc
       | false ↦ λ small. ltb-false 134217728 ((held streams).bytes + buffer_bytes new) small
     ] free
@@ -88,7 +88,7 @@ found_pushed n [] t b found = absurd cc
 found_pushed n (s ∷ ss) t b found =
     elim (s.number == n) as (λ x. option_map (λ (u : KeptStream). u.buffers) (cond x (Some s) (stream_at n ss)) ≡ Some b
     → (c : Buffers) × (option_map (λ (u : KeptStream). u.buffers) (cond x (Some s) (stream_at n (ss ++ t ∷ []))) ≡ Some c)
-        × (c.size ≡ b.size) × (c.format ≡ b.format)) [
+    × (c.size ≡ b.size) × (c.format ≡ b.format)) [
       | true ↦ λ is. (b, is, refl, refl)
       | false ↦ λ is. found_pushed n ss t b is
     ] found
@@ -103,9 +103,11 @@ frame_pushed ports ss t (Some f) fits = of_kind f.kind fits
     of_target target [] is = absurd is
     of_target target (s ∷ us) is =
         elim (s.number == target) as (λ x. IsOfTarget (option_map (λ (u : KeptStream). u.buffers) (cond x (Some s) (stream_at target us)))
-            f.size f.format
+        f.size f.format
         → IsOfTarget (option_map (λ (u : KeptStream). u.buffers) (cond x (Some s) (stream_at target (us ++ t ∷ [])))) f.size f.format) [
-            true ↦ λ at. at | false ↦ λ at. of_target target us at ] is
+          | true ↦ λ at. at
+          | false ↦ λ at. of_target target us at
+        ] is
 
     of_kind : (k : JobKind) → KindFits ports ss f.size f.format k → KindFits ports (ss ++ t ∷ []) f.size f.format k
     of_kind (kind.Context handle target) is = of_target target ss is
@@ -128,8 +130,11 @@ sound_made m size format buffers sides free sound =
       few = sound.few;
       screens = omega (arith, sound.screens);
       ports = sound.ports;
-      small = omega (arith, room (fresh size format buffers) m.store.streams free,
-          sum_by_push (λ (s : KeptStream). buffer_bytes s.buffers) m.store.streams new);
+      small = omega (
+        arith,
+        room (fresh size format buffers) m.store.streams free,
+        sum_by_push (λ (s : KeptStream). buffer_bytes s.buffers) m.store.streams new,
+      );
       streams = all_push ports contents m.store.streams new sound.streams
           (new_fits ports contents m.store.numbered new few sound.known refl sides refl);
       frame = frame_pushed ports m.store.streams new (option_map running_of m.frame) sound.frame;
@@ -173,7 +178,7 @@ module _ (m : Inside) (s : State) (seen : state_of m ≡ s) (step : State → Re
       subst (λ (t : State). step t r ≡ (state_of (record m { store = left }), r)) seen
       (ap (λ (x : Reply). step (state_of m) x) answered ∙ is
       ∙ ap (λ (v : StoreView). (state_of (record m { store = v }), was)) (sym same)
-          ∙ ap (λ (x : Reply). (state_of (record m { store = left }), x)) (sym answered))
+      ∙ ap (λ (x : Reply). (state_of (record m { store = left }), x)) (sym answered))
 
   -- the store was left so
   pub leaves : (left now : StoreView) (r was : Reply) → left ≡ now → r ≡ was
@@ -182,4 +187,4 @@ module _ (m : Inside) (s : State) (seen : state_of m ≡ s) (step : State → Re
       subst (λ (t : State). step t r ≡ (state_of (record m { store = left }), r)) seen
       (ap (λ (x : Reply). step (state_of m) x) answered ∙ is
       ∙ ap (λ (v : StoreView). (state_of (record m { store = v }), was)) (sym same)
-          ∙ ap (λ (x : Reply). (state_of (record m { store = left }), x)) (sym answered))
+      ∙ ap (λ (x : Reply). (state_of (record m { store = left }), x)) (sym answered))

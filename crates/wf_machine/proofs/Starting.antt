@@ -72,7 +72,7 @@ module _ (handle target : ℕ) (scene : Scene) (ss : List KeptStream) (b : Buffe
 
   target_fits : (ports : List Port)
       → KindFits ports (drawing (kind.Context handle target) (latch (scene_streams scene) ss)) scene.size
-          (format_for (kind.Context handle target) ss) (kind.Context handle target)
+      (format_for (kind.Context handle target) ss) (kind.Context handle target)
   target_fits ports =
       let here = changed_here acquired target (latch (scene_streams scene) ss) late (shape_kept acquired acquired_keeps) late_at in
       rw here (refl, sym late_size, format_is ∙ sym late_format)
@@ -133,9 +133,13 @@ module _ (was : Inside) (scene : Scene) (value : ℕ) (sound : IsSound was) (fre
       let found = target_of was.store.streams target scene may.0 in
       let same = target_image handle target scene was.store.streams found.0 found.1 found.2 image seen_ports is in
       let format : format_for (kind.Context handle target) was.store.streams ≡ found.0.format =
-          format_is handle target scene was.store.streams found.0 found.1 found.2 in
-      (ap (λ (i : Bitmap). i.size) same, ap (λ (i : Bitmap). i.format) same, same, ap (λ (i : Bitmap). is_a8 i.format) same
-          ∙ ap is_a8 format ∙ found.3)
+      format_is handle target scene was.store.streams found.0 found.1 found.2 in (
+        ap (λ (i : Bitmap). i.size) same,
+        ap (λ (i : Bitmap). i.format) same,
+        same,
+        ap (λ (i : Bitmap). is_a8 i.format) same
+            ∙ ap is_a8 format ∙ found.3,
+      )
   suited (kind.Port port) image may is = of_port (slice_get seen_ports (port - 1)) is may.1
     where
       of_port : (o : Option Port) → IfSome o (λ p. IsFrameImage (mode_size 1 p.modes) (Some image))
@@ -231,12 +235,12 @@ module _ (was now : Inside) (k : JobKind) (scene : Scene) (value : ℕ) (latched
   shown_fits : (j : JobKind) → k ≡ j → Fits scene contents
   shown_fits (kind.Context handle target) is =
       let may : MayStart (kind.Context handle target) scene (state_of was) =
-          subst (λ (x : JobKind). MayStart x scene (state_of was)) is s.may in
+      subst (λ (x : JobKind). MayStart x scene (state_of was)) is s.may in
       let fit = latched_fit was now b frame contents begun s.sound in
       let there = composable_kept was.store.streams (latch (scene_streams scene) was.store.streams) target scene
-          (λ n. seen_mapped (latched_among (scene_streams scene)) (latch_keeps (scene_streams scene)) n was.store.streams) may.0 in
+      (λ n. seen_mapped (latched_among (scene_streams scene)) (latch_keeps (scene_streams scene)) n was.store.streams) may.0 in
       scene_shows (map port_of was.ports.items) (map content_shape (newest_images (scene_streams scene) was.store.streams))
-          (latch (scene_streams scene) was.store.streams) contents fit shaped_contents target scene there
+      (latch (scene_streams scene) was.store.streams) contents fit shaped_contents target scene there
   shown_fits (kind.Port port) is =
       let may : MayStart (kind.Port port) scene (state_of was) = subst (λ (x : JobKind). MayStart x scene (state_of was)) is s.may in
       of_port (slice_get (map port_of was.ports.items) (port - 1)) refl may.1
@@ -259,12 +263,12 @@ module _ (was now : Inside) (k : JobKind) (scene : Scene) (value : ℕ) (latched
           let layer = screen_layer port (mode_size 1 p.modes) (mode_size 1 p.modes) in
           let next : port - 1 + 1 ≡ port = omega (arith, (subst (λ (x : JobKind). MayStart x scene (state_of was)) is s.may).0) in
           let here : nth port (map port_of was.ports.items) ≡ Some p = ap (λ (n : ℕ). nth n (map port_of was.ports.items)) (sym next)
-              ∙ nth_next (port - 1) (map port_of was.ports.items) ∙ at in
+          ∙ nth_next (port - 1) (map port_of was.ports.items) ∙ at in
           let fit = layer_fits port (mode_size 1 p.modes) p (map port_of was.ports.items) (latch (scene_streams scene) was.store.streams)
-              was.store.numbered contents (map content_shape (newest_images (scene_streams scene) was.store.streams)) sides refl here
-                  (latched_fit was now b frame contents begun s.sound) shaped_contents in
+          was.store.numbered contents (map content_shape (newest_images (scene_streams scene) was.store.streams)) sides refl here
+          (latched_fit was now b frame contents begun s.sound) shaped_contents in
           let fits : Fits (scene_of_port port p) contents =
-              record { w = each.0; h = each.1; layers = All-cons (LayerFits contents) layer [] fit (All-nil (LayerFits contents)) } in
+          record { w = each.0; h = each.1; layers = All-cons (LayerFits contents) layer [] fit (All-nil (LayerFits contents)) } in
           subst (λ (x : Scene). Fits x contents) (sym shown) fits
 
   pub left : (h : State) → state_of was ≡ h → state_of now ≡ (start (beginning_of k scene value h) h).0
@@ -287,4 +291,4 @@ module _ (was now : Inside) (k : JobKind) (scene : Scene) (value : ℕ) (latched
         fits = shown_fits k refl;
       } in
       subst (λ (t : State). IsAnswer (start (beginning_of k scene value t) t).1 (gives_job value given)) seen
-          (answer_begun was now b frame contents begun s.sound given is)
+      (answer_begun was now b frame contents begun s.sound given is)

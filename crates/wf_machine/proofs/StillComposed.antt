@@ -1,6 +1,6 @@
 -- The objects of composition fit the store still where the streams that they name keep their shapes.
-use Rattle.std.proofs.Common.{◌≡◌, ℕ, ◌≤◌, Bool, true, false, ◌==◌, ◌||◌, List, [], ◌∷◌, ◌++◌, map, flat_map, Option, Some, None, refl, ap,
-    ◌∙◌, arith}
+use Rattle.std.proofs.Common.{◌≡◌, ℕ, ◌≤◌, Bool, true, false, ◌==◌, ◌||◌, List, [], ◌∷◌, ◌++◌, map, flat_map, Option, Some, None, refl, ap}
+use Rattle.std.proofs.Common.{◌∙◌, arith}
 use Rattle.std.specs.List.{AllByRecursion}
 use Rattle.std.specs.Option.{IsSomeAnd}
 use Rattle.std.proofs.lemmas.Bool.{eq-eqb}
@@ -130,5 +130,7 @@ handles_kept core store now others more fit =
 pub still_fits : (core : CoreState) (store now : StoreView) → now.others ≡ store.others → store.made ≤ now.made
     → KeepsNamed (core_names core) store.streams now.streams → Fits core store → Fits core now
 still_fits core store now others more keeps fit =
-    record { handles = handles_kept core store now others more fit.handles;
-        streams = streams_kept store.streams now.streams core keeps fit.streams }
+    record {
+      handles = handles_kept core store now others more fit.handles;
+      streams = streams_kept store.streams now.streams core keeps fit.streams;
+    }

@@ -1,6 +1,6 @@
 -- Streams fit still when one is added or its buffers change.
-use Rattle.std.proofs.Common.{◌≡◌, ℕ, zero, suc, ◌+◌, ◌<◌, ◌≤◌, true, false, cond, ◌==◌, List, [], ◌∷◌, ◌++◌, length, map, Option, Some,
-    None, refl, sym, ◌∙◌, arith}
+use Rattle.std.proofs.Common.{◌≡◌, ℕ, zero, suc, ◌+◌, ◌<◌, ◌≤◌, true, false, cond, ◌==◌, List, [], ◌∷◌, ◌++◌, length, map, Option, Some}
+use Rattle.std.proofs.Common.{None, refl, sym, ◌∙◌, arith}
 use Rattle.std.specs.Prelude.{IfSome}
 use Rattle.std.proofs.lemmas.Bool.Decides.{nat_tests}
 use Rattle.std.proofs.lemmas.Option.{slice_get_past}
@@ -54,9 +54,14 @@ fits_kept f ports contents s keeps fits =
 pub all_kept : (f : Buffers → Buffers) (n : ℕ) (ports : List Port) (contents : List Content) (streams : List KeptStream) → KeepsRead f
     → AllFit ports contents streams → AllFit ports contents (change_stream n f streams)
 all_kept f n ports contents [] keeps fit = tt
-all_kept f n ports contents (s ∷ streams) keeps fit =
-    (elim (s.number == n) as (λ b. StreamFits ports contents (cond b (record s { buffers = f s.buffers }) s)) [ true ↦ fits_kept f ports
-        contents s keeps fit.0 | false ↦ fit.0 ], all_kept f n ports contents streams keeps fit.1)
+all_kept f n ports contents (s ∷ streams) keeps fit = (
+  elim (s.number == n) as (λ b. StreamFits ports contents (cond b (record s { buffers = f s.buffers }) s)) [
+    | true ↦ fits_kept f ports
+        contents s keeps fit.0
+    | false ↦ fit.0
+  ],
+  all_kept f n ports contents streams keeps fit.1,
+)
 
 -- no content is of a number above all
 pub content_above : (n numbered : ℕ) (contents : List Content) → AreNumbered numbered contents → numbered < n → content_at n contents ≡ None
@@ -94,10 +99,14 @@ new_fits ports contents numbered s many known number sides never-is =
 pub all_unnamed : (handle : ℕ) (ports : List Port) (contents : List Content) (streams : List KeptStream) → AllFit ports contents streams
     → AllFit ports contents (map (unnamed handle) streams)
 all_unnamed handle ports contents [] fit = tt
-all_unnamed handle ports contents (s ∷ streams) fit =
-    (elim (s.handle == handle) as (λ b. StreamFits ports contents (cond b (record s { handle = 0 }) s)) [ true ↦ record
-        { sides = fit.0.sides; screen = fit.0.screen; read = fit.0.read } | false ↦ fit.0 ],
-        all_unnamed handle ports contents streams fit.1)
+all_unnamed handle ports contents (s ∷ streams) fit = (
+  elim (s.handle == handle) as (λ b. StreamFits ports contents (cond b (record s { handle = 0 }) s)) [
+    | true ↦ record
+        { sides = fit.0.sides; screen = fit.0.screen; read = fit.0.read }
+    | false ↦ fit.0
+  ],
+  all_unnamed handle ports contents streams fit.1,
+)
 
 pub numbered_push : (low high : ℕ) (streams : List KeptStream) (s : KeptStream) → IsNumbered low streams high → s.number ≡ high + 1
     → IsNumbered low (streams ++ s ∷ []) (high + 1)

@@ -1,6 +1,6 @@
 -- What holds of the streams, of the ports and of the running frame beside one another.
-use Rattle.std.specs.Prelude.{◌≡◌, ◌≢◌, ℕ, ◌+◌, ◌-◌, ◌<◌, ◌≤◌, Bool, false, ◌==◌, List, [], ◌∷◌, length, map, slice_get, find, Option,
-    Some, None, IfSome, IsSomeAnd, IsTrue, if◌then◌else◌}
+use Rattle.std.specs.Prelude.{◌≡◌, ◌≢◌, ℕ, ◌+◌, ◌-◌, ◌<◌, ◌≤◌, Bool, false, ◌==◌, List, [], ◌∷◌, length, map, slice_get, find, Option, Some}
+use Rattle.std.specs.Prelude.{None, IfSome, IsSomeAnd, IsTrue, if◌then◌else◌}
 use Rattle.std.specs.List.{list_all, AllByRecursion}
 use Rattle.wf_words.specs.Keyed.{nth}
 use Rattle.wf_pixel.specs.declared.Format.{Format}

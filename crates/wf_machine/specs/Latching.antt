@@ -1,6 +1,6 @@
 -- Latching the streams of a scene one by one, and bringing images home one by one.
-use Rattle.std.specs.Prelude.{◌≡◌, ◌≢◌, ℕ, List, [], ◌∷◌, ◌++◌, map, None, is_some, IfSome, IsSomeAnd, IsTrue, option_to_list,
-    if◌then◌else◌}
+use Rattle.std.specs.Prelude.{◌≡◌, ◌≢◌, ℕ, List, [], ◌∷◌, ◌++◌, map, None, is_some, IfSome, IsSomeAnd, IsTrue, option_to_list}
+use Rattle.std.specs.Prelude.{if◌then◌else◌}
 use Rattle.wf_image.specs.declared.canvas.Canvas.{Canvas}
 use Rattle.wf_image.specs.Bitmap.{Bitmap}
 use Rattle.wf_image.specs.Contents.{image_of}

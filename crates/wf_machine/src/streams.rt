@@ -8,8 +8,8 @@ ghost use Rattle.wf_calls.specs.Codes.{is_out_of_memory};
 ghost use Rattle.wf_stream.specs.Buffers.{acquired, discarded, is_blocked, posted};
 ghost use Rattle.wf_image.specs.Bitmap.{blank};
 ghost use Rattle.wf_stream.specs.Streams.{KeptStream, buffers_at, change_stream, has_no_room, held, stream_at, with_live_stream};
-ghost use Rattle.wf_model.specs.Streams.{acquirable, acquire_step, canvas_back, canvas_of, is_out_at_client, is_out_of, may_make,
-    new_buffers, stat, stream_destroy, stream_new, stream_step};
+ghost use Rattle.wf_model.specs.Streams.{acquirable, acquire_step, canvas_back, canvas_of, is_out_at_client, is_out_of, may_make};
+ghost use Rattle.wf_model.specs.Streams.{new_buffers, stat, stream_destroy, stream_new, stream_step};
 ghost use Rattle.wf_calls.specs.Replies.{bare, done};
 ghost use Rattle.wf_machine.specs.Latching.{IsOutFrom};
 

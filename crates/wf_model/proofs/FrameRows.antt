@@ -42,7 +42,7 @@ four a b c d = a ∷ b ∷ c ∷ d ∷ []
 abbrev setup : List Call
 setup =
     call.DeviceNew ∷ call.ScreenContext 1 (pos 1) ∷ call.StreamNew (pos 1) (pos 1) Rgba8 (pos 2) ∷ call.SourceNew 1 2 3
-        ∷ call.ElementNew 1 2
+    ∷ call.ElementNew 1 2
     ∷ call.ElementSet 1 5 element.Source (four (pos 4) (pos 0) (pos 0) (pos 0))
     ∷ call.ElementSet 1 5 element.SrcRect (four (pos 0) (pos 0) (pos 1) (pos 1))
     ∷ call.ElementSet 1 5 element.Dest (four (pos 0) (pos 0) (pos 1) (pos 1))

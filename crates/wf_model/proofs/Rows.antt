@@ -51,14 +51,20 @@ unfolding step act
 one_buffer = refl
 
 -- a write buffer is given once
-second_acquire : (step (step with_stream 0 (call.Acquire 1) false).0 1 (call.Acquire 1) false).1 ≡ record { code = code.Busy; value = 0;
-    payload = payload.Nothing }
+second_acquire : (step (step with_stream 0 (call.Acquire 1) false).0 1 (call.Acquire 1) false).1 ≡ record {
+  code = code.Busy;
+  value = 0;
+  payload = payload.Nothing;
+}
 unfolding step act
 second_acquire = refl
 
 -- one frame runs at a time, and no context is there to begin
-second_begin : (step (step opened 0 (call.BeginPort (pos 1)) false).0 0 (call.BeginNext 0) false).1 ≡ record { code = code.Busy; value = 0;
-    payload = payload.Nothing }
+second_begin : (step (step opened 0 (call.BeginPort (pos 1)) false).0 0 (call.BeginNext 0) false).1 ≡ record {
+  code = code.Busy;
+  value = 0;
+  payload = payload.Nothing;
+}
 unfolding step act
 second_begin = refl
 

@@ -15,8 +15,8 @@ use Rattle.wf_calls.specs.declared.reply.Answer.{Answer}
 use Rattle.wf_calls.specs.declared.reply.Refusal.{Refusal}
 use Rattle.wf_calls.specs.declared.reply.Reply.{Reply}
 use Rattle.wf_model.specs.Display.{port_scene}
-use Rattle.wf_model.specs.Frames.{Beginning, all_begun, begin_next, begin_port, begin_shown, context_beginning, is_running, next_context,
-    port_beginning, start, started, target_ready, begin_call}
+use Rattle.wf_model.specs.Frames.{Beginning, all_begun, begin_next, begin_port, begin_shown, context_beginning, is_running, next_context}
+use Rattle.wf_model.specs.Frames.{port_beginning, start, started, target_ready, begin_call}
 use Rattle.wf_model.specs.Objects.{Context}
 use Rattle.wf_model.specs.Outcome.{refuse}
 use Rattle.wf_model.specs.State.{State}

@@ -1,6 +1,6 @@
 -- The calls of composition: for each the refusals in their order, and then the effect and the value.
-use Rattle.std.specs.Prelude.{ℕ, ◌+◌, ◌*◌, Bool, true, false, not, ◌&&◌, ◌||◌, ◌==◌, nat_le, ℤ, List, [], ◌∷◌, ◌++◌, length, filter, find,
-    Option, None, Some, Result, Ok, Err, if◌then◌else◌}
+use Rattle.std.specs.Prelude.{ℕ, ◌+◌, ◌*◌, Bool, true, false, not, ◌&&◌, ◌||◌, ◌==◌, nat_le, ℤ, List, [], ◌∷◌, ◌++◌, length, filter, find}
+use Rattle.std.specs.Prelude.{Option, None, Some, Result, Ok, Err, if◌then◌else◌}
 use Rattle.std.specs.List.{list_any}
 use Rattle.wf_words.specs.Refusals.{◌>>=◌}
 use Rattle.wf_words.specs.Whole.{count_of}
@@ -27,8 +27,8 @@ use Rattle.wf_calls.specs.declared.reply.Refusal.{Refusal}
 use Rattle.wf_calls.specs.Codes.{code_number}
 use Rattle.wf_model.specs.Objects.{Context, CoreState, Device, Source}
 use Rattle.wf_model.specs.Outcome.{Outcome, refuse, found}
-use Rattle.wf_model.specs.Composition.{CoreSide, device, context, element_context, is_of_device, live_stream, sight_of, created,
-    change_context, with_cached, change_register}
+use Rattle.wf_model.specs.Composition.{CoreSide, device, context, element_context, is_of_device, live_stream, sight_of, created}
+use Rattle.wf_model.specs.Composition.{change_context, with_cached, change_register}
 
 -- the last two refusals of a creation: its own limit or that of all handles, and want of memory
 abbrev pub room : Bool → Bool → CoreSide → Result (Unit {0}) Refusal

@@ -30,8 +30,8 @@ use Rattle.wf_scene.specs.declared.attributes.Refused.TheVariants as scene
 use Rattle.wf_scene.specs.declared.look.Fault.{Fault}
 use Rattle.wf_scene.specs.Values.{is_count}
 use Rattle.wf_model.specs.Core.{by_scene, checked_source, core_call, fault_as_refusal, linked}
-use Rattle.wf_model.specs.Frames.{Beginning, begin_call, begin_context, begin_shown, end, end_frame, is_of_frame, is_running, start,
-    started}
+use Rattle.wf_model.specs.Frames.{Beginning, begin_call, begin_context, begin_shown, end, end_frame, is_of_frame, is_running, start}
+use Rattle.wf_model.specs.Frames.{started}
 use Rattle.wf_model.specs.Objects.{Context, CoreState, Source}
 use Rattle.wf_model.specs.Outcome.{Outcome, found, refuse_with}
 use Rattle.wf_model.specs.Registers.{offered}
@@ -144,7 +144,7 @@ composed_effect : (h : State) (c : Call) (d : ℕ) (m : Bool) → part_of c ≡ 
     → Effect h c (composed d (core_call (screen_of c h) m c) h)
 composed_effect h c d m is =
     of_outcome (does (core_side h)) refl (core_leaves_streams (screen_of c h) m c (core_side h))
-        (core_is_honest (screen_of c h) m c (core_side h))
+    (core_is_honest (screen_of c h) m c (core_side h))
   where
     does : CoreSide → Outcome CoreSide
     does = core_call (screen_of c h) m c
@@ -156,7 +156,7 @@ composed_effect h c d m is =
         ∙ ap (λ (ss : List KeptStream). (record h { made = x.0.made; streams = ss; core = x.0.core }, bare (done x.1))) leaves)
     of_outcome (Err r) at leaves honest =
         let left : composed d does h ≡ (offered (of_device d) r.code h, bare (refused r)) =
-            ap (λ (o : Outcome CoreSide). composed d (λ _. o) h) at in
+        ap (λ (o : Outcome CoreSide). composed d (λ _. o) h) at in
         refuses_so h c (composed d does h) (of_device d) r (ap recorded_by is) honest left
 
 -- a call on streams
@@ -273,7 +273,7 @@ effect h (call.BeginNext after) m =
     begin_effect h (call.BeginNext after) refl (search (after_honest, honest_refuse, shown_honest) depth 8) (next_free after h)
 effect h (call.BeginPort port) m =
     begin_effect h (call.BeginPort port) refl (search (after_honest, honest_refuse, honest_found) depth 12)
-        (λ b is. (port_is port h b is).free)
+    (λ b is. (port_is port h b is).free)
 effect h (call.End job) m = end_effect h (call.End job) refl job refl
 effect h call.DeviceNew m = composed_effect h call.DeviceNew 0 m refl
 effect h _ m = composed_effect h _ _ m refl

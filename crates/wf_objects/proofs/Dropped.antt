@@ -1,36 +1,6 @@
 -- An object that leaves with its handle: what is left fits.
-use Rattle.std.proofs.Common.{
-  ◌≡◌,
-  ◌≢◌,
-  ℕ,
-  Bool,
-  true,
-  false,
-  not,
-  ◌==◌,
-  ◌&&◌,
-  ◌||◌,
-  List,
-  map,
-  filter,
-  find,
-  set,
-  slice_get,
-  option_map,
-  Option,
-  Some,
-  None,
-  is_some,
-  refl,
-  sym,
-  ap,
-  subst,
-  ◌∙◌,
-  [],
-  ◌∷◌,
-  cond,
-  arith,
-}
+use Rattle.std.proofs.Common.{◌≡◌, ◌≢◌, ℕ, Bool, true, false, not, ◌==◌, ◌&&◌, ◌||◌, List, map, filter, find, set, slice_get, option_map}
+use Rattle.std.proofs.Common.{Option, Some, None, is_some, refl, sym, ap, subst, ◌∙◌, [], ◌∷◌, cond, arith}
 use Rattle.std.specs.List.{list_any, list_all, AllByRecursion}
 use Rattle.std.proofs.lemmas.Bool.{and_parts, eqb-true, ne_eqb, and_from}
 use Rattle.wf_words.specs.Keyed.{is_in}
@@ -45,19 +15,8 @@ use Rattle.wf_model.specs.declared.Source.{Source}
 use Rattle.wf_model.specs.Objects.{CoreState}
 use Rattle.wf_model.specs.declared.Device.{Device}
 use Rattle.wf_model.specs.Core.{without_source}
-use Rattle.wf_objects.specs.Fits.{
-  ContextFits,
-  Fits,
-  HandlesFit,
-  HasElements,
-  Shows,
-  context_live,
-  element_live,
-  has_owner,
-  of_kind,
-  device_live,
-  elements_of,
-}
+use Rattle.wf_objects.specs.Fits.{ContextFits, Fits, HandlesFit, HasElements, Shows, context_live, element_live, has_owner, of_kind}
+use Rattle.wf_objects.specs.Fits.{device_live, elements_of}
 use Rattle.wf_objects.specs.Links.{link_kind, link_live, links, with_links}
 use Rattle.wf_objects.proofs.Fitting.{Housed, KindChanged, contexts_fit, devices_fit, links_fit, links_live, links_show}
 use Rattle.wf_objects.specs.Losses.{Loses, but_context}
@@ -178,14 +137,18 @@ then_lost a b c first second = record {
 module _ (core : CoreState) (store : StoreView) (fits : Fits core store) (h : ℕ) where
   -- a handle of a kind that dies
   died : (k : Kind) → IsUnder h k store.others → KindChanged k store store.made (without h store.others)
-  died k u = record { rising = rising_without h 0 store.made store.others fits.handles.rising;
-      other = other_kind core store fits.handles h k u }
+  died k u = record {
+    rising = rising_without h 0 store.made store.others fits.handles.rising;
+    other = other_kind core store fits.handles h k u;
+  }
 
   -- one that is of no element
   still_housed : (k : Kind) (u : IsUnder h k store.others) → same_kind k kind.Element ≡ false
       → Housed core.contexts (without h store.others)
-  still_housed k u other = record { elements = elements_stay core store fits.handles h k u other;
-      owned = owned_stay core store fits.handles h k u }
+  still_housed k u other = record {
+    elements = elements_stay core store fits.handles h k u other;
+    owned = owned_stay core store fits.handles h k u;
+  }
 
   pub link_under : (mask : Bool) → list_any (λ s. s.handle == h) (links mask core) ≡ true → IsUnder h (link_kind mask) store.others
   link_under mask any = object_under (link_kind mask) (link_live mask) h store.made (links mask core) store.others fits.handles.rising

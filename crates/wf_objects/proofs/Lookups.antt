@@ -1,38 +1,6 @@
 -- What the store's table tells of an object that a call names.
-use Rattle.std.proofs.Common.{
-  ◌≡◌,
-  ◌≢◌,
-  eq-eqb,
-  ne_eqb,
-  ℕ,
-  Bool,
-  true,
-  false,
-  cond,
-  ◌==◌,
-  ◌&&◌,
-  List,
-  [],
-  ◌∷◌,
-  map,
-  find,
-  slice_get,
-  option_map,
-  option_and_then,
-  position,
-  Option,
-  Some,
-  None,
-  Ok,
-  Err,
-  is_some,
-  refl,
-  sym,
-  ap,
-  subst,
-  ◌∙◌,
-  arith,
-}
+use Rattle.std.proofs.Common.{◌≡◌, ◌≢◌, eq-eqb, ne_eqb, ℕ, Bool, true, false, cond, ◌==◌, ◌&&◌, List, [], ◌∷◌, map, find, slice_get}
+use Rattle.std.proofs.Common.{option_map, option_and_then, position, Option, Some, None, Ok, Err, is_some, refl, sym, ap, subst, ◌∙◌, arith}
 use Rattle.std.specs.List.{list_any, AllByRecursion}
 use Rattle.std.proofs.lemmas.Bool.Decides.{nat_tests}
 use Rattle.wf_words.specs.Keyed.{at_key}

@@ -1,6 +1,6 @@
 -- A creation: it is refused, or a new object fits with the handle that was made for it.
-use Rattle.std.proofs.Common.{◌≡◌, ℕ, zero, suc, ◌+◌, ◌≤◌, Bool, true, false, cond, not, ◌==◌, ◌&&◌, ◌||◌, List, [], ◌∷◌, ◌++◌, map, set,
-    length, slice_get, Option, Some, None, option_map, Result, Ok, refl, sym, ap, subst, ◌∙◌, arith}
+use Rattle.std.proofs.Common.{◌≡◌, ℕ, zero, suc, ◌+◌, ◌≤◌, Bool, true, false, cond, not, ◌==◌, ◌&&◌, ◌||◌, List, [], ◌∷◌, ◌++◌, map, set}
+use Rattle.std.proofs.Common.{length, slice_get, Option, Some, None, option_map, Result, Ok, refl, sym, ap, subst, ◌∙◌, arith}
 use Rattle.std.specs.List.{list_all, AllByRecursion}
 use Rattle.std.proofs.lemmas.Bool.{and_parts, eqb-true, eq-eqb, ne_eqb}
 use Rattle.std.proofs.lemmas.Bool.Decides.{nat_tests}
@@ -28,19 +28,8 @@ use Rattle.wf_objects.proofs.Scenes.{placed_is}
 use Rattle.wf_objects.specs.Links.{link_kind, link_live, links, with_links}
 use Rattle.wf_objects.specs.Sides.{is_of_composition, refused_handle, side_of}
 use Rattle.wf_objects.proofs.Fitting.{Housed, KindChanged, contexts_fit, devices_fit, links_fit, links_live, links_show}
-use Rattle.wf_objects.specs.Fits.{
-  ContextFits,
-  Fits,
-  HasElements,
-  Shows,
-  context_live,
-  device_live,
-  element_live,
-  elements_of,
-  has_owner,
-  live,
-  of_kind,
-}
+use Rattle.wf_objects.specs.Fits.{ContextFits, Fits, HasElements, Shows, context_live, device_live, element_live, elements_of, has_owner}
+use Rattle.wf_objects.specs.Fits.{live, of_kind}
 use Rattle.wf_words.specs.Each.{each_at, each_more, each_other, each_set}
 use Rattle.wf_words.specs.Places.{map_set}
 use Rattle.wf_objects.proofs.Lookups.{has_by_key, is_named, rises_contexts}

@@ -1,28 +1,6 @@
 -- The context at a place that was found is the one that the call names.
-use Rattle.std.proofs.Common.{
-  ◌≡◌,
-  ℕ,
-  ◌<◌,
-  length,
-  true,
-  false,
-  ◌&&◌,
-  ◌||◌,
-  ◌==◌,
-  is_some,
-  List,
-  slice_get,
-  slice_index_or,
-  option_and_then,
-  Option,
-  Some,
-  None,
-  IfSome,
-  refl,
-  sym,
-  ap,
-  ◌∙◌,
-}
+use Rattle.std.proofs.Common.{◌≡◌, ℕ, ◌<◌, length, true, false, ◌&&◌, ◌||◌, ◌==◌, is_some, List, slice_get, slice_index_or, option_and_then}
+use Rattle.std.proofs.Common.{Option, Some, None, IfSome, refl, sym, ap, ◌∙◌}
 use Rattle.std.specs.List.{list_any}
 use Rattle.std.proofs.lemmas.Bool.{and_parts, eqb-true}
 use Rattle.std.proofs.lemmas.Option.{slice_get_read}
@@ -64,7 +42,7 @@ pub standing : (view core : CoreState) (place : ℕ) (x y : Context) → view �
 standing view core place x y is less read same =
     slice_get_read core.contexts (length core.contexts) place x refl less (read
     ∙ ap (λ (cs : List Context). slice_index_or cs place x) (ap (λ (k : CoreState). k.contexts) is))
-        ∙ ap (λ (c : Context). Some c) (sym same)
+    ∙ ap (λ (c : Context). Some c) (sym same)
 
 -- a handle is 0 or that of an element, by the place that was found
 pub any_element : (d h : ℕ) (w : CoreSide) (o : Option ℕ) → (h == 0) ≡ false

@@ -1,6 +1,6 @@
 -- Changes of the context at a place: each does what the plain change does.
-use Rattle.std.proofs.Common.{◌≡◌, ℕ, zero, suc, Bool, true, ◌||◌, not, ℤ, List, [], ◌∷◌, map, set, slice_get, Some, OnErr, Result, Ok,
-    Err, refl, sym, ap, subst, ◌∙◌}
+use Rattle.std.proofs.Common.{◌≡◌, ℕ, zero, suc, Bool, true, ◌||◌, not, ℤ, List, [], ◌∷◌, map, set, slice_get, Some, OnErr, Result, Ok, Err}
+use Rattle.std.proofs.Common.{refl, sym, ap, subst, ◌∙◌}
 use Rattle.std.specs.List.{list_all}
 use Rattle.wf_words.specs.Each.{each_at, each_set}
 use Rattle.wf_words.specs.Keyed.{is_in}

@@ -1,29 +1,6 @@
 -- What an operation on the tables leaves and answers, by the plain machine.
-use Rattle.std.specs.Prelude.{
-  ◌≡◌,
-  ℕ,
-  ◌+◌,
-  Bool,
-  false,
-  not,
-  ◌==◌,
-  ℤ,
-  List,
-  [],
-  ◌∷◌,
-  ◌++◌,
-  slice_get,
-  nat_le,
-  length,
-  Option,
-  Some,
-  None,
-  OnErr,
-  IfSome,
-  Result,
-  Ok,
-  Err,
-}
+use Rattle.std.specs.Prelude.{◌≡◌, ℕ, ◌+◌, Bool, false, not, ◌==◌, ℤ, List, [], ◌∷◌, ◌++◌, slice_get, nat_le, length, Option, Some, None}
+use Rattle.std.specs.Prelude.{OnErr, IfSome, Result, Ok, Err}
 use Rattle.std.proofs.Common.{refl, sym, ap, ◌∙◌}
 use Rattle.wf_words.specs.Refusals.{◌>>=◌}
 use Rattle.wf_stream.specs.Streams.{StoreView}
@@ -160,7 +137,7 @@ module _ (place : ℕ) (after : Step) (core left : CoreState) (store now : Store
   in_owner d e at =
       let w = side_of core store in
       as_other (λ m w. device d w >>= (λ _. element_context d e w >>= (λ c. after c.handle m c w))) (in_place place after) core left store
-          now
+      now
       result
       (λ m. (let go : Context → Outcome CoreSide = λ c. after c.handle m c w in
       joined (device d w) (λ _. element_context d e w) go ∙ ap (λ (r : Result Context Refusal). r >>= go) (sym at))) does

@@ -1,6 +1,6 @@
 -- When the objects of composition and the store fit: the store has just their handles, and keeps the streams that they name.
-use Rattle.std.specs.Prelude.{◌≡◌, ℕ, Bool, true, false, not, ◌&&◌, ◌||◌, ◌==◌, List, map, filter, find, option_map, Option, Some, None,
-    IfSome, IsSomeAnd, IsTrue}
+use Rattle.std.specs.Prelude.{◌≡◌, ℕ, Bool, true, false, not, ◌&&◌, ◌||◌, ◌==◌, List, map, filter, find, option_map, Option, Some, None}
+use Rattle.std.specs.Prelude.{IfSome, IsSomeAnd, IsTrue}
 use Rattle.std.specs.List.{list_all, AllByRecursion}
 use Rattle.std.proofs.Common.{refl, ap, ◌∙◌}
 use Rattle.wf_words.specs.Found.{find_filtered, find_mapped}

@@ -1,32 +1,15 @@
 //! Where an object is kept that a call names by its handle.
 
-ghost use Rattle.std.specs.Prelude.{
-  ◌≡◌,
-  ◌<◌,
-  ◌&&◌,
-  ◌==◌,
-  ◌||◌,
-  false,
-  not,
-  is_some,
-  option_and_then,
-  option_map,
-  position,
-  slice_get,
-  length,
-  IfOk,
-  IfSome,
-  IsTrue,
-  OnOk,
-};
+ghost use Rattle.std.specs.Prelude.{◌≡◌, ◌<◌, ◌&&◌, ◌==◌, ◌||◌, false, not, is_some, option_and_then, option_map, position, slice_get};
+ghost use Rattle.std.specs.Prelude.{length, IfOk, IfSome, IsTrue, OnOk};
 ghost use Rattle.std.specs.List.{list_any};
 ghost use Rattle.wf_life.specs.Handles.{key_of};
 ghost use Rattle.wf_stream.specs.Streams.{is_stream};
 ghost use Rattle.wf_model.specs.Core.{is_element_or_0};
 ghost use Rattle.wf_objects.specs.Fits.{Fits};
 ghost use Rattle.wf_objects.specs.Links.{links};
-ghost use Rattle.wf_objects.specs.Owners.{of_device, of_element, live_device, owned_context, owned_link, owning_context, at_place,
-    LivesAt, StandsAt};
+ghost use Rattle.wf_objects.specs.Owners.{of_device, of_element, live_device, owned_context, owned_link, owning_context, at_place, LivesAt};
+ghost use Rattle.wf_objects.specs.Owners.{StandsAt};
 ghost use Rattle.wf_objects.specs.Sides.{side_of};
 
 use crate::links::is_of_device;

@@ -64,7 +64,7 @@ number (Some p) = 3 * p.1 + p.0
 abbrev shown : Bool → Rotation → ℕ → ℕ → List ℕ
 shown flip turn w h =
     flat_map (λ y. map (λ x. number (place wide flip turn (record { x = pos 0; y = pos 0; w = w; h = h }) (pos x) (pos y)))
-        (range_with_len 0 w))
+    (range_with_len 0 w))
     (range_with_len 0 h)
 
 turn_0 : shown false R0 3 2 ≡ 0 ∷ 1 ∷ 2 ∷ 3 ∷ 4 ∷ 5 ∷ []

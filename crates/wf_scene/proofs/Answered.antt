@@ -8,12 +8,12 @@ use Rattle.wf_scene.specs.declared.attributes.ElementAttr.{ElementAttr}
 use Rattle.wf_scene.specs.declared.attributes.ElementAttr.TheVariants as attr
 use Rattle.wf_scene.specs.declared.element.Element.{Element}
 use Rattle.wf_words.specs.Options.{◌>>=◌}
-use Rattle.wf_scene.specs.Values.{component, word, is_extent, is_channel, is_handle, coordinate_of, extent_of, channel_of, rect_of,
-    is_count, with_number, flag_of, turn_of, filter_of, transparency_of, rect_numbers, flag_number, degrees, filter_number,
-    transparency_number, flags, turns, filters, transparencies}
+use Rattle.wf_scene.specs.Values.{component, word, is_extent, is_channel, is_handle, coordinate_of, extent_of, channel_of, rect_of}
+use Rattle.wf_scene.specs.Values.{is_count, with_number, flag_of, turn_of, filter_of, transparency_of, rect_numbers, flag_number, degrees}
+use Rattle.wf_scene.specs.Values.{filter_number, transparency_number, flags, turns, filters, transparencies}
 use Rattle.wf_pixel.specs.Choice.{is_coordinate}
-use Rattle.wf_scene.specs.Elements.{change_of, numbers, may_take, with_dest, with_src, with_flip, with_turn, with_filter,
-    with_transparency, with_alpha, with_source, with_mask}
+use Rattle.wf_scene.specs.Elements.{change_of, numbers, may_take, with_dest, with_src, with_flip, with_turn, with_filter, with_transparency}
+use Rattle.wf_scene.specs.Elements.{with_alpha, with_source, with_mask}
 use Rattle.wf_scene.specs.Told.{four, told}
 
 -- a value that a test lets through
@@ -56,12 +56,12 @@ number_told number (y ∷ ys) z x e = go (is_count (number y) z) refl e (number_
 rect_told : (v : List ℤ) (r : Rect) → rect_of v ≡ Some r → rect_numbers r ≡ four v
 rect_told v r e =
     go (coordinate_of (component v 0)) (coordinate_of (component v 1)) (extent_of (component v 2)) (extent_of (component v 3)) refl refl
-        refl refl e
+    refl refl e
   where
     go : (a b : Option ℤ) (c d : Option ℕ) → coordinate_of (component v 0) ≡ a → coordinate_of (component v 1) ≡ b
         → extent_of (component v 2) ≡ c → extent_of (component v 3) ≡ d
         → (a >>= (λ x. b >>= (λ y. c >>= (λ w. d >>= (λ h. Some (record { x = x; y = y; w = w; h = h })))))) ≡ Some r
-            → rect_numbers r ≡ four v
+        → rect_numbers r ≡ four v
     go (Some x) (Some y) (Some w) (Some h) ex ey ew eh is =
         let same : ◌≡◌ {A = Rect} (record { x = x; y = y; w = w; h = h }) r = cc in
         let px = coordinate_told (component v 0) x ex in
@@ -87,23 +87,23 @@ pub set_told : (a : ElementAttr) (v : List ℤ) (f : Element → Element) (e : E
 set_told attr.Dest v f e fits is = changed_told (rect_of v) with_dest f e attr.Dest (four v) (rect_told v) is
 set_told attr.Source v f e fits is =
     changed_told (Some (count_of (component v 0))) with_source f e attr.Source (told attr.Source v)
-        (λ n m. one n _ (handle_told (component v 0) n fits m)) is
+    (λ n m. one n _ (handle_told (component v 0) n fits m)) is
 set_told attr.SrcRect v f e fits is = changed_told (rect_of v) with_src f e attr.SrcRect (four v) (rect_told v) is
 set_told attr.Flip v f e fits is =
     changed_told (flag_of (component v 0)) with_flip f e attr.Flip (told attr.Flip v)
-        (λ b m. one _ _ (number_told flag_number flags (component v 0) b m)) is
+    (λ b m. one _ _ (number_told flag_number flags (component v 0) b m)) is
 set_told attr.Rotation v f e fits is =
     changed_told (turn_of (component v 0)) with_turn f e attr.Rotation (told attr.Rotation v)
-        (λ t m. one _ _ (number_told degrees turns (component v 0) t m)) is
+    (λ t m. one _ _ (number_told degrees turns (component v 0) t m)) is
 set_told attr.Filter v f e fits is =
     changed_told (filter_of (component v 0)) with_filter f e attr.Filter (told attr.Filter v)
-        (λ t m. one _ _ (number_told filter_number filters (component v 0) t m)) is
+    (λ t m. one _ _ (number_told filter_number filters (component v 0) t m)) is
 set_told attr.Transparency v f e fits is =
     changed_told (transparency_of (component v 0)) with_transparency f e attr.Transparency (told attr.Transparency v)
-        (λ t m. one _ _ (number_told transparency_number transparencies (component v 0) t m)) is
+    (λ t m. one _ _ (number_told transparency_number transparencies (component v 0) t m)) is
 set_told attr.Alpha v f e fits is =
     changed_told (channel_of (component v 0)) with_alpha f e attr.Alpha (told attr.Alpha v)
-        (λ n m. one n _ (channel_told (component v 0) n m)) is
+    (λ n m. one n _ (channel_told (component v 0) n m)) is
 set_told attr.Mask v f e fits is =
     changed_told (Some (count_of (component v 0))) with_mask f e attr.Mask (told attr.Mask v)
-        (λ n m. one n _ (handle_told (component v 0) n fits m)) is
+    (λ n m. one n _ (handle_told (component v 0) n fits m)) is

@@ -12,8 +12,8 @@ use Rattle.wf_scene.specs.Order.{AreApart, without, inserted, has_no_room}
 use Rattle.wf_scene.specs.Cached.{CachedScene, IsOrderly, handle_of, handles, is_live, is_placed, has_element, without_element, add, forget}
 use Rattle.wf_scene.specs.Keeping.{KeepsHandle, KeepsPlace}
 use Rattle.wf_scene.proofs.Once.{any_key}
-use Rattle.wf_scene.proofs.Kept.{apart_without, apart_inserted, absent_less, in_less, all_without, all_inserted, length_without,
-    length_inserted}
+use Rattle.wf_scene.proofs.Kept.{apart_without, apart_inserted, absent_less, in_less, all_without, all_inserted, length_without}
+use Rattle.wf_scene.proofs.Kept.{length_inserted}
 
 -- an element lives where its handle is one of the handles
 pub live_handle : (h : ℕ) (es : List Element) → is_live h es ≡ is_in h (handles es)

@@ -1,6 +1,6 @@
 -- Lists in which one element at most passes a test: that element taken out, changed, or followed by another.
-use Rattle.std.proofs.Common.{◌≡◌, ℕ, ◌+◌, ◌<◌, ◌≤◌, Bool, true, false, not, cond, ◌==◌, ◌||◌, List, [], ◌∷◌, map, length, set, get_or,
-    refl, sym, ap, ◌∙◌, arith, Some, None}
+use Rattle.std.proofs.Common.{◌≡◌, ℕ, ◌+◌, ◌<◌, ◌≤◌, Bool, true, false, not, cond, ◌==◌, ◌||◌, List, [], ◌∷◌, map, length, set, get_or}
+use Rattle.std.proofs.Common.{refl, sym, ap, ◌∙◌, arith, Some, None}
 use Rattle.std.specs.Prelude.{insert, remove, filter, flat_map, position, nat_lt}
 use Rattle.std.specs.Bool.{MatchBool}
 use Rattle.std.specs.List.{list_any, position_or_len}

@@ -6,8 +6,8 @@ use Rattle.std.proofs.lemmas.Bool.{not-true, not-false}
 use Rattle.wf_scene.specs.declared.element.Element.{Element}
 use Rattle.wf_scene.specs.Cached.{CachedScene}
 use Rattle.wf_scene.specs.Sight.{Sight}
-use Rattle.wf_scene.specs.Consistent.{has_source, is_inside, has_destination, is_covered, broken_rule, keeps_rules, fault_from, fault,
-    inserted_elements, scene_of, consistent, unless}
+use Rattle.wf_scene.specs.Consistent.{has_source, is_inside, has_destination, is_covered, broken_rule, keeps_rules, fault_from, fault}
+use Rattle.wf_scene.specs.Consistent.{inserted_elements, scene_of, consistent, unless}
 
 -- one of four is false where not all are true
 any_false : (a b c d : Bool) → is_some (option_map (λ i. i + 1) (position not (a ∷ b ∷ c ∷ d ∷ [])))
@@ -32,7 +32,7 @@ module _ (sight : Sight) where
   any_fault place [] = refl
   any_fault place (e ∷ es) =
       go (broken_rule sight e) refl (any_false (has_source sight e) (is_inside sight e) (has_destination e) (is_covered sight e))
-          (any_fault (place + 1) es)
+      (any_fault (place + 1) es)
     where
       go : (o : Option ℕ) → broken_rule sight e ≡ o → is_some (broken_rule sight e) ≡ not (keeps_rules sight e)
           → is_some (fault_from sight (place + 1) es) ≡ not (list_all (keeps_rules sight) es)
@@ -48,4 +48,4 @@ module _ (sight : Sight) where
   pub ok_by_rules : (c : CachedScene) → is_ok (consistent sight c) ≡ list_all (keeps_rules sight) (inserted_elements c)
   ok_by_rules c =
       ok_unless (fault sight c) (scene_of sight c) ∙ ap not (any_fault 1 (inserted_elements c))
-          ∙ not_not (list_all (keeps_rules sight) (inserted_elements c))
+      ∙ not_not (list_all (keeps_rules sight) (inserted_elements c))

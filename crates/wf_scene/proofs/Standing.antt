@@ -1,6 +1,6 @@
 -- Where a handle stands after it was put into an order, how often it stands there, and what the other handles do.
-use Rattle.std.proofs.Common.{◌≡◌, ◌≢◌, ℕ, zero, suc, ◌+◌, ◌<◌, Bool, true, false, not, cond, ◌==◌, List, [], ◌∷◌, ◌++◌, length, refl, sym,
-    ap, ◌∙◌, arith, Some}
+use Rattle.std.proofs.Common.{◌≡◌, ◌≢◌, ℕ, zero, suc, ◌+◌, ◌<◌, Bool, true, false, not, cond, ◌==◌, List, [], ◌∷◌, ◌++◌, length, refl, sym}
+use Rattle.std.proofs.Common.{ap, ◌∙◌, arith, Some}
 use Rattle.std.specs.Prelude.{flat_map, slice_index, Ok}
 use Rattle.std.proofs.lemmas.Bool.{eqb-true, eq-eqb, ne_eqb, lt-ltb, or_parts}
 use Rattle.std.proofs.lemmas.Bool.Decides.{nat_tests}
@@ -67,7 +67,7 @@ base_below h base order there other = rw (ne_eqb h base other) (go (base == 0) r
         let inside = in_less base h order (ne_eqb base h (λ same. other (sym same))) (rw e at there) in
         let stands = stands_above base h rest (absent_out h order) inside in
         rw (lt-ltb (first (λ x. x == h) (flat_map (with_next base h) rest)) (length (flat_map (with_next base h) rest)) stands.within)
-            (ap Some stands.under)
+        (ap Some stands.under)
 
 -- without a handle, an order is the same before and after that handle was put or moved
 
@@ -119,8 +119,8 @@ times_once h (x ∷ xs) apart there = go (x == h) refl (times_once h xs apart.1)
 
 after_insert : (c : CachedScene) (order : List ℕ) (illegal full : Bool) → AreApart c.order → AreApart order
     → AreApart
-        (left_after c (refuse_if refused.IllegalArgument illegal >>=
-        (λ _. refuse_if refused.Limit full >>= (λ _. Ok (record c { order = order }))))).order
+    (left_after c (refuse_if refused.IllegalArgument illegal >>=
+    (λ _. refuse_if refused.Limit full >>= (λ _. Ok (record c { order = order }))))).order
 after_insert c order true full before after = before
 after_insert c order false true before after = before
 after_insert c order false false before after = after
@@ -133,7 +133,7 @@ after_remove c order false before after = after
 apart_moved : (c : CachedScene) (m : Move) → AreApart c.order → AreApart (moved c m).order
 apart_moved c (put h base) apart =
     after_insert c (inserted h base c.order) (not (is_base base c.order)) (has_no_room h c.order) apart
-        (apart_inserted h base c.order apart)
+    (apart_inserted h base c.order apart)
 apart_moved c (take h) apart = after_remove c (without h c.order) (not (is_in h c.order)) apart (apart_without h c.order apart)
 
 apart_run : (moves : List Move) (c : CachedScene) → AreApart c.order → AreApart (scene_after c moves).order

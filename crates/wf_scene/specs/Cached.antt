@@ -1,6 +1,6 @@
 -- The cached scene of a context, and what each call makes of it.
-use Rattle.std.specs.Prelude.{◌≡◌, ℕ, ◌≤◌, Bool, false, not, ◌&&◌, ◌==◌, ℤ, List, [], ◌∷◌, ◌++◌, map, filter, length, option_and_then,
-    Option, Result, Ok, Err, IsTrue}
+use Rattle.std.specs.Prelude.{◌≡◌, ℕ, ◌≤◌, Bool, false, not, ◌&&◌, ◌==◌, ℤ, List, [], ◌∷◌, ◌++◌, map, filter, length, option_and_then}
+use Rattle.std.specs.Prelude.{Option, Result, Ok, Err, IsTrue}
 use Rattle.std.specs.List.{list_any, list_all, position_or_len}
 use Rattle.wf_words.specs.Refusals.{◌>>=◌, refuse_if, found_or}
 use Rattle.wf_words.specs.Keyed.{at_key, change, is_in}

@@ -1,6 +1,6 @@
 -- The scene that a commit takes, and the first rule that a cached scene breaks.
-use Rattle.std.specs.Prelude.{ℕ, ◌+◌, Bool, not, ◌||◌, List, [], ◌∷◌, map, filter_map, slice_get, position, option_map, is_some, false,
-    Option, None, Some, Result, Ok, Err, if◌then◌else◌}
+use Rattle.std.specs.Prelude.{ℕ, ◌+◌, Bool, not, ◌||◌, List, [], ◌∷◌, map, filter_map, slice_get, position, option_map, is_some, false}
+use Rattle.std.specs.Prelude.{Option, None, Some, Result, Ok, Err, if◌then◌else◌}
 use Rattle.std.specs.List.{enumerate_from, list_all}
 use Rattle.std.specs.Option.{option_map_or}
 use Rattle.wf_pixel.specs.declared.Rgba.{Rgba}

@@ -13,8 +13,8 @@ use Rattle.wf_scene.specs.declared.style.Filter.TheVariants as filter
 use Rattle.wf_scene.specs.declared.style.Style.{Style}
 use Rattle.wf_scene.specs.declared.element.Element.{Element}
 use Rattle.wf_scene.specs.Layers.{nowhere}
-use Rattle.wf_scene.specs.Values.{component, is_handle, rect_of, flag_of, turn_of, filter_of, transparency_of, channel_of, rect_numbers,
-    flag_number, degrees, filter_number, transparency_number}
+use Rattle.wf_scene.specs.Values.{component, is_handle, rect_of, flag_of, turn_of, filter_of, transparency_of, channel_of, rect_numbers}
+use Rattle.wf_scene.specs.Values.{flag_number, degrees, filter_number, transparency_number}
 
 -- how something is shown before an attribute is set
 abbrev pub plain : Style

@@ -10,8 +10,8 @@ use Rattle.wf_scene.specs.declared.element.Element.{Element}
 use Rattle.wf_words.specs.Options.{◌>>=◌}
 use Rattle.wf_scene.specs.Values.{component, coordinate_of, extent_of, rect_of, flag_of, turn_of, filter_of, transparency_of, channel_of}
 use Rattle.wf_pixel.specs.Choice.{is_coordinate}
-use Rattle.wf_scene.specs.Elements.{change_of, with_dest, with_src, with_flip, with_turn, with_filter, with_transparency, with_alpha,
-    with_source, with_mask}
+use Rattle.wf_scene.specs.Elements.{change_of, with_dest, with_src, with_flip, with_turn, with_filter, with_transparency, with_alpha}
+use Rattle.wf_scene.specs.Elements.{with_source, with_mask}
 use Rattle.wf_scene.specs.Cached.{is_placed}
 
 -- a change that keeps the handle
@@ -55,7 +55,7 @@ rect_in_range v r is =
   where
     go : (a b : Option ℤ) (c d : Option ℕ) → coordinate_of (component v 0) ≡ a → coordinate_of (component v 1) ≡ b
         → (a >>= (λ x. b >>= (λ y. c >>= (λ w. d >>= (λ h. Some (record { x = x; y = y; w = w; h = h })))))) ≡ Some r
-            → (is_coordinate r.x && is_coordinate r.y) ≡ true
+        → (is_coordinate r.x && is_coordinate r.y) ≡ true
     go (Some x) (Some y) (Some w) (Some h) ex ey made =
         let same : ◌≡◌ {A = Rect} (record { x = x; y = y; w = w; h = h }) r = cc in
         let both = and_from (is_coordinate x) (is_coordinate y) (in_range (component v 0) x ex) (in_range (component v 1) y ey) in

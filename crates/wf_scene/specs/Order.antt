@@ -1,7 +1,7 @@
 -- The order of the inserted elements: a list of handles from the bottom up. The number 0 is no handle; it stands for the
 -- bottom.
-use Rattle.std.specs.Prelude.{◌≡◌, ℕ, ◌+◌, Bool, false, not, ◌&&◌, ◌||◌, ◌==◌, nat_le, List, [], ◌∷◌, filter, flat_map, length,
-    slice_index, position, Option, option_map, if◌then◌else◌}
+use Rattle.std.specs.Prelude.{◌≡◌, ℕ, ◌+◌, Bool, false, not, ◌&&◌, ◌||◌, ◌==◌, nat_le, List, [], ◌∷◌, filter, flat_map, length, slice_index}
+use Rattle.std.specs.Prelude.{position, Option, option_map, if◌then◌else◌}
 use Rattle.wf_words.specs.Keyed.{is_in}
 
 -- no number stands twice

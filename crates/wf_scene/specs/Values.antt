@@ -1,6 +1,6 @@
 -- What the numbers of a call stand for, and the numbers in which an attribute is answered.
-use Rattle.std.specs.Prelude.{ℕ, ◌+◌, ◌-◌, ◌*◌, ◌^◌, Bool, true, false, ◌==◌, ℤ, pos, negsuc, List, [], ◌∷◌, find, slice_get,
-    slice_index_or, Option, Some, None, if◌then◌else◌}
+use Rattle.std.specs.Prelude.{ℕ, ◌+◌, ◌-◌, ◌*◌, ◌^◌, Bool, true, false, ◌==◌, ℤ, pos, negsuc, List, [], ◌∷◌, find, slice_get}
+use Rattle.std.specs.Prelude.{slice_index_or, Option, Some, None, if◌then◌else◌}
 use Rattle.wf_words.specs.Options.{◌>>=◌}
 use Rattle.wf_words.specs.Whole.{count_of}
 use Rattle.wf_pixel.specs.Choice.{is_between, is_coordinate, most_extent}

@@ -1,6 +1,6 @@
 -- Texts that are cut into lines and words.
-use Rattle.std.proofs.Common.{◌≡◌, ◌≢◌, ◌∙◌, ℕ, ◌+◌, ◌<◌, ◌==◌, ◌⊎◌, inl, inr, Bool, not, Option, Some, None, MatchOption, Bor, List, [],
-    ◌∷◌, ◌++◌, length, take, filter, position, unwrap_or, refl, sym, ap, arith, append-nil}
+use Rattle.std.proofs.Common.{◌≡◌, ◌≢◌, ◌∙◌, ℕ, ◌+◌, ◌<◌, ◌==◌, ◌⊎◌, inl, inr, Bool, not, Option, Some, None, MatchOption, Bor, List, []}
+use Rattle.std.proofs.Common.{◌∷◌, ◌++◌, length, take, filter, position, unwrap_or, refl, sym, ap, arith, append-nil}
 use Rattle.std.proofs.lemmas.Bool.{cases_lt, cases_Bool, lt-ltb, le-ltb, eqb-true}
 use Rattle.std.proofs.lemmas.List.{drop_all, take_all}
 use Rattle.std.proofs.lemmas.List.Splits.{slice_split_first, slice_split_none}
@@ -27,8 +27,11 @@ module _ (p : ℕ → Bool) where
     | inl here ↦ inr (slice_split_first p xs 0 here)
     | inr none ↦
         let all : take (position_or_len p xs) xs ≡ xs = take_all (position_or_len p xs) xs none in
-        inl (slice_split_none p xs (λ k d h. fails_before_first p xs k d (omega arith)) ∙ ap (λ (ys : List ℕ). ys ∷ []) (sym all),
-            drop_all (position_or_len p xs + 1) xs (omega arith), all)
+        inl (
+          slice_split_none p xs (λ k d h. fails_before_first p xs k d (omega arith)) ∙ ap (λ (ys : List ℕ). ys ∷ []) (sym all),
+          drop_all (position_or_len p xs + 1) xs (omega arith),
+          all,
+        )
   ]
 
   -- there is a piece
@@ -50,7 +53,7 @@ first_line (x ∷ xs) some =
       | inl last ↦
           let end : without_empty_end (before_first p text ∷ []) ≡ before_first p text ∷ [] = rw last.2 refl in
           ap without_empty_end last.0 ∙ end ∙ ap (λ (behind : List ℕ). before_first p text ∷ without_empty_end (slice_split p behind))
-              (sym last.1)
+          (sym last.1)
       | inr more ↦
           let piece = some_piece p (after_first p text) in
           ap without_empty_end (more ∙ ap (λ (ys : List (List ℕ)). before_first p text ∷ ys) piece.2)

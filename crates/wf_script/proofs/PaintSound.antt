@@ -1,6 +1,6 @@
 -- Paints that are read have numbers in their ranges.
-use Rattle.std.proofs.Common.{◌≡◌, ◌∙◌, ℕ, ◌*◌, ◌≤◌, true, nat_lt, nat_le, ℤ, pos, negsuc, List, [], ◌∷◌, length, Option, Some, None,
-    Result, Ok, refl, sym, ap, subst, arith}
+use Rattle.std.proofs.Common.{◌≡◌, ◌∙◌, ℕ, ◌*◌, ◌≤◌, true, nat_lt, nat_le, ℤ, pos, negsuc, List, [], ◌∷◌, length, Option, Some, None}
+use Rattle.std.proofs.Common.{Result, Ok, refl, sym, ap, subst, arith}
 use Rattle.std.specs.Prelude.{int_le}
 use Rattle.std.specs.List.{list_all}
 use Rattle.std.specs.Option.{option_map}
@@ -17,12 +17,12 @@ use Rattle.wf_script.specs.declared.paint_form.PaintForm.{PaintForm}
 use Rattle.wf_script.specs.declared.paint_form.PaintForm.TheVariants as paint_form
 use Rattle.wf_script.specs.declared.rule.Rule.{Rule}
 use Rattle.wf_script.specs.declared.rule.Rule.TheVariants as rule
-use Rattle.wf_script.specs.PaintWords.{checker, color, paint_count, paint_forms, fill, hex_pixel, hex_pixels, paint_of, painted, ramp,
-    rectangle, row, row_number}
+use Rattle.wf_script.specs.PaintWords.{checker, color, paint_count, paint_forms, fill, hex_pixel, hex_pixels, paint_of, painted, ramp}
+use Rattle.wf_script.specs.PaintWords.{rectangle, row, row_number}
 use Rattle.wf_script.specs.Pick.{counted, first, first_as}
 use Rattle.wf_script.specs.Words.{Word, is_word, count_in, integer_in, look_up}
-use Rattle.wf_script.proofs.Steps.{AreWords, all_four, all_three, at_most, bind_ok, count_within, first_kind, first_long, first_parts,
-    integer_within, passed}
+use Rattle.wf_script.proofs.Steps.{AreWords, all_four, all_three, at_most, bind_ok, count_within, first_kind, first_long, first_parts}
+use Rattle.wf_script.proofs.Steps.{integer_within, passed}
 
 -- paints in their ranges
 
@@ -66,7 +66,7 @@ checker_sound ws p hp =
     let fn = first_kind side ws n.0 n.1 in
     let within = count_within 1 1024 fn.0 n.0.0 fn.1 in
     paint_is (paint.Checker n.0.0 a.0.0 b.0.0) p (and_from (nat_le 1 n.0.0) (nat_le n.0.0 1024) (at_most 1 n.0.0 within.0)
-        (at_most n.0.0 1024 within.1)) b.2
+    (at_most n.0.0 1024 within.1)) b.2
 
 ramp_sound : (ws : List Word) (p : Paint) → ramp ws ≡ Ok p → is_paint p ≡ true
 unfolding ramp
@@ -114,7 +114,7 @@ row_sound (v ∷ ws) p words h =
     let few = bind_ok (refuse_if rule.Word (nat_lt 8192 (length hex.0.0))) _ p hex.2 in
     let pixels = bind_ok (hex_pixels hex.0.0) _ p few.2 in
     let low : 1 ≤ length hex.0.0 = first_long ws hex.0 (and_parts (is_word v) (list_all is_word ws) words).1 (ap first (sym parts.1)
-        ∙ hex.1) in
+    ∙ hex.1) in
     let count = pixels_count hex.0.0 pixels.0 pixels.1 in
     let short : length hex.0.0 ≤ 8192 = grind (arith, nat_tests, passed rule.Word (nat_lt 8192 (length hex.0.0)) few.0 few.1) in
     let some : 1 ≤ length pixels.0 = omega arith in
@@ -140,4 +140,4 @@ paint_sound (w ∷ ws) p words h =
     let parts = first_parts (look_up paint_forms) w ws f.0 f.1 in
     let all = bind_ok (counted (paint_count f.0.0) f.0.1) _ p f.2 in
     painted_sound f.0.0 f.0.1 p (subst (λ (us : List Word). AreWords us) (sym parts.1)
-        (and_parts (is_word w) (list_all is_word ws) words).1) all.2
+    (and_parts (is_word w) (list_all is_word ws) words).1) all.2

@@ -7,8 +7,8 @@ use Rattle.wf_script.specs.Canonical.{canonical}
 use Rattle.wf_script.specs.Attributes.{context_get_words, context_set_words, four_numbers, get_words, handle_value, one_number, set_words}
 use Rattle.wf_script.specs.Composition.{no_words, one_handle, screen_words, three_handles, two_handles}
 use Rattle.wf_script.specs.Streams.{frame_words, paint_words, stat_words_of, stream_words}
-use Rattle.wf_script.specs.Grammar.{end_line, event_line, line_of, parts_of, pipes_line, port_line, read_line, read_lines, read_script,
-    sizes}
+use Rattle.wf_script.specs.Grammar.{end_line, event_line, line_of, parts_of, pipes_line, port_line, read_line, read_lines, read_script}
+use Rattle.wf_script.specs.Grammar.{sizes}
 use Rattle.wf_script.specs.PaintWords.{checker, color, hex_byte, hex_pixel, hex_pixels, paint_of, rectangle, row, row_number}
 use Rattle.wf_script.specs.Script.{PlainScript}
 use Rattle.wf_script.specs.Words.{count_in, digits_of, handle_of, integer_in, integer_of, lines_of, name_of, size_of, words_in}
@@ -77,7 +77,7 @@ abbrev pub composed : List ℕ
 composed =
     text
     (codes "WFS1" ∷ codes "port 4x2" ∷ codes "0 d = device" ∷ codes "0 c = screen d 1" ∷ codes "0 e = element d c"
-        ∷ codes "0 s = stream 1 1 rgba 2"
+    ∷ codes "0 s = stream 1 1 rgba 2"
     ∷ codes "0 x = source d c s" ∷ codes "0 m = mask d c s" ∷ codes "0 set d e dest -1 2 3 4" ∷ codes "0 set d e source x"
     ∷ codes "0 set d e mask none" ∷ codes "0 set d e filter better" ∷ codes "0 set d e transparency alpha+mask" ∷ codes "0 set d e alpha 9"
     ∷ codes "0 get d e srcrect 3" ∷ codes "0 insert d e none" ∷ codes "0 remove d e" ∷ codes "0 above d e" ∷ codes "0 below d e"

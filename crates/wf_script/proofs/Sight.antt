@@ -1,6 +1,6 @@
 -- One more line: who sees which name behind it.
-use Rattle.std.proofs.Common.{◌≡◌, ◌∙◌, ℕ, ◌==◌, Bool, true, false, ◌&&◌, ◌||◌, List, [], ◌∷◌, ◌++◌, ◌<◌, Option, Some, cond,
-    slice_index_or, refl, sym, ap, arith}
+use Rattle.std.proofs.Common.{◌≡◌, ◌∙◌, ℕ, ◌==◌, Bool, true, false, ◌&&◌, ◌||◌, List, [], ◌∷◌, ◌++◌, ◌<◌, Option, Some, cond}
+use Rattle.std.proofs.Common.{slice_index_or, refl, sym, ap, arith}
 use Rattle.std.proofs.lemmas.List.Folds.{list_all-append, list_any-append}
 use Rattle.wf_script.specs.declared.line.Line.{Line}
 use Rattle.wf_script.specs.declared.name.Name.{Name}
@@ -33,9 +33,9 @@ visible_more : (lines : List Line) (l : Line) (client : ℕ) (name : Name)
 visible_more lines l client name =
     ap (λ setup. setup || list_any (binds_for client name) (lines ++ l ∷ [])) (setup_more name lines l)
     ∙ ap (λ own. (setup_binds name lines || (is_setup lines && ((l.client == 0) && is_name_in name l.name))) || own)
-        (list_any-append (binds_for client name) lines (l ∷ []))
+    (list_any-append (binds_for client name) lines (l ∷ []))
     ∙ regroup (setup_binds name lines) (is_setup lines) (l.client == 0) (is_name_in name l.name) (list_any (binds_for client name) lines)
-        (l.client == client)
+    (l.client == client)
 
 and_alone : (s z : Bool) → (s && (z && true)) ≡ (s && z)
 and_alone s z = grind arith
@@ -44,7 +44,7 @@ and_alone s z = grind arith
 pub sees_more : (seen left : declared.Seen) (lines : List Line) (l : Line) →
     left.in_setup ≡ (seen.in_setup && (l.client == 0)) →
     ((client : ℕ) (name : Name) → client < 8 → sees left client name
-        ≡ (sees seen client name || (is_name_in name l.name && (left.in_setup || (l.client == client))))) →
+    ≡ (sees seen client name || (is_name_in name l.name && (left.in_setup || (l.client == client))))) →
     SeesAll seen lines → SeesAll left (lines ++ l ∷ [])
 sees_more seen left lines l setup more right =
     let still : left.in_setup ≡ (is_setup lines && (l.client == 0)) = setup ∙ ap (λ s. s && (l.client == 0)) right.setup in

@@ -1,6 +1,7 @@
 -- What is read keeps the ranges: ports that may be declared, clients and paints in their ranges.
-use Rattle.std.proofs.Common.{◌≡◌, ◌∙◌, ℕ, ◌+◌, ◌-◌, ◌<◌, ◌≤◌, Bool, true, false, not, ◌&&◌, ◌||◌, ◌==◌, nat_lt, nat_le, List, [], ◌∷◌,
-    ◌++◌, length, codes, Option, Some, None, Result, Ok, Err, IsTrue, refl, length-append, sym, ap, subst, unwrap_or, arith}
+use Rattle.std.proofs.Common.{◌≡◌, ◌∙◌, ℕ, ◌+◌, ◌-◌, ◌<◌, ◌≤◌, Bool, true, false, not, ◌&&◌, ◌||◌, ◌==◌, nat_lt, nat_le, List, [], ◌∷◌}
+use Rattle.std.proofs.Common.{◌++◌, length, codes, Option, Some, None, Result, Ok, Err, IsTrue, refl, length-append, sym, ap, subst}
+use Rattle.std.proofs.Common.{unwrap_or, arith}
 use Rattle.std.specs.Prelude.{if◌then◌else◌, is_some}
 use Rattle.std.specs.List.{list_all, before_first, after_first}
 use Rattle.std.specs.Str.{bytes_eq, byte}
@@ -17,9 +18,9 @@ use Rattle.wf_script.specs.declared.line.Line.{Line}
 use Rattle.wf_script.specs.declared.rule.Rule.{Rule}
 use Rattle.wf_script.specs.declared.rule.Rule.TheVariants as rule
 use Rattle.wf_script.specs.Forms.{arguments, forms}
-use Rattle.wf_script.specs.Grammar.{Reading, Parts, alone, at_line, bound_name, has_its_name, is_its_client, is_taken, line_words,
-    parts_of, has_lines, has_ports, is_mode_count, end_line, event_line, line_of, no_event_here, no_pipes_here, no_port_here, nothing_read,
-    pipes_line, port_line, read_line, read_lines, script_of, sizes}
+use Rattle.wf_script.specs.Grammar.{Reading, Parts, alone, at_line, bound_name, has_its_name, is_its_client, is_taken, line_words, parts_of}
+use Rattle.wf_script.specs.Grammar.{has_lines, has_ports, is_mode_count, end_line, event_line, line_of, no_event_here, no_pipes_here}
+use Rattle.wf_script.specs.Grammar.{no_port_here, nothing_read, pipes_line, port_line, read_line, read_lines, script_of, sizes}
 use Rattle.wf_script.specs.Script.{IsScript, is_line, may_paint}
 use Rattle.wf_script.specs.Visible.{is_visible}
 use Rattle.wf_script.specs.Words.{Word, is_allowed, without_comment, without_return, is_word, client_of, count_in, sides, size_of, look_up}
@@ -59,7 +60,7 @@ size_sound w s h = of_sides (count_in 1 1024 (before_first (λ b. b == byte "x")
         let is : record { w = a; h = b } ≡ s = cc in
         subst (λ (x : Size). has_sides x ≡ true) is
         (and_from (is_side a) (is_side b) (and_from (nat_le 1 a) (nat_le a 1024) (at_most 1 a first.0) (at_most a 1024 first.1))
-            (and_from (nat_le 1 b) (nat_le b 1024) (at_most 1 b second.0) (at_most b 1024 second.1)))
+        (and_from (nat_le 1 b) (nat_le b 1024) (at_most 1 b second.0) (at_most b 1024 second.1)))
 
 sizes_sound : (ws : List Word) (read : List Size) → sizes ws ≡ Ok read → (list_all has_sides read ≡ true) × (length read ≡ length ws)
 unfolding sizes
@@ -69,10 +70,12 @@ sizes_sound (w ∷ ws) read h =
     let size = bind_ok (found_or rule.Word (size_of w)) _ read h in
     let others = bind_ok (sizes ws) _ read size.2 in
     let all : size.0 ∷ others.0 ≡ read = cc in
-    let later = sizes_sound ws others.0 others.1 in
-    (subst (λ (x : List Size). list_all has_sides x ≡ true) all
-        (and_from (has_sides size.0) (list_all has_sides others.0) (size_sound w size.0 (found_ok rule.Word (size_of w) size.0 size.1))
-        later.0), omega (arith, ap length all, later.1))
+    let later = sizes_sound ws others.0 others.1 in (
+      subst (λ (x : List Size). list_all has_sides x ≡ true) all
+          (and_from (has_sides size.0) (list_all has_sides others.0) (size_sound w size.0 (found_ok rule.Word (size_of w) size.0 size.1))
+          later.0),
+      omega (arith, ap length all, later.1),
+    )
 
 all_more : {A : Type 0} (p : A → Bool) (xs : List A) (x : A) → list_all p xs ≡ true → p x ≡ true → list_all p (xs ++ x ∷ []) ≡ true
 all_more p xs x all one =
@@ -85,9 +88,9 @@ port_sound r left ws sound h =
     let count = bind_ok (refuse_if rule.Count (not (is_mode_count (length ws)))) _ left here.2 in
     let modes = bind_ok (sizes ws) _ left count.2 in
     let free = none_of_four r.ended (is_some r.pipes) (has_lines r) (not (nat_lt (length r.modes) 4))
-        (passed rule.Place (no_port_here r) here.0 here.1) in
+    (passed rule.Place (no_port_here r) here.0 here.1) in
     let counted = and_parts (nat_le 1 (length ws)) (nat_le (length ws) 4)
-        (not_false (is_mode_count (length ws)) (passed rule.Count (not (is_mode_count (length ws))) count.0 count.1)) in
+    (not_false (is_mode_count (length ws)) (passed rule.Count (not (is_mode_count (length ws))) count.0 count.1)) in
     let read = sizes_sound ws modes.0 modes.1 in
     let new : Modes = record { sizes = record { items = modes.0 } } in
     let low : 1 ≤ length modes.0 = omega (arith, leb-true 1 (length ws) counted.0, read.1) in
@@ -97,7 +100,7 @@ port_sound r left ws sound h =
       sound = record {
         modes = all_more may_have r.modes new sound.modes
             (all_three (nat_le 1 (length modes.0)) (nat_le (length modes.0) 4) (list_all has_sides modes.0) (at_most 1 (length modes.0) low)
-                (at_most (length modes.0) 4 high) read.0);
+            (at_most (length modes.0) 4 high) read.0);
         few = omega (arith, room, length-append r.modes (new ∷ []));
         pipes = sound.pipes;
         lines = sound.lines;
@@ -200,7 +203,7 @@ client_small [] n h = absurd cc
 client_small (b ∷ c ∷ bs) n h = absurd cc
 client_small (b ∷ []) n h =
     elim (nat_le (byte "0") b && nat_le b (byte "7")) as (λ t. (nat_le (byte "0") b && nat_le b (byte "7")) ≡ t
-        → (if t then Some (b - byte "0") else None) ≡ Some n → n < 8) [
+    → (if t then Some (b - byte "0") else None) ≡ Some n → n < 8) [
       | true ↦ λ yes same. (let within = and_parts (nat_le (byte "0") b) (nat_le b (byte "7")) yes in
           let high = leb-true b (byte "7") within.1 in let is : b - byte "0" ≡ n = cc in omega arith)
       | false ↦ λ no same. absurd cc
@@ -214,14 +217,14 @@ words_sound r left (w ∷ ws) words sound h =
     let event = λ (e : (found_or rule.Client (client_of w) >>= (λ client. event_line r client ws)) ≡ Ok left). (
     let client = bind_ok (found_or rule.Client (client_of w)) _ left e in
     event_sound r left client.0 ws (client_small w client.0 (found_ok rule.Client (client_of w) client.0 client.1)) behind sound
-        client.2) in
+    client.2) in
     by_word (bytes_eq w (codes "port")) (bytes_eq w (codes "pipes")) (bytes_eq w (codes "end")) event behind h
   where
     by_word : (port pipes end : Bool) → ((found_or rule.Client (client_of w) >>= (λ client. event_line r client ws)) ≡ Ok left
         → GoesOn r left) → AreWords ws
         → (if port then port_line r ws else (if pipes then pipes_line r ws else
-            (if end then end_line r ws else (found_or rule.Client (client_of w) >>= (λ client. event_line r client ws))))) ≡ Ok left
-            → GoesOn r left
+        (if end then end_line r ws else (found_or rule.Client (client_of w) >>= (λ client. event_line r client ws))))) ≡ Ok left
+        → GoesOn r left
     by_word true pipes end event are e = port_sound r left ws sound e
     by_word false true end event are e = pipes_sound r left ws sound e
     by_word false false true event are e = end_sound r left ws sound e
@@ -243,7 +246,7 @@ lines_sound : (n : ℕ) (r left : Reading) (ls : List (List ℕ)) → IsSoundSoF
 unfolding read_lines
 lines_sound n r left [] sound few most h =
     elim r.ended as (λ b. r.ended ≡ b → (if b then Ok r else Err (fault.NoEnd n)) ≡ Ok left → IsSoundSoFar left × (left.ended ≡ true)
-        × (length left.lines ≤ 16383)) [
+    × (length left.lines ≤ 16383)) [
       | true ↦ λ ended same. (let is : r ≡ left = cc in subst (λ (x : Reading). IsSoundSoFar x × (x.ended ≡ true)
           × (length x.lines ≤ 16383)) is (sound, ended, omega arith))
       | false ↦ λ no same. absurd cc
@@ -265,7 +268,7 @@ script_sound r ls h =
     record {
       ports = all_four (nat_le 1 (length r.modes)) (nat_le (length r.modes) 4) (list_all may_have r.modes) (nat_le (unwrap_or r.pipes 0) 8)
           (at_most 1 (length r.modes) (all.0.ended all.1)) (at_most (length r.modes) 4 all.0.few) all.0.modes
-              (at_most (unwrap_or r.pipes 0) 8 all.0.pipes);
+          (at_most (unwrap_or r.pipes 0) 8 all.0.pipes);
       lines = all.0.lines;
       few = omega (arith, all.2);
     }

@@ -1,6 +1,6 @@
 -- Steps of reading that were all taken, and what their words were then.
-use Rattle.std.proofs.Common.{◌≡◌, ◌∙◌, ℕ, ◌≤◌, Bool, true, false, not, ◌&&◌, nat_le, ℤ, List, [], ◌∷◌, length, Option, Some, None, Result,
-    Ok, Err, IsTrue, refl, sym, ap, subst, arith}
+use Rattle.std.proofs.Common.{◌≡◌, ◌∙◌, ℕ, ◌≤◌, Bool, true, false, not, ◌&&◌, nat_le, ℤ, List, [], ◌∷◌, length, Option, Some, None, Result}
+use Rattle.std.proofs.Common.{Ok, Err, IsTrue, refl, sym, ap, subst, arith}
 use Rattle.std.specs.Prelude.{if◌then◌else◌, filter}
 use Rattle.std.specs.List.{list_all, slice_split}
 use Rattle.std.specs.Option.{option_and_then}
@@ -62,7 +62,7 @@ integer_within low high w z h = of_integer (integer_of w) h
     of_integer None h = absurd cc
     of_integer (Some y) h =
         elim (is_between low high y) as (λ b. is_between low high y ≡ b → (if b then Some y else None) ≡ Some z
-            → is_between low high z ≡ true) [
+        → is_between low high z ≡ true) [
           | true ↦ λ yes same. (let is : y ≡ z = cc in subst (λ (x : ℤ). is_between low high x ≡ true) is yes)
           | false ↦ λ no same. absurd cc
         ] refl h

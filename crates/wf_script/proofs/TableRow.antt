@@ -12,8 +12,8 @@ pub look_up_in_rows : {A : Type 0} (rows : List (Bor (List ℕ) × A)) (w : Word
 look_up_in_rows [] w = refl
 look_up_in_rows (row ∷ rows) w =
     elim (bytes_eq w row.0.now) as (λ b. option_map (λ r. r.1)
-        (cond b (Some (row.0.now, row.1)) (find (λ r. bytes_eq w r.0) (rows_of rows)))
-        ≡ option_map (λ r. r.1) (cond b (Some row) (find (λ r. bytes_eq w r.0.now) rows))) [
+    (cond b (Some (row.0.now, row.1)) (find (λ r. bytes_eq w r.0) (rows_of rows)))
+    ≡ option_map (λ r. r.1) (cond b (Some row) (find (λ r. bytes_eq w r.0.now) rows))) [
       | true ↦ refl
       | false ↦ look_up_in_rows rows w
     ]

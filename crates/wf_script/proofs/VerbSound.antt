@@ -21,8 +21,8 @@ use Rattle.wf_script.specs.declared.verbs.ThreeHandles.TheVariants as three
 use Rattle.wf_script.specs.declared.verbs.Destroyed.{Destroyed}
 use Rattle.wf_script.specs.declared.verbs.Destroyed.TheVariants as destroyed
 use Rattle.wf_script.specs.Given.{Given, names_among}
-use Rattle.wf_script.specs.Attributes.{handle_in, context_count, context_get_words, context_set_words, context_value, element_count,
-    element_value, get_words, set_words}
+use Rattle.wf_script.specs.Attributes.{handle_in, context_count, context_get_words, context_set_words, context_value, element_count}
+use Rattle.wf_script.specs.Attributes.{element_value, get_words, set_words}
 use Rattle.wf_script.specs.Composition.{no_words, one_handle, screen_words, three_handles, two_handles}
 use Rattle.wf_script.specs.Streams.{frame_words, paint_words, stat_words_of, stream_words}
 use Rattle.wf_script.specs.Verbs.{destroys, of_none, of_one, of_three, of_two}
@@ -56,7 +56,7 @@ unfolding stream_words
 stream_sound ws =
     behind (counted 4 ws) _ (λ all _. behind (first_as integer_of ws) _ (λ w _. behind (first_as integer_of w.1) _ (λ i _.
     behind (first_as (look_up formats) i.1) _ (λ f _. behind (first_as integer_of f.1) _
-        (λ b _. reads (verb.StreamNew w.0 i.0 f.0 b.0) [] refl)))))
+    (λ b _. reads (verb.StreamNew w.0 i.0 f.0 b.0) [] refl)))))
 
 stat_sound : (ws : List Word) → Paints (stat_words_of ws)
 unfolding stat_words_of
@@ -116,7 +116,7 @@ one_sound : (v : OneHandle) (ws : List Word) → Paints (one_handle (of_one v) w
 unfolding one_handle
 one_sound v ws =
     behind (counted 1 ws) _ (λ all _. behind (first_as handle_of ws) _
-        (λ a _. reads (of_one v a.0) (names_among (a.0 ∷ [])) (of_one_sound v a.0)))
+    (λ a _. reads (of_one v a.0) (names_among (a.0 ∷ [])) (of_one_sound v a.0)))
 
 two_sound : (v : TwoHandles) (ws : List Word) → Paints (two_handles (of_two v) ws)
 unfolding two_handles
@@ -129,7 +129,7 @@ unfolding three_handles
 three_sound v ws =
     behind (counted 3 ws) _ (λ all _. behind (first_as handle_of ws) _ (λ a _. behind (first_as handle_of a.1) _ (λ b _.
     behind (first_as handle_of b.1) _ (λ c _. reads (of_three v a.0 b.0 c.0) (names_among (a.0 ∷ b.0 ∷ c.0 ∷ []))
-        (of_three_sound v a.0 b.0 c.0)))))
+    (of_three_sound v a.0 b.0 c.0)))))
 
 screen_sound : (ws : List Word) → Paints (screen_words ws)
 unfolding screen_words

@@ -1,7 +1,7 @@
 -- The canonical text of a script: the one way to write it with words apart by one space, numbers without leading zeros,
 -- no comment, no blank line, and a line feed at the end of each line.
-use Rattle.std.specs.Prelude.{ℕ, ◌+◌, ◌/◌, ◌%◌, ◌==◌, ◌&&◌, int_le, ℤ, pos, negsuc, List, [], ◌∷◌, ◌++◌, map, flat_map, take, find, codes,
-    decimal, slice_index, slice_index_or, unwrap_or, option_map, Option, Some, None, if◌then◌else◌}
+use Rattle.std.specs.Prelude.{ℕ, ◌+◌, ◌/◌, ◌%◌, ◌==◌, ◌&&◌, int_le, ℤ, pos, negsuc, List, [], ◌∷◌, ◌++◌, map, flat_map, take, find, codes}
+use Rattle.std.specs.Prelude.{decimal, slice_index, slice_index_or, unwrap_or, option_map, Option, Some, None, if◌then◌else◌}
 use Rattle.std.specs.List.{join_by}
 use Rattle.wf_pixel.specs.declared.Size.{Size}
 use Rattle.wf_pixel.specs.declared.Rgba.{Rgba}

@@ -1,6 +1,6 @@
 -- The grammar of scripts: the script that bytes stand for, or the first line that breaks a rule.
-use Rattle.std.specs.Prelude.{◌≡◌, ℕ, ◌+◌, Bool, true, false, not, ◌&&◌, ◌||◌, ◌==◌, nat_lt, nat_le, List, [], ◌∷◌, ◌++◌, length, codes,
-    Option, Some, None, is_some, unwrap_or, Result, Ok, Err, if◌then◌else◌}
+use Rattle.std.specs.Prelude.{◌≡◌, ℕ, ◌+◌, Bool, true, false, not, ◌&&◌, ◌||◌, ◌==◌, nat_lt, nat_le, List, [], ◌∷◌, ◌++◌, length, codes}
+use Rattle.std.specs.Prelude.{Option, Some, None, is_some, unwrap_or, Result, Ok, Err, if◌then◌else◌}
 use Rattle.std.specs.List.{list_all}
 use Rattle.std.specs.Str.{bytes_eq}
 use Rattle.wf_words.specs.Refusals.{◌>>=◌, refuse_if, found_or}
@@ -19,8 +19,8 @@ use Rattle.wf_script.specs.Forms.{arguments, creates, forms}
 use Rattle.wf_script.specs.Rules.{rule_number}
 use Rattle.wf_script.specs.Script.{PlainScript}
 use Rattle.wf_script.specs.Visible.{is_visible}
-use Rattle.wf_script.specs.Words.{Word, client_of, count_in, is_allowed, lines_of, look_up, name_of, size_of, without_comment,
-    without_return, words_in}
+use Rattle.wf_script.specs.Words.{Word, client_of, count_in, is_allowed, lines_of, look_up, name_of, size_of, without_comment}
+use Rattle.wf_script.specs.Words.{without_return, words_in}
 
 -- what was read so far: the ports' modes, the number of pipelines where it was declared, the event lines, and whether
 -- the end stood

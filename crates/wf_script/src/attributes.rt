@@ -1,8 +1,8 @@
 //! The words behind the verbs that set and get attributes.
 
 ghost use Rattle.std.specs.Prelude.{◌≡◌, [], ◌∷◌, pos};
-ghost use Rattle.wf_script.specs.Attributes.{context_count, context_get_words, context_set_words, context_value, element_count,
-    element_value, four_numbers, get_words, handle_value, one_number, set_words};
+ghost use Rattle.wf_script.specs.Attributes.{context_count, context_get_words, context_set_words, context_value, element_count};
+ghost use Rattle.wf_script.specs.Attributes.{element_value, four_numbers, get_words, handle_value, one_number, set_words};
 ghost use Rattle.wf_script.specs.Given.{given};
 ghost use Rattle.wf_script.specs.Rules.{Finds};
 ghost use Rattle.wf_script.specs.Taken.{TakesValue};

@@ -20,8 +20,7 @@ fn is_digit(byte: u8) -> bool
 }
 
 /// The number that 1 to 10 digits stand for.
-#[tactic(auto, using(std::proofs::lemmas::Bool::Decides::nat_tests, std::proofs::lemmas::List::Folds::list_all_at),
-    unfolding(crate::specs::Words::digits_of))]
+#[tactic(auto, using(std::proofs::lemmas::Bool::Decides::nat_tests, std::proofs::lemmas::List::Folds::list_all_at), unfolding(crate::specs::Words::digits_of))]
 fn digits_of(word: &[u8]) -> Option<u64>
     ensures { result ≡ digits_of word.now }
 {

@@ -5,8 +5,8 @@ ghost use Rattle.wf_script.specs.Pick.{counted, first, first_as};
 ghost use Rattle.wf_script.specs.Rules.{FirstWord, Reads};
 ghost use Rattle.wf_script.specs.Table.{rows_of};
 ghost use Rattle.wf_script.specs.Taken.{TakesHandle};
-ghost use Rattle.wf_script.specs.Words.{context_attrs, count_in, element_attrs, filters, formats, handle_of, integer_of, look_up,
-    stat_words, transparencies, words_in};
+ghost use Rattle.wf_script.specs.Words.{context_attrs, count_in, element_attrs, filters, formats, handle_of, integer_of, look_up};
+ghost use Rattle.wf_script.specs.Words.{stat_words, transparencies, words_in};
 
 use crate::names::{Handle, handle_of};
 use crate::numbers::{count_in, integer_of};

@@ -2,8 +2,8 @@
 
 ghost use Rattle.std.specs.Prelude.{◌≡◌, ◌↔◌, ◌<◌, ◌≤◌, ◌==◌, not, [], ◌∷◌, ◌++◌, length, IsTrue, IfOk, OnOk, option_map};
 ghost use Rattle.wf_words.specs.Refusals.{left_by};
-ghost use Rattle.wf_script.specs.Grammar.{end_line, event_line, line_of, no_event_here, no_pipes_here, no_port_here, nothing_read,
-    pipes_line, port_line, read_line, script_of, sizes};
+ghost use Rattle.wf_script.specs.Grammar.{end_line, event_line, line_of, no_event_here, no_pipes_here, no_port_here, nothing_read};
+ghost use Rattle.wf_script.specs.Grammar.{pipes_line, port_line, read_line, script_of, sizes};
 ghost use Rattle.wf_script.specs.Reader.{SizesAre, alone_is, reading};
 ghost use Rattle.wf_script.specs.Rules.{Gives};
 ghost use Rattle.wf_script.specs.Script.{IsScript};

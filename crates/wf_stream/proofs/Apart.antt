@@ -1,6 +1,6 @@
 -- A live handle is that of a stream or that of another object, never of both.
-use Rattle.std.proofs.Common.{◌≡◌, ℕ, Bool, true, false, cond, not, List, [], ◌∷◌, map, filter, option_map, None, Some, IsSome, is_some,
-    IsTrue, refl, ap, ◌∙◌, arith}
+use Rattle.std.proofs.Common.{◌≡◌, ℕ, Bool, true, false, cond, not, List, [], ◌∷◌, map, filter, option_map, None, Some, IsSome, is_some}
+use Rattle.std.proofs.Common.{IsTrue, refl, ap, ◌∙◌, arith}
 use Rattle.std.proofs.lemmas.Bool.Decides.{nat_tests}
 use Rattle.wf_life.specs.Handles.{Live, IsRising, is_live, without}
 use Rattle.wf_stream.specs.Streams.{KeptStream, stream_of, number_of, unnamed}
@@ -15,9 +15,9 @@ live_once low high h p (l ∷ live) rising is =
     let later = live_once l.handle high h p live rising.1 in
     let above = live_above l.handle high h (filter p live) (rising_filter l.handle high p live rising.1) in
     let above_other = live_above l.handle high h (filter (λ x. not (p x)) live)
-        (rising_filter l.handle high (λ x. not (p x)) live rising.1) in
+    (rising_filter l.handle high (λ x. not (p x)) live rising.1) in
     elim (p l) as (λ b. is_live h (cond b (l ∷ filter p live) (filter p live)) ≡ true
-        → is_live h (cond (not b) (l ∷ filter (λ x. not (p x)) live) (filter (λ x. not (p x)) live)) ≡ false) [
+    → is_live h (cond (not b) (l ∷ filter (λ x. not (p x)) live) (filter (λ x. not (p x)) live)) ≡ false) [
       | true ↦ λ here. grind (arith, nat_tests, later, above_other)
       | false ↦ λ here. grind (arith, nat_tests, later, above)
     ] is
@@ -32,7 +32,7 @@ without_none h (l ∷ live) none =
 none_not_some : (h : ℕ) (streams : List KeptStream) → is_some (stream_of h streams) ≡ false → number_of h streams ≡ None
 none_not_some h streams none =
     elim (stream_of h streams) as (λ o. is_some o ≡ false
-        → option_map (λ (s : KeptStream). s.number) o ≡ None) [ None ↦ λ is. refl | Some s ↦ λ is. cc ] none
+    → option_map (λ (s : KeptStream). s.number) o ≡ None) [ None ↦ λ is. refl | Some s ↦ λ is. cc ] none
 
 -- no stream loses a handle that another object has
 pub other_kept : (made h : ℕ) (live : List Live) (streams : List KeptStream) → IsRising 0 live made

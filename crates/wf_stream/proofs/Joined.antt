@@ -1,6 +1,6 @@
 -- The handle table against the streams.
-use Rattle.std.proofs.Common.{◌≡◌, ℕ, ◌<◌, ◌≤◌, Bool, true, false, cond, ◌==◌, not, ◌&&◌, ◌||◌, List, [], ◌∷◌, ◌++◌, map, None, Some, refl,
-    sym, ap, subst, ◌∙◌, arith}
+use Rattle.std.proofs.Common.{◌≡◌, ℕ, ◌<◌, ◌≤◌, Bool, true, false, cond, ◌==◌, not, ◌&&◌, ◌||◌, List, [], ◌∷◌, ◌++◌, map, None, Some, refl}
+use Rattle.std.proofs.Common.{sym, ap, subst, ◌∙◌, arith}
 use Rattle.std.specs.List.{filter, count_by}
 use Rattle.std.specs.Option.{option_map, is_some}
 use Rattle.std.proofs.lemmas.Bool.Decides.{nat_tests}
@@ -11,8 +11,8 @@ use Rattle.wf_life.specs.declared.Kind.{Kind}
 use Rattle.wf_life.specs.declared.Kind.TheVariants as kind
 use Rattle.wf_life.specs.Handles.{Live, IsRising, same_kind, key_of, is_live, live_count, without}
 use Rattle.wf_stream.specs.Buffers.{Buffers}
-use Rattle.wf_stream.specs.Streams.{KeptStream, IsNumbered, is_stream, stream_of, number_of, has_handle, hand_over, under_handle, unnamed,
-    change_stream, without_number}
+use Rattle.wf_stream.specs.Streams.{KeptStream, IsNumbered, is_stream, stream_of, number_of, has_handle, hand_over, under_handle, unnamed}
+use Rattle.wf_stream.specs.Streams.{change_stream, without_number}
 use Rattle.wf_stream.specs.Joined.{is_of_stream, stream_handles, others_of, live_of, live_streams}
 use Rattle.wf_stream.proofs.Shelves.{change_below, numbered_room}
 
@@ -106,7 +106,7 @@ pub count_found : (k : Kind) (live : List Live) (streams : List KeptStream) → 
     → live_count k live ≡ cond (is_stream k) (count_by has_handle streams) (live_count k (others_of live))
 count_found k live streams tied =
     elim (is_stream k) as (λ b. is_stream k ≡ b → live_count k live
-        ≡ cond b (count_by has_handle streams) (live_count k (others_of live))) [
+    ≡ cond b (count_by has_handle streams) (live_count k (others_of live))) [
       | true ↦ λ is. subst (λ (x : Kind). live_count x live ≡ count_by has_handle streams) (sym (is_stream_is k is)) (count_streams live
           ∙ ap (live_count kind.Stream) tied ∙ count_entries streams)
       | false ↦ λ other. count_others k live other
@@ -142,8 +142,11 @@ pub rising_filter : (low high : ℕ) (p : Live → Bool) (live : List Live) → 
 rising_filter low high p [] rising = rising
 rising_filter low high p (l ∷ live) rising =
     let later = rising_filter l.handle high p live rising.1 in
-    elim (p l) as (λ b. IsRising low (cond b (l ∷ filter p live) (filter p live)) high) [ true ↦ (rising.0, later) | false ↦ rising_lower
-        l.handle low high (filter p live) later (omega arith) ]
+    elim (p l) as (λ b. IsRising low (cond b (l ∷ filter p live) (filter p live)) high) [
+      | true ↦ (rising.0, later)
+      | false ↦ rising_lower
+          l.handle low high (filter p live) later (omega arith)
+    ]
 
 -- a handle that lives is above the bound
 pub live_above : (low high h : ℕ) (live : List Live) → IsRising low live high → is_live h live ≡ true → low < h
@@ -162,8 +165,8 @@ first_of_streams : (low high : ℕ) (s : KeptStream) (streams : List KeptStream)
     → First low high s streams
 first_of_streams low high s streams rising =
     elim (s.handle == 0) as (λ b. (s.handle == 0) ≡ b
-        → IsRising low (map live_of (cond (not b) (s ∷ filter has_handle streams) (filter has_handle streams))) high
-        → First low high s streams) [
+    → IsRising low (map live_of (cond (not b) (s ∷ filter has_handle streams) (filter has_handle streams))) high
+    → First low high s streams) [
       | true ↦ λ is under. bare (grind (arith, nat_tests))
       | false ↦ λ is under. named under.0 under.1
     ] refl rising
@@ -172,7 +175,7 @@ pub rest_of_streams : (low high : ℕ) (s : KeptStream) (streams : List KeptStre
     → IsRising low (live_streams streams) high
 rest_of_streams low high s streams rising =
     elim (s.handle == 0) as (λ b. IsRising low (map live_of (cond (not b) (s ∷ filter has_handle streams) (filter has_handle streams))) high
-        → IsRising low (live_streams streams) high) [
+    → IsRising low (live_streams streams) high) [
       | true ↦ λ under. under
       | false ↦ λ under. rising_lower s.handle low high (live_streams streams) under.1 (omega (arith, under.0))
     ] rising
@@ -181,8 +184,11 @@ rest_of_streams low high s streams rising =
 pub handle_other : (low high h : ℕ) (s : KeptStream) (streams : List KeptStream) → IsRising low (live_streams (s ∷ streams)) high → 0 < h
     → is_live h (live_streams streams) ≡ true → (s.handle == h) ≡ false
 handle_other low high h s streams rising some live =
-    elim (first_of_streams low high s streams rising) [ bare is ↦ grind (arith, nat_tests) | named above
-        more ↦ (let up = live_above s.handle high h (live_streams streams) more live in grind (arith, nat_tests, up)) ]
+    elim (first_of_streams low high s streams rising) [
+      | bare is ↦ grind (arith, nat_tests)
+      | named above
+          more ↦ (let up = live_above s.handle high h (live_streams streams) more live in grind (arith, nat_tests, up))
+    ]
 
 -- a handle below all names nothing
 unnamed_below : (low high h : ℕ) (streams : List KeptStream) → IsRising low (live_streams streams) high → 0 < h → h ≤ low
@@ -191,8 +197,10 @@ unnamed_below low high h [] rising some under = refl
 unnamed_below low high h (s ∷ streams) rising some under =
     let later = unnamed_below low high h streams (rest_of_streams low high s streams rising) some under in
     let apart : (s.handle == h) ≡ false =
-        elim (first_of_streams low high s streams rising) [ bare is ↦ grind (arith, nat_tests) | named above more ↦ grind (arith, nat_tests)
-        ] in
+    elim (first_of_streams low high s streams rising) [
+      | bare is ↦ grind (arith, nat_tests)
+      | named above more ↦ grind (arith, nat_tests)
+    ] in
     grind (arith, nat_tests, later, apart)
 
 -- the number that is found is above the bound
@@ -226,22 +234,25 @@ pub unnamed_found : (low high bottom top h n : ℕ) (streams : List KeptStream) 
 unnamed_found low high bottom top h n [] rising under found = cc
 unnamed_found low high bottom top h n (s ∷ streams) rising under found =
     elim ((s.handle == h) && not (h == 0)) as (λ b. ((s.handle == h) && not (h == 0)) ≡ b
-        → option_map (λ (x : KeptStream). x.number) (cond b (Some s) (stream_of h streams)) ≡ Some n
-        → hand_over n 0 (s ∷ streams) ≡ map (unnamed h) (s ∷ streams)) [
+    → option_map (λ (x : KeptStream). x.number) (cond b (Some s) (stream_of h streams)) ≡ Some n
+    → hand_over n 0 (s ∷ streams) ≡ map (unnamed h) (s ∷ streams)) [
       | true ↦ λ is here. (
           let same : s.handle ≡ h = grind (arith, nat_tests) in
           let some : 0 < h = grind (arith, nat_tests) in
           let number : s.number ≡ n = cc in
           let handed : hand_over n 0 streams ≡ streams = change_below s.number high n (under_handle 0) streams rising.1 (omega arith) in
           let rest : map (unnamed h) streams ≡ streams =
-              elim (first_of_streams bottom top s streams under) [ bare zero ↦ absurd (omega arith) | named above more ↦ unnamed_below
-              s.handle top h streams more some (omega arith) ] in
+          elim (first_of_streams bottom top s streams under) [
+            | bare zero ↦ absurd (omega arith)
+            | named above more ↦ unnamed_below
+                s.handle top h streams more some (omega arith)
+          ] in
           grind (arith, nat_tests, handed, rest))
       | false ↦ λ isnt found_later. (
           let above = number_above s.number high h n streams rising.1 found_later in
           let some = found_some h n streams found_later in
           let later = unnamed_found s.number high bottom top h n streams rising.1 (rest_of_streams bottom top s streams under)
-              found_later in
+          found_later in
           grind (arith, nat_tests, above, later, some))
     ] refl found
 
@@ -281,8 +292,11 @@ numbered_unnamed low high h [] rising = rising
 numbered_unnamed low high h (s ∷ streams) rising =
     let later = numbered_unnamed s.number high h streams rising.1 in
     elim (s.handle == h) as (λ b. (low < (cond b (under_handle 0 s) s).number)
-        × IsNumbered (cond b (under_handle 0 s) s).number (map (unnamed h) streams) high) [ true ↦ (rising.0, later) | false ↦
-        (rising.0, later) ]
+    × IsNumbered (cond b (under_handle 0 s) s).number (map (unnamed h) streams) high) [
+      | true ↦ (rising.0, later)
+      | false ↦
+          (rising.0, later)
+    ]
 
 -- a loan
 
@@ -327,7 +341,7 @@ pub made_tied : (live : List Live) (streams : List KeptStream) (s : KeptStream) 
 made_tied live streams s tied some =
     let one : live_streams (s ∷ []) ≡ live_of s ∷ [] = grind (arith, nat_tests) in
     filter-append is_of_stream live (live_of s ∷ []) ∙ ap (λ (ls : List Live). ls ++ live_of s ∷ []) tied
-        ∙ ap (λ (ls : List Live). live_streams streams ++ ls) (sym one) ∙ sym (entries_push streams s)
+    ∙ ap (λ (ls : List Live). live_streams streams ++ ls) (sym one) ∙ sym (entries_push streams s)
 
 pub made_others : (live : List Live) (s : KeptStream) → others_of (live ++ live_of s ∷ []) ≡ others_of live
 made_others live s =

@@ -1,6 +1,6 @@
 -- The pool keeps the streams of the places and no others, and each has one holder.
-use Rattle.std.proofs.Common.{◌≡◌, ◌≢◌, ℕ, ◌-◌, true, false, cond, ◌==◌, [], ◌∷◌, ◌++◌, Option, None, Some, refl, sym, ap, subst, ◌∙◌,
-    arith}
+use Rattle.std.proofs.Common.{◌≡◌, ◌≢◌, ℕ, ◌-◌, true, false, cond, ◌==◌, [], ◌∷◌, ◌++◌, Option, None, Some, refl, sym, ap, subst, ◌∙◌}
+use Rattle.std.proofs.Common.{arith}
 use Rattle.std.specs.Option.{option_map, option_and_then}
 use Rattle.std.specs.Map.{lookup, remove_entry}
 use Rattle.std.proofs.lemmas.Bool.Decides.{nat_tests}
@@ -36,22 +36,32 @@ sole_push p (x ∷ es) e sole new = (sole.0, sole_push p es e sole.1 new)
 pub removed_sole : (n : ℕ) (p : Slots) (es : Places) → AreSole p es → AreSole p (remove_entry (at n) es)
 removed_sole n p [] sole = tt
 removed_sole n p (e ∷ es) sole =
-    elim (at n e.0) as (λ b. AreSole p (cond b es (e ∷ remove_entry (at n) es))) [ true ↦ sole.1 | false ↦ (sole.0,
-        removed_sole n p es sole.1) ]
+    elim (at n e.0) as (λ b. AreSole p (cond b es (e ∷ remove_entry (at n) es))) [
+      | true ↦ sole.1
+      | false ↦ (
+        sole.0,
+        removed_sole n p es sole.1,
+      )
+    ]
 
 pub found_sole : (n : ℕ) (o : Place) (p : Slots) (es : Places) → lookup (at n) es ≡ Some o → AreSole p es → count_at o.key p ≡ 1
 found_sole n o p [] found sole = cc
 found_sole n o p (e ∷ es) found sole =
     let later = λ (found_later : lookup (at n) es ≡ Some o). found_sole n o p es found_later sole.1 in
     elim (at n e.0) as (λ b. cond b (Some e.1) (lookup (at n) es) ≡ Some o
-        → count_at o.key p ≡ 1) [ true ↦ λ is. (let same : e.1 ≡ o = cc in
-        subst (λ (x : Place). count_at x.key p ≡ 1) same sole.0) | false ↦ later ] found
+    → count_at o.key p ≡ 1) [
+      | true ↦ λ is. (let same : e.1 ≡ o = cc in
+          subst (λ (x : Place). count_at x.key p ≡ 1) same sole.0)
+      | false ↦ later
+    ] found
 
 pub placed_sole : (n : ℕ) (f : Place → Place) (p : Slots) (es : Places) → KeepsKey f → AreSole p es → AreSole p (placed n f es)
 placed_sole n f p [] same sole = tt
 placed_sole n f p (e ∷ es) same sole =
     elim (at n e.0) as (λ b. AreSole p (cond b ((e.0, f e.1) ∷ es) (e ∷ placed n f es))) [
-        true ↦ (subst (λ (k : ℕ). count_at k p ≡ 1) (sym (same e.1)) sole.0, sole.1) | false ↦ (sole.0, placed_sole n f p es same sole.1) ]
+      | true ↦ (subst (λ (k : ℕ). count_at k p ≡ 1) (sym (same e.1)) sole.0, sole.1)
+      | false ↦ (sole.0, placed_sole n f p es same sole.1)
+    ]
 
 -- a loan changes no count
 held_count : (w : Buffers) (slot : Option (Kept Buffers)) → count_of (option_map (holding w) slot) ≡ count_of slot
@@ -62,7 +72,7 @@ lent_count : (key other : ℕ) (p : Slots) (w : Buffers) → IsKept key p → co
 lent_count key other p w found =
     by_key (count_at other (with_value key p w) ≡ count_at other p) other key
     (λ same. subst (λ (k : ℕ). count_at k (with_value key p w) ≡ count_at k p) (sym same) (ap count_of (lent_slot key p w found)
-        ∙ held_count w (kept_at key p)))
+    ∙ held_count w (kept_at key p)))
     (λ apart. ap count_of (set_agrees key p (option_map (holding w) (kept_at key p)) other apart))
 
 pub lent_sole : (key : ℕ) (p : Slots) (es : Places) (w : Buffers) → IsKept key p → AreSole p es → AreSole (with_value key p w) es
@@ -97,7 +107,7 @@ none_restored : (n k : ℕ) (o : Place) (es : Places) → lookup (at n) es ≡ S
 none_restored n k o [] found other none = tt
 none_restored n k o (e ∷ es) found other none =
     elim (at n e.0) as (λ b. cond b (Some e.1) (lookup (at n) es) ≡ Some o → HasNone k (cond b es (e ∷ remove_entry (at n) es))
-        → HasNone k (e ∷ es)) [
+    → HasNone k (e ∷ es)) [
       | true ↦ λ is left. (let same : o ≡ e.1 = cc in (subst (λ (x : Place). x.key ≢ k) same other, left))
       | false ↦ λ is left. (left.0, none_restored n k o es is other left.1)
     ] found none
@@ -106,7 +116,7 @@ pub other_removed : (n : ℕ) (o : Place) (p q : Slots) (es : Places) → lookup
     → AgreeBut o.key p q → KeepsNoOther p es → KeepsNoOther q (remove_entry (at n) es)
 other_removed n o p q es found free agree no_other k none =
     by_key (kept_at k q ≡ None) k o.key (λ same. ap (λ (m : ℕ). kept_at m q) same ∙ free) (λ apart. agree k apart
-        ∙ no_other k (none_restored n k o es found (λ same. apart (sym same)) none))
+    ∙ no_other k (none_restored n k o es found (λ same. apart (sym same)) none))
 
 none_unplaced : (n : ℕ) (f : Place → Place) (key : ℕ) (es : Places) → KeepsKey f → HasNone key (placed n f es) → HasNone key es
 none_unplaced n f key [] same none = tt
@@ -123,5 +133,5 @@ pub other_lent : (key : ℕ) (p : Slots) (es : Places) (w : Buffers) → IsKept 
 other_lent key p es w found no_other k none =
     by_key (kept_at k (with_value key p w) ≡ None) k key
     (λ same. (let free : kept_at key p ≡ None = ap (λ (n : ℕ). kept_at n p) (sym same) ∙ no_other k none in let no = rw free at found in
-        cc))
+    cc))
     (λ apart. set_agrees key p (option_map (holding w) (kept_at key p)) k apart ∙ no_other k none)

@@ -1,6 +1,6 @@
 -- The marks of the places, against the marked streams.
-use Rattle.std.proofs.Common.{◌≡◌, ℕ, ◌<◌, ◌≤◌, Bool, true, false, cond, ◌==◌, not, ◌||◌, List, [], ◌∷◌, ◌++◌, map, filter, find, Option,
-    option_map, None, Some, IsSome, refl, ap, ◌∙◌, arith}
+use Rattle.std.proofs.Common.{◌≡◌, ℕ, ◌<◌, ◌≤◌, Bool, true, false, cond, ◌==◌, not, ◌||◌, List, [], ◌∷◌, ◌++◌, map, filter, find, Option}
+use Rattle.std.proofs.Common.{option_map, None, Some, IsSome, refl, ap, ◌∙◌, arith}
 use Rattle.std.specs.Map.{remove_entry}
 use Rattle.std.proofs.lemmas.Bool.Decides.{nat_tests}
 use Rattle.wf_words.specs.Keyed.{is_in}
@@ -63,7 +63,7 @@ pub mark_view : (n : ℕ) (b : Bool) (p : Slots) (es : Places) → shelved p (pl
 mark_view n b p [] = refl
 mark_view n b p (e ∷ es) =
     elim (at n e.0) as (λ c. shelved p (cond c ((e.0, with_mark b e.1) ∷ es) (e ∷ placed n (with_mark b) es))
-        ≡ shelved p (e ∷ es)) [ true ↦ refl | false ↦ ap (λ (ss : List KeptStream). kept_stream p e ∷ ss) (mark_view n b p es) ]
+    ≡ shelved p (e ∷ es)) [ true ↦ refl | false ↦ ap (λ (ss : List KeptStream). kept_stream p e ∷ ss) (mark_view n b p es) ]
 
 -- and that number is a mark too
 pub marks_marked : (m n : ℕ) (p : Slots) (es : Places) → IsSome (stream_at n (shelved p es))
@@ -139,11 +139,11 @@ marks_are low high p [] rising = tt
 marks_are low high p (e ∷ es) rising =
     let later = marks_are e.0 high p es rising.1 in
     elim (e.1.marked)
-        as (λ b. (is_in e.0
-        (map (λ (x : ℕ × Place). x.0) (cond b (e ∷ filter (λ (x : ℕ × Place). x.1.marked) es) (filter (λ (x : ℕ × Place). x.1.marked) es)))
-        ≡ b) × AreMarks
-        (map (λ (x : ℕ × Place). x.0) (cond b (e ∷ filter (λ (x : ℕ × Place). x.1.marked) es) (filter (λ (x : ℕ × Place). x.1.marked) es)))
-        es) [
+    as (λ b. (is_in e.0
+    (map (λ (x : ℕ × Place). x.0) (cond b (e ∷ filter (λ (x : ℕ × Place). x.1.marked) es) (filter (λ (x : ℕ × Place). x.1.marked) es)))
+    ≡ b) × AreMarks
+    (map (λ (x : ℕ × Place). x.0) (cond b (e ∷ filter (λ (x : ℕ × Place). x.1.marked) es) (filter (λ (x : ℕ × Place). x.1.marked) es)))
+    es) [
       | true ↦ (grind (arith, nat_tests), marks_more e.0 high e.0 p (marks_of es) es rising.1 (omega arith) later)
       | false ↦ (marks_below e.0 high e.0 p es rising.1 (omega arith), later)
     ]

@@ -1,6 +1,6 @@
 -- The map of numbers and the pool, against the list of streams.
-use Rattle.std.proofs.Common.{◌≡◌, ◌≢◌, ℕ, ◌+◌, ◌-◌, ◌<◌, ◌≤◌, Bool, true, false, cond, ◌==◌, not, List, [], ◌∷◌, ◌++◌, length, Option,
-    None, Some, refl, sym, ap, subst, ◌∙◌, arith, slice_set, unwrap_or, zero, suc}
+use Rattle.std.proofs.Common.{◌≡◌, ◌≢◌, ℕ, ◌+◌, ◌-◌, ◌<◌, ◌≤◌, Bool, true, false, cond, ◌==◌, not, List, [], ◌∷◌, ◌++◌, length, Option}
+use Rattle.std.proofs.Common.{None, Some, refl, sym, ap, subst, ◌∙◌, arith, slice_set, unwrap_or, zero, suc}
 use Rattle.std.specs.Option.{IsSome, option_map}
 use Rattle.std.specs.Ordering.{nat_cmp}
 use Rattle.std.specs.BTreeMap.{insert_entry, is_at}
@@ -53,7 +53,9 @@ numbered_without low high n [] rising = rising
 numbered_without low high n (s ∷ streams) rising =
     let later = numbered_without s.number high n streams rising.1 in
     elim (s.number == n) as (λ b. IsNumbered low (cond (not b) (s ∷ without_number n streams) (without_number n streams)) high) [
-        true ↦ numbered_lower s.number low high (without_number n streams) later (omega arith) | false ↦ (rising.0, later) ]
+      | true ↦ numbered_lower s.number low high (without_number n streams) later (omega arith)
+      | false ↦ (rising.0, later)
+    ]
 
 -- no number below all is taken out or changed
 pub without_below : (low high n : ℕ) (streams : List KeptStream) → IsNumbered low streams high → n ≤ low
@@ -96,7 +98,7 @@ pub none_free : (key : ℕ) (p : Slots) (es : Places) → kept_at key p ≡ None
 none_free key p [] free kept = tt
 none_free key p (e ∷ es) free kept =
     let here : e.1.key ≢ key = λ same. (let empty : kept_at e.1.key p ≡ None = ap (λ k. kept_at k p) same ∙ free in
-        let no = rw empty at kept.0 in cc) in
+    let no = rw empty at kept.0 in cc) in
     (here, none_free key p es free kept.1)
 
 -- a number above all others comes last
@@ -127,15 +129,15 @@ found_other n key o [] found none = cc
 found_other n key o (e ∷ es) found none =
     let later = λ (found_later : lookup (at n) es ≡ Some o). found_other n key o es found_later none.1 in
     elim (at n e.0) as (λ b. cond b (Some e.1) (lookup (at n) es) ≡ Some o
-        → o.key ≢ key) [ true ↦ λ is. (let same : e.1 ≡ o = cc in subst (λ (x : Place). x.key ≢ key) same none.0) | false ↦ later ] found
+    → o.key ≢ key) [ true ↦ λ is. (let same : e.1 ≡ o = cc in subst (λ (x : Place). x.key ≢ key) same none.0) | false ↦ later ] found
 
 pub found_kept : (n : ℕ) (o : Place) (p : Slots) (es : Places) → lookup (at n) es ≡ Some o → AreKept p es → IsKept o.key p
 found_kept n o p [] found kept = cc
 found_kept n o p (e ∷ es) found kept =
     let later = λ (found_later : lookup (at n) es ≡ Some o). found_kept n o p es found_later kept.1 in
     elim (at n e.0) as (λ b. cond b (Some e.1) (lookup (at n) es) ≡ Some o
-        → IsKept o.key p) [ true ↦ λ is. (let same : e.1 ≡ o = cc in subst (λ (x : Place). IsKept x.key p) same kept.0) | false ↦ later ]
-        found
+    → IsKept o.key p) [ true ↦ λ is. (let same : e.1 ≡ o = cc in subst (λ (x : Place). IsKept x.key p) same kept.0) | false ↦ later ]
+    found
 
 -- the buffers of the place that is found
 pub buffers_lookup : (n : ℕ) (p : Slots) (es : Places)
@@ -148,8 +150,11 @@ buffers_lookup n p (e ∷ es) =
 pub value_pooled : (key : ℕ) (p : Slots) → IsKept key p → value_at key p ≡ Some (pooled key p)
 value_pooled key p = elim (kept_at key p) as (λ slot. IsSome slot
     → option_map (λ (kept : Kept Buffers). kept.value) slot
-    ≡ Some (unwrap_or (option_map (λ (kept : Kept Buffers). kept.value) slot) (pooled 0 []))) [ None ↦ λ none. cc | Some kept ↦
-    λ some. refl ]
+    ≡ Some (unwrap_or (option_map (λ (kept : Kept Buffers). kept.value) slot) (pooled 0 []))) [
+      | None ↦ λ none. cc
+      | Some kept ↦
+          λ some. refl
+    ]
 
 -- the map without a number is the list without it
 pub remove_without : (low high n : ℕ) (p : Slots) (es : Places) → IsNumbered low (shelved p es) high
@@ -163,29 +168,44 @@ remove_without low high n p (e ∷ es) rising =
 pub removed_kept : (n : ℕ) (p : Slots) (es : Places) → AreKept p es → AreKept p (remove_entry (at n) es)
 removed_kept n p [] kept = tt
 removed_kept n p (e ∷ es) kept =
-    elim (at n e.0) as (λ b. AreKept p (cond b es (e ∷ remove_entry (at n) es))) [ true ↦ kept.1 | false ↦ (kept.0,
-        removed_kept n p es kept.1) ]
+    elim (at n e.0) as (λ b. AreKept p (cond b es (e ∷ remove_entry (at n) es))) [
+      | true ↦ kept.1
+      | false ↦ (
+        kept.0,
+        removed_kept n p es kept.1,
+      )
+    ]
 
 removed_none : (n key : ℕ) (es : Places) → HasNone key es → HasNone key (remove_entry (at n) es)
 removed_none n key [] none = tt
 removed_none n key (e ∷ es) none =
-    elim (at n e.0) as (λ b. HasNone key (cond b es (e ∷ remove_entry (at n) es))) [ true ↦ none.1 | false ↦ (none.0,
-        removed_none n key es none.1) ]
+    elim (at n e.0) as (λ b. HasNone key (cond b es (e ∷ remove_entry (at n) es))) [
+      | true ↦ none.1
+      | false ↦ (
+        none.0,
+        removed_none n key es none.1,
+      )
+    ]
 
 pub removed_apart : (n : ℕ) (es : Places) → AreApart es → AreApart (remove_entry (at n) es)
 removed_apart n [] apart = tt
 removed_apart n (e ∷ es) apart =
     elim (at n e.0) as (λ b. AreApart (cond b es (e ∷ remove_entry (at n) es))) [
-        true ↦ apart.1 | false ↦ (removed_none n e.1.key es apart.0, removed_apart n es apart.1) ]
+      | true ↦ apart.1
+      | false ↦ (removed_none n e.1.key es apart.0, removed_apart n es apart.1)
+    ]
 
 -- the key of the place that is taken out is the key of no other
 pub found_none : (n : ℕ) (o : Place) (es : Places) → lookup (at n) es ≡ Some o → AreApart es → HasNone o.key (remove_entry (at n) es)
 found_none n o [] found apart = tt
 found_none n o (e ∷ es) found apart =
     elim (at n e.0) as (λ b. cond b (Some e.1) (lookup (at n) es) ≡ Some o
-        → HasNone o.key (cond b es (e ∷ remove_entry (at n) es))) [ true ↦
-        λ is. (let same : e.1 ≡ o = cc in subst (λ (x : Place). HasNone x.key es) same apart.0) | false ↦
-        λ is. ((λ same. found_other n e.1.key o es is apart.0 (sym same)), found_none n o es is apart.1) ] found
+    → HasNone o.key (cond b es (e ∷ remove_entry (at n) es))) [
+      | true ↦
+          λ is. (let same : e.1 ≡ o = cc in subst (λ (x : Place). HasNone x.key es) same apart.0)
+      | false ↦
+          λ is. ((λ same. found_other n e.1.key o es is apart.0 (sym same)), found_none n o es is apart.1)
+    ] found
 
 -- a pool in which one slot was written
 pub set_agrees : (key : ℕ) (p : Slots) (slot : Option (Kept Buffers)) → AgreeBut key p (slice_set p key slot)
@@ -212,8 +232,11 @@ numbered_handed low high n handle [] rising = rising
 numbered_handed low high n handle (s ∷ streams) rising =
     let later = numbered_handed s.number high n handle streams rising.1 in
     elim (s.number == n) as (λ b. (low < (cond b (under_handle handle s) s).number)
-        × IsNumbered (cond b (under_handle handle s) s).number (hand_over n handle streams) high) [ true ↦ (rising.0, later) | false ↦
-        (rising.0, later) ]
+    × IsNumbered (cond b (under_handle handle s) s).number (hand_over n handle streams) high) [
+      | true ↦ (rising.0, later)
+      | false ↦
+          (rising.0, later)
+    ]
 
 -- a change of a place that keeps its key
 abbrev pub KeepsKey : (Place → Place) → Type 0
@@ -223,20 +246,26 @@ pub placed_kept : (n : ℕ) (f : Place → Place) (p : Slots) (es : Places) → 
 placed_kept n f p [] same kept = tt
 placed_kept n f p (e ∷ es) same kept =
     elim (at n e.0) as (λ b. AreKept p (cond b ((e.0, f e.1) ∷ es) (e ∷ placed n f es))) [
-        true ↦ (subst (λ (k : ℕ). IsKept k p) (sym (same e.1)) kept.0, kept.1) | false ↦ (kept.0, placed_kept n f p es same kept.1) ]
+      | true ↦ (subst (λ (k : ℕ). IsKept k p) (sym (same e.1)) kept.0, kept.1)
+      | false ↦ (kept.0, placed_kept n f p es same kept.1)
+    ]
 
 placed_none : (n : ℕ) (f : Place → Place) (key : ℕ) (es : Places) → KeepsKey f → HasNone key es → HasNone key (placed n f es)
 placed_none n f key [] same none = tt
 placed_none n f key (e ∷ es) same none =
     elim (at n e.0) as (λ b. HasNone key (cond b ((e.0, f e.1) ∷ es) (e ∷ placed n f es))) [
-        true ↦ (subst (λ (k : ℕ). k ≢ key) (sym (same e.1)) none.0, none.1) | false ↦ (none.0, placed_none n f key es same none.1) ]
+      | true ↦ (subst (λ (k : ℕ). k ≢ key) (sym (same e.1)) none.0, none.1)
+      | false ↦ (none.0, placed_none n f key es same none.1)
+    ]
 
 pub placed_apart : (n : ℕ) (f : Place → Place) (es : Places) → KeepsKey f → AreApart es → AreApart (placed n f es)
 placed_apart n f [] same apart = tt
 placed_apart n f (e ∷ es) same apart =
     elim (at n e.0) as (λ b. AreApart (cond b ((e.0, f e.1) ∷ es) (e ∷ placed n f es))) [
-        true ↦ (subst (λ (k : ℕ). HasNone k es) (sym (same e.1)) apart.0, apart.1) | false ↦
-        (placed_none n f e.1.key es same apart.0, placed_apart n f es same apart.1) ]
+      | true ↦ (subst (λ (k : ℕ). HasNone k es) (sym (same e.1)) apart.0, apart.1)
+      | false ↦
+          (placed_none n f e.1.key es same apart.0, placed_apart n f es same apart.1)
+    ]
 
 -- the map with a value set
 pub placed_found : (n : ℕ) (f : Place → Place) (o : Place) (es : Places) → lookup (at n) es ≡ Some o
@@ -289,23 +318,23 @@ lent_view low high n o p (e ∷ es) w rising kept apart found =
     let q : Slots = with_value o.key p w in
     let agree : AgreeBut o.key p q = set_agrees o.key p (option_map (holding w) (kept_at o.key p)) in
     let found_here : cond (e.0 == n) (Some e.1) (lookup (at n) es) ≡ Some o =
-        subst (λ (b : Bool). cond b (Some e.1) (lookup (at n) es) ≡ Some o) (at_same n e.0) found in
+    subst (λ (b : Bool). cond b (Some e.1) (lookup (at n) es) ≡ Some o) (at_same n e.0) found in
     elim (e.0 == n) as (λ b. (e.0 == n) ≡ b → cond b (Some e.1) (lookup (at n) es) ≡ Some o
-        → kept_stream q e ∷ shelved q es ≡ cond b (with_here w e) (kept_stream p e) ∷ change_stream n (λ _. w) (shelved p es)) [
+    → kept_stream q e ∷ shelved q es ≡ cond b (with_here w e) (kept_stream p e) ∷ change_stream n (λ _. w) (shelved p es)) [
       | true ↦ λ here is. (
           let same : e.1 ≡ o = cc in
           let key : e.1.key ≡ o.key = ap (λ (x : Place). x.key) same in
           let value : pooled e.1.key q ≡ w = subst (λ (k : ℕ). pooled k q ≡ w) (sym key)
-              (lent_here o.key p w (subst (λ (k : ℕ). IsKept k p) key kept.0)) in
+          (lent_here o.key p w (subst (λ (k : ℕ). IsKept k p) key kept.0)) in
           let head : kept_stream q e ≡ with_here w e = ap (λ (b : Buffers). with_here b e) value in
           let under : n ≤ e.0 = grind (arith, nat_tests) in
           let rest : shelved q es ≡ change_stream n (λ _. w) (shelved p es) =
           shelved_same o.key p q es agree (subst (λ (k : ℕ). HasNone k es) key apart.0)
-              ∙ sym (change_below e.0 high n (λ s. record s { buffers = w }) (shelved p es) rising.1 under) in
+          ∙ sym (change_below e.0 high n (λ s. record s { buffers = w }) (shelved p es) rising.1 under) in
           cc)
       | false ↦ λ other is. (
           let head : kept_stream q e ≡ kept_stream p e = ap (λ (b : Buffers). with_here b e)
-              (pooled_same e.1.key p q (agree e.1.key (λ same. found_other n e.1.key o es is apart.0 (sym same)))) in
+          (pooled_same e.1.key p q (agree e.1.key (λ same. found_other n e.1.key o es is apart.0 (sym same)))) in
           let rest = lent_view e.0 high n o p es w rising.1 kept.1 apart.1 is in
           cc)
     ] refl found_here
@@ -320,7 +349,7 @@ shelf_push n o p q es after counted rising fits kept apart free agree new is =
     let last : after ≡ es ++ (n, o) ∷ [] = is ∙ insert_last 0 (n - 1) n o p es rising (omega arith) in
     let view : shelved q (es ++ (n, o) ∷ []) ≡ shelved p es ++ kept_stream q (n, o) ∷ [] =
     map-append (kept_stream q) es ((n, o) ∷ []) ∙ ap (λ (ss : List KeptStream). ss ++ kept_stream q (n, o) ∷ [])
-        (shelved_same o.key p q es agree none) in
+    (shelved_same o.key p q es agree none) in
     rw last (
       view,
       rw view (numbered_push 0 (n - 1) 4294967295 (shelved p es) (kept_stream q (n, o)) rising (omega arith) fits),
@@ -334,7 +363,7 @@ pub shelf_remove : (n : ℕ) (o : Place) (p q : Slots) (es after : Places) → I
 shelf_remove n o p q es after rising kept apart found agree is =
     let none = found_none n o es found apart in
     let view : shelved q (remove_entry (at n) es) ≡ without_number n (shelved p es) =
-        removed_view 0 4294967295 n o p q es rising apart found agree in
+    removed_view 0 4294967295 n o p q es rising apart found agree in
     rw is (
       view,
       rw view (numbered_without 0 4294967295 n (shelved p es) rising),
@@ -367,8 +396,11 @@ numbered_changed low high n w [] rising = rising
 numbered_changed low high n w (s ∷ streams) rising =
     let later = numbered_changed s.number high n w streams rising.1 in
     elim (s.number == n) as (λ b. (low < (cond b (record s { buffers = w }) s).number)
-        × IsNumbered (cond b (record s { buffers = w }) s).number (change_stream n (λ _. w) streams) high) [ true ↦
-        (rising.0, later) | false ↦ (rising.0, later) ]
+    × IsNumbered (cond b (record s { buffers = w }) s).number (change_stream n (λ _. w) streams) high) [
+      | true ↦
+          (rising.0, later)
+      | false ↦ (rising.0, later)
+    ]
 
 -- a pool in which one key was taken and let go again
 pub shelf_same : (key : ℕ) (p q : Slots) (es : Places) → kept_at key p ≡ None → AreKept p es → AgreeBut key p q

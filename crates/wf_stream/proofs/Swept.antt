@@ -1,11 +1,11 @@
 -- What is left of the store where a stream is dropped, and where all are that are not marked.
-use Rattle.std.proofs.Common.{◌≡◌, ℕ, ◌<◌, ◌≤◌, true, false, cond, ◌==◌, not, List, [], ◌∷◌, filter, length, option_map, None, Some,
-    IsSome, refl, sym, ap, ◌∙◌, arith}
+use Rattle.std.proofs.Common.{◌≡◌, ℕ, ◌<◌, ◌≤◌, true, false, cond, ◌==◌, not, List, [], ◌∷◌, filter, length, option_map, None, Some, IsSome}
+use Rattle.std.proofs.Common.{refl, sym, ap, ◌∙◌, arith}
 use Rattle.std.proofs.lemmas.Bool.Decides.{nat_tests}
 use Rattle.wf_words.specs.Keyed.{is_in}
 use Rattle.wf_life.specs.Handles.{Live, IsRising, is_live, without}
-use Rattle.wf_stream.specs.Streams.{KeptStream, IsNumbered, stream_at, stream_of, number_of, handle_at, hand_over, under_handle,
-    without_number, first_unmarked, names_of}
+use Rattle.wf_stream.specs.Streams.{KeptStream, IsNumbered, stream_at, stream_of, number_of, handle_at, hand_over, under_handle}
+use Rattle.wf_stream.specs.Streams.{without_number, first_unmarked, names_of}
 use Rattle.wf_stream.specs.Joined.{stream_handles, live_streams}
 use Rattle.wf_stream.proofs.Shelves.{change_below}
 use Rattle.wf_stream.proofs.Joined.{handle_other, rest_of_streams, live_entries, rising_streams, unnamed_found, killed_tied, bare_same}
@@ -23,7 +23,7 @@ found_number : (low high h n : ℕ) (streams : List KeptStream) → IsRising low
 found_number low high h n [] rising found some = cc
 found_number low high h n (s ∷ streams) rising found some =
     elim (s.number == n) as (λ b. (s.number == n) ≡ b → option_map (λ (x : KeptStream). x.handle) (cond b (Some s) (stream_at n streams))
-        ≡ Some h → number_of h (s ∷ streams) ≡ Some n) [
+    ≡ Some h → number_of h (s ∷ streams) ≡ Some n) [
       | true ↦ λ is here. (
           let same : s.handle ≡ h = cc in
           let number : s.number ≡ n = grind (arith, nat_tests) in
@@ -49,7 +49,7 @@ same_bare : (low high n : ℕ) (streams : List KeptStream) → IsNumbered low st
 same_bare low high n [] rising found = cc
 same_bare low high n (s ∷ streams) rising found =
     elim (s.number == n) as (λ b. (s.number == n) ≡ b → option_map (λ (x : KeptStream). x.handle) (cond b (Some s) (stream_at n streams))
-        ≡ Some 0 → cond b (under_handle 0 s) s ∷ hand_over n 0 streams ≡ s ∷ streams) [
+    ≡ Some 0 → cond b (under_handle 0 s) s ∷ hand_over n 0 streams ≡ s ∷ streams) [
       | true ↦ λ is here. (
           let zero : s.handle ≡ 0 = cc in
           let under : n ≤ s.number = grind (arith, nat_tests) in
@@ -74,7 +74,7 @@ dropped_tied high made h n live streams rising orderly tied found some =
     let under = rising_streams made live streams orderly tied in
     let number = found_number 0 made h n streams under found some in
     killed_tied h live streams tied ∙ ap live_streams (sym (unnamed_found 0 high 0 made h n streams rising under number))
-        ∙ dropped_entries n streams
+    ∙ dropped_entries n streams
 
 -- the streams that are marked
 abbrev pub marked_of : List ℕ → List KeptStream → List KeptStream
@@ -108,8 +108,8 @@ pub first_kept : (low high n h : ℕ) (marked : List ℕ) (streams : List KeptSt
 first_kept low high n h marked [] rising found = cc
 first_kept low high n h marked (s ∷ streams) rising found =
     elim (is_in s.number marked) as (λ b. is_in s.number marked ≡ b
-        → option_map names_of (cond (not b) (Some s) (first_unmarked marked streams)) ≡ Some (n, h)
-        → IsFirst low n h marked (s ∷ streams)) [
+    → option_map names_of (cond (not b) (Some s) (first_unmarked marked streams)) ≡ Some (n, h)
+    → IsFirst low n h marked (s ∷ streams)) [
       | true ↦ λ is found_later. (
           let later = first_kept s.number high n h marked streams rising.1 found_later in
           let other : (s.number == n) ≡ false = grind (arith, nat_tests, later.above) in
@@ -119,8 +119,11 @@ first_kept low high n h marked (s ∷ streams) rising found =
           let number : s.number ≡ n = ap (λ (q : ℕ × ℕ). q.0) both in
           let handle : s.handle ≡ h = ap (λ (q : ℕ × ℕ). q.1) both in
           let same : (s.number == n) ≡ true = grind (arith, nat_tests, number) in
-          record { above = omega (arith, rising.0, number); kept = rw (same, handle) refl;
-              unmarked = ap (λ (k : ℕ). is_in k marked) (sym number) ∙ is })
+          record {
+            above = omega (arith, rising.0, number);
+            kept = rw (same, handle) refl;
+            unmarked = ap (λ (k : ℕ). is_in k marked) (sym number) ∙ is;
+          })
     ] refl found
 
 -- a list without one of its streams is shorter

@@ -1,7 +1,7 @@
 //! The store: the handles of all objects, and the streams by number.
 
-ghost use Rattle.std.specs.Prelude.{◌≡◌, ◌↔◌, ℕ, ◌+◌, ◌≤◌, ◌||◌, ◌==◌, [], not, map, Some, option_map, option_copied, IfOk, OnOk, OnErr,
-    IsErrOf, IsSome, IsTrue, IsFalse};
+ghost use Rattle.std.specs.Prelude.{◌≡◌, ◌↔◌, ℕ, ◌+◌, ◌≤◌, ◌||◌, ◌==◌, [], not, map, Some, option_map, option_copied, IfOk, OnOk, OnErr};
+ghost use Rattle.std.specs.Prelude.{IsErrOf, IsSome, IsTrue, IsFalse};
 ghost use Rattle.std.specs.Option.{option_copied_mut};
 ghost use Rattle.std.specs.Result.{result_ok};
 ghost use Rattle.std.specs.Borrow.{sem};
@@ -9,9 +9,9 @@ ghost use Rattle.wf_words.specs.Keyed.{is_in};
 ghost use Rattle.wf_pixel.specs.Choice.{has_sides};
 ghost use Rattle.wf_life.specs.Handles.{is_full, is_live, without};
 ghost use Rattle.wf_stream.specs.Buffers.{fresh};
-ghost use Rattle.wf_stream.specs.Streams.{held, empty, with_screen, with_live_stream, with_other, has_no_room, number_of, key_in, is_alive,
-    is_stream, count_in, killed, stream_at, stream_of, unnamed, buffers_at, IsNumbered, first_unmarked, names_of, handle_at,
-    without_number, swept, is_own};
+ghost use Rattle.wf_stream.specs.Streams.{held, empty, with_screen, with_live_stream, with_other, has_no_room, number_of, key_in, is_alive};
+ghost use Rattle.wf_stream.specs.Streams.{is_stream, count_in, killed, stream_at, stream_of, unnamed, buffers_at, IsNumbered};
+ghost use Rattle.wf_stream.specs.Streams.{first_unmarked, names_of, handle_at, without_number, swept, is_own};
 
 use crate::Held;
 use crate::stream::{Stream, bytes_of};

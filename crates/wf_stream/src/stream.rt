@@ -5,8 +5,8 @@ ghost use Rattle.std.specs.List.{All};
 ghost use Rattle.std.specs.Vec.{vec_len, vec_capacity};
 ghost use Rattle.wf_pixel.specs.Choice.{has_sides};
 ghost use Rattle.wf_image.specs.Bitmap.{blank, image_bytes};
-ghost use Rattle.wf_stream.specs.Buffers.{fresh, acquired, posted, discarded, newest, latched, latched_if, returned, is_blocked, away,
-    HasShape, buffer_bytes};
+ghost use Rattle.wf_stream.specs.Buffers.{fresh, acquired, posted, discarded, newest, latched, latched_if, returned, is_blocked, away};
+ghost use Rattle.wf_stream.specs.Buffers.{HasShape, buffer_bytes};
 
 use std::alloc::Global;
 use std::marker::Model;

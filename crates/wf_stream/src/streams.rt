@@ -1,12 +1,12 @@
 //! The streams by number.
 
-ghost use Rattle.std.specs.Prelude.{◌≡◌, ℕ, ◌-◌, ◌*◌, ◌<◌, ◌≤◌, ◌||◌, ◌==◌, true, false, [], ◌∷◌, ◌++◌, length, option_map, option_copied,
-    OnOk, OnErr, IsSome, IsFalse};
+ghost use Rattle.std.specs.Prelude.{◌≡◌, ℕ, ◌-◌, ◌*◌, ◌<◌, ◌≤◌, ◌||◌, ◌==◌, true, false, [], ◌∷◌, ◌++◌, length, option_map, option_copied};
+ghost use Rattle.std.specs.Prelude.{OnOk, OnErr, IsSome, IsFalse};
 ghost use Rattle.std.specs.Option.{option_copied_mut};
 ghost use Rattle.std.specs.Borrow.{sem};
 ghost use Rattle.wf_words.specs.Keyed.{is_in};
-ghost use Rattle.wf_stream.specs.Streams.{held, IsNumbered, stream_at, buffers_at, without_number, hand_over, first_unmarked, names_of,
-    is_own};
+ghost use Rattle.wf_stream.specs.Streams.{held, IsNumbered, stream_at, buffers_at, without_number, hand_over, first_unmarked, names_of};
+ghost use Rattle.wf_stream.specs.Streams.{is_own};
 
 use crate::stream::Stream;
 use std::alloc::Global;
@@ -80,9 +80,10 @@ impl Streams {
     pub(crate) fn push(&mut self, number: u32, handle: u32, stream: Stream) -> Result<(), NoMemory>
         requires counted { 0 < number }
         requires above { IsNumbered 0 self.old.streams (number - 1) }
-        ensures pushed
-            { OnOk result (self.new ≡ record self.old { streams = self.old.streams
-            ++ record { number = number; handle = handle; buffers = stream } ∷ [] }) }
+        ensures pushed { OnOk result (self.new ≡ record self.old {
+          streams = self.old.streams
+              ++ record { number = number; handle = handle; buffers = stream } ∷ [];
+        }) }
         ensures unmarked { OnOk result (IsFalse (is_in number self.old.marked)) }
         ensures refused { OnErr result (self.new ≡ self.old) }
     {

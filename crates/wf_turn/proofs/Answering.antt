@@ -21,8 +21,8 @@ use Rattle.wf_turn.specs.declared.stage.Leg.{Leg}
 use Rattle.wf_turn.specs.declared.stage.Leg.TheVariants as leg
 use Rattle.wf_turn.specs.declared.stage.Stage.{Stage}
 use Rattle.wf_turn.specs.declared.stage.Stage.TheVariants as stage
-use Rattle.wf_turn.specs.Program.{Program, first_line, given_canvas, handed, kept_canvas, kept_first, kept_job, painted_job, line_done,
-    ticking, took, took_at, took_canvas, took_first, took_frame, took_job, took_leg, worked}
+use Rattle.wf_turn.specs.Program.{Program, first_line, given_canvas, handed, kept_canvas, kept_first, kept_job, painted_job, line_done}
+use Rattle.wf_turn.specs.Program.{ticking, took, took_at, took_canvas, took_first, took_frame, took_job, took_leg, worked}
 use Rattle.wf_turn.specs.Turns.{frames_of, shown}
 
 -- what a call carried out is no longer asked for
@@ -50,7 +50,7 @@ took_handed p reply = of_line (first_line p) refl
 same_work : (is_new : Bool) (wanted job : Job) → SameJob is_new wanted job → painted_job job ≡ painted_job wanted
 same_work is_new wanted job same =
     let of : ℕ → JobKind → Scene → Images → Format → Job =
-        λ n k s c f. record { number = n; kind = k; scene = s; contents = c; image = picture s c f } in
+    λ n k s c f. record { number = n; kind = k; scene = s; contents = c; image = picture s c f } in
     ap (λ (n : ℕ). of n job.kind job.scene job.contents job.image.format) same.number
     ∙ ap (λ (k : JobKind). of wanted.number k job.scene job.contents job.image.format) same.kind
     ∙ ap (λ (s : Scene). of wanted.number wanted.kind s job.contents job.image.format) same.scene
@@ -81,7 +81,7 @@ same_job : (p : Program) (is_new : Bool) (given wanted : Payload) (l : Leg) → 
     → outcome (took_job p given l) ≡ outcome (took_job p wanted l)
 same_job p is_new (payload.Job job) (payload.Job wanted) l same =
     let of : JobKind → Job → Program
-        × List Frame = λ k j. (record p { job = Some j; unpainted = false; stage = stage.Ending l }, shown k p.tick j) in
+    × List Frame = λ k j. (record p { job = Some j; unpainted = false; stage = stage.Ending l }, shown k p.tick j) in
     ap (λ (k : JobKind). of k (painted_job job)) same.kind ∙ ap (of wanted.kind) (same_work is_new wanted job same)
 same_job p is_new payload.Nothing (payload.Job wanted) l same = absurd cc
 same_job p is_new (payload.Canvas canvas) (payload.Job wanted) l same = absurd cc

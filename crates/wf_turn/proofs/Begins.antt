@@ -13,8 +13,8 @@ use Rattle.wf_turn.specs.declared.stage.Stage.{Stage}
 use Rattle.wf_turn.specs.declared.stage.Stage.TheVariants as stage
 use Rattle.wf_turn.specs.declared.stage.Wanted.{Wanted}
 use Rattle.wf_turn.specs.Playing.{Ends, EndsAt}
-use Rattle.wf_turn.specs.Program.{Program, first_line, given_canvas, go_on, line_done, next, plain, took, took_canvas, took_frame,
-    took_job, worked, asked_for, waiting}
+use Rattle.wf_turn.specs.Program.{Program, first_line, given_canvas, go_on, line_done, next, plain, took, took_canvas, took_frame, took_job}
+use Rattle.wf_turn.specs.Program.{worked, asked_for, waiting}
 use Rattle.wf_turn.specs.Turns.{frames_of}
 use Rattle.wf_turn.proofs.Cases.{turn_case, asks_begin}
 use Rattle.wf_turn.proofs.Own.{own_job}

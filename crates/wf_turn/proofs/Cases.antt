@@ -20,8 +20,8 @@ use Rattle.wf_turn.specs.Calls.{plain_call}
 use Rattle.wf_script.specs.declared.name.Name.{Name}
 use Rattle.wf_calls.specs.Parts.{is_begin}
 use Rattle.wf_model.specs.Effects.{moves_frame}
-use Rattle.wf_turn.specs.Program.{Program, asked_for, first_call, first_line, given_canvas, go_on, handle, line_done, next, plain, took,
-    took_at, took_canvas, took_first, took_frame, took_job, waiting, wanted_at}
+use Rattle.wf_turn.specs.Program.{Program, asked_for, first_call, first_line, given_canvas, go_on, handle, line_done, next, plain, took}
+use Rattle.wf_turn.specs.Program.{took_at, took_canvas, took_first, took_frame, took_job, waiting, wanted_at}
 
 -- a line that is one call, and waits for nothing, neither begins nor ends a frame
 plain_calls : (handle : Option Name → ℕ) (v : Verb) → IfSome (plain_call handle v) (λ c. moves_frame c ≡ false)

@@ -1,6 +1,6 @@
 -- The eight programs of a show: one of them changed, and names handed on.
-use Rattle.std.proofs.Common.{◌≡◌, ◌∙◌, ℕ, zero, suc, ◌+◌, ◌-◌, Bool, true, false, not, cond, ◌&&◌, List, [], ◌∷◌, map, Option, Some, None,
-    refl, sym, ap, subst, arith, set, get_or}
+use Rattle.std.proofs.Common.{◌≡◌, ◌∙◌, ℕ, zero, suc, ◌+◌, ◌-◌, Bool, true, false, not, cond, ◌&&◌, List, [], ◌∷◌, map, Option, Some, None}
+use Rattle.std.proofs.Common.{refl, sym, ap, subst, arith, set, get_or}
 use Rattle.std.specs.Prelude.{slice_get, sum_by}
 use Rattle.std.specs.Option.{IfSome}
 use Rattle.std.proofs.lemmas.List.Sums.{sum_by-cons}
@@ -50,7 +50,7 @@ are_taught script k (clock ∷ others) are = (are.0, are.1, are.2, are_mapped sc
 pub are_handed : (script : PlainScript) (before now : List Program) → AreOf script 0 now → AreOf script 0 (handed_on before now)
 are_handed script before now are =
     elim (is_setting_up before && not (is_setting_up now))
-        as (λ b. AreOf script 0 (cond b (all_taught now) now)) [ true ↦ are_taught script 0 now are | false ↦ are ]
+    as (λ b. AreOf script 0 (cond b (all_taught now) now)) [ true ↦ are_taught script 0 now are | false ↦ are ]
 
 -- what names do not change is the same of the programs that learned
 module _ {A : Type 0} (f : Program → A) (same : (clock p : Program) → f (taught clock p) ≡ f p) where
@@ -66,7 +66,7 @@ module _ {A : Type 0} (f : Program → A) (same : (clock p : Program) → f (tau
   pub handed_same : (before now : List Program) → map f (handed_on before now) ≡ map f now
   handed_same before now =
       elim (is_setting_up before && not (is_setting_up now))
-          as (λ b. map f (cond b (all_taught now) now) ≡ map f now) [ true ↦ taught_same now | false ↦ refl ]
+      as (λ b. map f (cond b (all_taught now) now) ≡ map f now) [ true ↦ taught_same now | false ↦ refl ]
 
 sum_map : (ps : List Program) → all_left ps ≡ sum_by (λ (n : ℕ). n) (map left ps)
 sum_map [] = refl
@@ -117,7 +117,7 @@ pub shown_handed : (painted : Bool) (before now : List Program) (i : ℕ) (q : P
     → shown_by painted (handed_on before now) i ≡ frames_if painted q
 shown_handed painted before now i q found =
     elim (is_setting_up before && not (is_setting_up now))
-        as (λ b. shown_by painted (cond b (all_taught now) now) i ≡ frames_if painted q) [
+    as (λ b. shown_by painted (cond b (all_taught now) now) i ≡ frames_if painted q) [
       | true ↦ taught_shown now i q found
       | false ↦ rw found refl
     ]

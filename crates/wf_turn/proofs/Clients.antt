@@ -1,6 +1,6 @@
 -- The client of the first line that is not through.
-use Rattle.std.proofs.Common.{◌≡◌, ◌∙◌, ℕ, zero, suc, ◌+◌, ◌<◌, ◌≤◌, ◌==◌, Bool, true, false, not, cond, ◌&&◌, ◌⊎◌, inl, inr, List, [],
-    ◌∷◌, map, length, take, get_or, Option, Some, None, refl, sym, ap, subst, arith, add-one}
+use Rattle.std.proofs.Common.{◌≡◌, ◌∙◌, ℕ, zero, suc, ◌+◌, ◌<◌, ◌≤◌, ◌==◌, Bool, true, false, not, cond, ◌&&◌, ◌⊎◌, inl, inr, List, [], ◌∷◌}
+use Rattle.std.proofs.Common.{map, length, take, get_or, Option, Some, None, refl, sym, ap, subst, arith, add-one}
 use Rattle.std.specs.Prelude.{slice_get, nat_lt, fold}
 use Rattle.std.specs.List.{enumerate_from, list_all}
 use Rattle.std.specs.Option.{IfSome, IsSomeAnd, is_none}
@@ -56,7 +56,7 @@ found_at best a (Some k ∷ places) c is =
     this None same = inr (here same)
     this (Some d) same =
         elim (nat_lt k d.1) as (λ x. cond x (Some (a, k)) (Some d) ≡ Some c
-            → (Some d ≡ Some c) ⊎ IsAt best a (Some k ∷ places) c) [ true ↦ λ e. inr (here e) | false ↦ λ e. inl e ] same
+        → (Some d ≡ Some c) ⊎ IsAt best a (Some k ∷ places) c) [ true ↦ λ e. inr (here e) | false ↦ λ e. inl e ] same
 
 -- the place of the client that is found
 pub first_place : (places : List (Option ℕ)) (c : ℕ × ℕ) → first_client places ≡ Some c → slice_get places c.0 ≡ Some (Some c.1)
@@ -73,7 +73,7 @@ still_some a [] b none = absurd cc
 still_some a (None ∷ places) b none = still_some (a + 1) places b none
 still_some a (Some k ∷ places) b none =
     elim (nat_lt k b.1) as (λ x. first_from (cond x (Some (a, k)) (Some b)) (a + 1) places ≡ None
-        → ⊥) [ true ↦ λ e. still_some (a + 1) places (a, k) e | false ↦ λ e. still_some (a + 1) places b e ] none
+    → ⊥) [ true ↦ λ e. still_some (a + 1) places (a, k) e | false ↦ λ e. still_some (a + 1) places b e ] none
 
 -- where none is found, all are through
 none_left : (a : ℕ) (places : List (Option ℕ)) → first_from None a places ≡ None → list_all is_none places ≡ true
@@ -111,7 +111,7 @@ first_more best a places i d within = rw add-one (by_place best a places i withi
     by_place best a (o ∷ places) (suc i) within =
         let at : a + 1 + i ≡ a + suc i = omega arith in
         by_place (earlier best (a, o)) (a + 1) places i (omega (arith, within))
-            ∙ ap (λ (n : ℕ). earlier (first_from (earlier best (a, o)) (a + 1) (take i places)) (n, get_or places i d)) at
+        ∙ ap (λ (n : ℕ). earlier (first_from (earlier best (a, o)) (a + 1) (take i places)) (n, get_or places i d)) at
 
 -- a place holds a line of a client
 abbrev pub IsLineOf : List Line → ℕ → ℕ → Type 0
@@ -150,9 +150,9 @@ first_may lines clock others c script is own = of_place (place_of clock) refl
     of_setup k at false past = rw (at, past) (allowed (not (c.0 == 0)))
     of_setup k at true inside =
         let below : k < setup_lines lines = subst (λ (ls : List Line). k < setup_lines ls) script
-            (ltb-true k (setup_lines clock.script.lines) inside) in
+        (ltb-true k (setup_lines clock.script.lines) inside) in
         let within : c.1 ≤ k = least 1 (map place_of others) (0, k) c
-            (ap (λ (o : Option ℕ). first_from (earlier None (0, o)) 1 (map place_of others)) (sym at) ∙ is) in
+        (ap (λ (o : Option ℕ). first_from (earlier None (0, o)) 1 (map place_of others)) (sym at) ∙ is) in
         let zeroth : c.0 ≡ 0 = setup_clock lines c.1 c.0 (omega (arith, below, within)) own in
         ap (λ (n : ℕ). may_turn (clock ∷ others) n) zeroth
 
@@ -222,7 +222,7 @@ pub own_passed : (clock : Program) (ps : List Program) (i : ℕ) (best : Best) (
 own_passed clock ps i best p place within item own so_far =
     let next : suc i ≡ i + 1 = omega arith in
     subst (λ (n : ℕ). IfSome (earlier best (n, place)) (StandsOwn (clock ∷ ps))) next
-        (own_more (clock ∷ ps) (suc i) best p place (get_within ps i p within item) own so_far)
+    (own_more (clock ∷ ps) (suc i) best p place (get_within ps i p within item) own so_far)
 
 -- what is known of the client that is found
 pub found_may : (s : Show) (cast : IsCast s) (c : ℕ × ℕ) → first_client (map place_of s.programs) ≡ Some c → StandsOwn s.programs c
@@ -235,8 +235,12 @@ found_may s cast c is own =
     of_programs : (ps : List Program) → s.programs ≡ ps → (o : Option Program) → slice_get s.programs c.0 ≡ o
         → may_turn s.programs c.0 ≡ true
     of_programs ps are None none = absurd (let at = first_place (map place_of s.programs) c is in
-        omega (arith, slice_get_within (map place_of s.programs) c.0 (Some c.1) at, length-map s.programs place_of,
-        past s.programs c.0 none))
+        omega (
+          arith,
+          slice_get_within (map place_of s.programs) c.0 (Some c.1) at,
+          length-map s.programs place_of,
+          past s.programs c.0 none,
+        ))
       where
         past : (qs : List Program) (i : ℕ) → slice_get qs i ≡ None → length qs ≤ i
         past [] i none = omega arith
@@ -251,7 +255,7 @@ found_may s cast c is own =
         let mine : IsSomeAnd (slice_get p.script.lines c.1) (λ l. l.client ≡ p.client) = rw some at own in
         let client : p.client ≡ c.0 = of.client_is ∙ omega arith in
         let line : IsLineOf cast.script.lines c.0 c.1 = subst (λ (n : ℕ). IsLineOf cast.script.lines n c.1) client
-            (subst (λ (x : PlainScript). IsLineOf x.lines p.client c.1) of.script_is mine) in
+        (subst (λ (x : PlainScript). IsLineOf x.lines p.client c.1) of.script_is mine) in
         ap (λ (ps : List Program). may_turn ps c.0) are
         ∙ first_may cast.script.lines clock others c (ap (λ (x : PlainScript). x.lines) clock_of.script_is)
-            (ap (λ (ps : List Program). first_client (map place_of ps)) (sym are) ∙ is) line
+        (ap (λ (ps : List Program). first_client (map place_of ps)) (sym are) ∙ is) line

@@ -1,6 +1,6 @@
 -- The film that serial play puts, whole or cut.
-use Rattle.std.proofs.Common.{◌≡◌, ◌∙◌, ℕ, ◌+◌, ◌*◌, ◌≤◌, ◌==◌, Bool, true, false, cond, List, [], ◌∷◌, ◌++◌, map, length, None, Ok, Err,
-    inl, inr, refl, sym, ap, subst, arith, append_assoc, append-nil}
+use Rattle.std.proofs.Common.{◌≡◌, ◌∙◌, ℕ, ◌+◌, ◌*◌, ◌≤◌, ◌==◌, Bool, true, false, cond, List, [], ◌∷◌, ◌++◌, map, length, None, Ok, Err}
+use Rattle.std.proofs.Common.{inl, inr, refl, sym, ap, subst, arith, append_assoc, append-nil}
 use Rattle.std.specs.Prelude.{flat_map, filter, sum_by}
 use Rattle.std.specs.List.{enumerate_from, range_with_len}
 use Rattle.std.proofs.lemmas.List.{length-append}
@@ -33,13 +33,18 @@ quota_from client at [] = refl
 quota_from client at (l ∷ lines) =
     let rest = quota_from client (at + 1) lines in
     elim (l.client == client) as (λ b. (l.client == client) ≡ b
-        → lines_left (cond b ((at, l) ∷ filter (λ (m : ℕ × Line). m.1.client == client) (enumerate_from (at + 1) lines))
-        (filter (λ (m : ℕ × Line). m.1.client == client) (enumerate_from (at + 1) lines))) ≡ quota (l ∷ lines) client) [
+    → lines_left (cond b ((at, l) ∷ filter (λ (m : ℕ × Line). m.1.client == client) (enumerate_from (at + 1) lines))
+    (filter (λ (m : ℕ × Line). m.1.client == client) (enumerate_from (at + 1) lines))) ≡ quota (l ∷ lines) client) [
       | true ↦ λ here. (
           let this : quota_of client l ≡ line_quota l.verb = ap (λ (b : Bool). cond b (line_quota l.verb) 0) here in
-          omega (arith, rest, this, sum_by-cons (quota_of client) l lines,
-              sum_by-cons (λ (m : ℕ × Line). line_quota m.1.verb) (at, l)
-              (filter (λ (m : ℕ × Line). m.1.client == client) (enumerate_from (at + 1) lines))))
+          omega (
+            arith,
+            rest,
+            this,
+            sum_by-cons (quota_of client) l lines,
+            sum_by-cons (λ (m : ℕ × Line). line_quota m.1.verb) (at, l)
+                (filter (λ (m : ℕ × Line). m.1.client == client) (enumerate_from (at + 1) lines)),
+          ))
       | false ↦ λ other. (
           let this : quota_of client l ≡ 0 = ap (λ (b : Bool). cond b (line_quota l.verb) 0) other in
           omega (arith, rest, this, sum_by-cons (quota_of client) l lines))
@@ -47,14 +52,29 @@ quota_from client at (l ∷ lines) =
 
 left_opening : (script : PlainScript) (client : ℕ) → left (program script client) ≤ quota script.lines client
 left_opening script client =
-    let start : Program = record { script = script; client = client; lines = []; own = []; learned = []; canvas = None; job = None;
-        unpainted = false; stage = stage.Fresh; tick = 0 } in
+    let start : Program = record {
+      script = script;
+      client = client;
+      lines = [];
+      own = [];
+      learned = [];
+      canvas = None;
+      job = None;
+      unpainted = false;
+      stage = stage.Fresh;
+      tick = 0;
+    } in
     omega (arith, left_before start (lines_from client 0 script.lines), quota_from client 0 script.lines)
 
 left_all : (script : PlainScript) (ns : List ℕ) → all_left (map (program script) ns) ≤ sum_by (quota script.lines) ns
 left_all script [] = omega arith
-left_all script (n ∷ ns) = omega (arith, left_opening script n, left_all script ns,
-    sum_by-cons left (program script n) (map (program script) ns), sum_by-cons (quota script.lines) n ns)
+left_all script (n ∷ ns) = omega (
+  arith,
+  left_opening script n,
+  left_all script ns,
+  sum_by-cons left (program script n) (map (program script) ns),
+  sum_by-cons (quota script.lines) n ns,
+)
 
 pub left_most : (script : PlainScript) → all_left (opening_show script).programs ≤ most_turns script.lines
 left_most script = left_all script (range_with_len 0 8)
@@ -88,18 +108,20 @@ module _ {K : Type 0} (took : K → List ℕ → Type 0) (script : PlainScript) 
       )
 
   pub cut_magic : (k a : K) (written : ℕ) → PutsPart took k a 0 magic written → PlaysFilm took k a script (Err (stop.WriteFault written []))
-  cut_magic k a written part = record { serial = begins_serial script start [] refl (omega arith);
-      cut = inl (record { put = part; none = refl }) }
+  cut_magic k a written part = record {
+    serial = begins_serial script start [] refl (omega arith);
+    cut = inl (record { put = part; none = refl });
+  }
 
   pub cut_journal : (k a b c : K) (middle written : ℕ) (now : Show) (order : List Turn) → Puts took k a magic
       → PlaysTurns took a b (length magic) middle start now order → first_client (map place_of now.programs) ≡ None
       → length order ≤ all_left start.programs → PutsPart took b c middle (tail_bytes order) written
-          → PlaysFilm took k c script (Err (stop.WriteFault written order))
+      → PlaysFilm took k c script (Err (stop.WriteFault written order))
   cut_journal k a b c middle written now order first plays over many part =
       let few : length order ≤ 40 * length script.lines = omega (arith, many, left_few script) in
       let frames = head_is now order plays.frames plays.run few in
       let at : middle ≡ 0 + length (head_bytes plays.frames) =
-          omega (arith, plays.written_is, length-append magic (flat_map frame_bytes plays.frames)) in
+      omega (arith, plays.written_is, length-append magic (flat_map frame_bytes plays.frames)) in
       record {
         serial = begins_serial script (with_frames plays.frames now) order plays.run few;
         cut = inr (inr (record {
@@ -119,23 +141,23 @@ module _ {K : Type 0} (took : K → List ℕ → Type 0) (script : PlainScript) 
       let fs = stops.frames ++ stops.frame ∷ [] in
       let begun : IsRun start (stops.before ++ stops.begins ∷ []) (with_frames fs stops.middle) =
       run_more start (with_frames stops.frames stops.last) (with_frames fs stops.middle) stops.before stops.begins stops.run
-          (next_behind stops.frames (stops.frame ∷ []) stops.last stops.middle stops.begins stops.begun) in
+      (next_behind stops.frames (stops.frame ∷ []) stops.last stops.middle stops.begins stops.begun) in
       let ended : IsRun start ((stops.before ++ stops.begins ∷ []) ++ stops.ends ∷ []) (with_frames (fs ++ []) now) =
       run_more start (with_frames fs stops.middle) (with_frames (fs ++ []) now) (stops.before ++ stops.begins ∷ []) stops.ends begun
-          (next_behind fs [] stops.middle now stops.ends stops.ended) in
+      (next_behind fs [] stops.middle now stops.ends stops.ended) in
       let order_is : (stops.before ++ stops.begins ∷ []) ++ stops.ends ∷ [] ≡ order =
-          append_assoc stops.before (stops.begins ∷ []) (stops.ends ∷ []) ∙ sym stops.played_is in
+      append_assoc stops.before (stops.begins ∷ []) (stops.ends ∷ []) ∙ sym stops.played_is in
       let run : IsRun start order (with_frames fs now) =
       subst (λ (gs : List Frame). IsRun start order (with_frames gs now)) (append-nil fs)
-          (subst (λ (ts : List Turn). IsRun start ts (with_frames (fs ++ []) now)) order_is ended) in
+      (subst (λ (ts : List Turn). IsRun start ts (with_frames (fs ++ []) now)) order_is ended) in
       let longer : length order ≡ length stops.before + 2 = ap length stops.played_is
-          ∙ length-append stops.before (stops.begins ∷ stops.ends ∷ []) in
+      ∙ length-append stops.before (stops.begins ∷ stops.ends ∷ []) in
       let before_frames = head_is stops.last stops.before stops.frames stops.run (omega (arith, few, longer)) in
       let begun_frames = head_is stops.middle (stops.before ++ stops.begins ∷ []) fs begun
-          (omega (arith, few, longer, length-append stops.before (stops.begins ∷ []))) in
+      (omega (arith, few, longer, length-append stops.before (stops.begins ∷ []))) in
       let frames = head_is now order fs run few in
       let joined : fs ≡ frames_after (replay script stops.before) ++ stops.frame ∷ [] =
-          ap (λ (gs : List Frame). gs ++ stops.frame ∷ []) (sym before_frames) in
+      ap (λ (gs : List Frame). gs ++ stops.frame ∷ []) (sym before_frames) in
       record {
         serial = begins_serial script (with_frames fs now) order run few;
         cut = inr (inl (record {

@@ -1,6 +1,6 @@
 -- A program whose first line is through.
-use Rattle.std.proofs.Common.{◌≡◌, ◌∙◌, ℕ, ◌+◌, ◌<◌, ◌≤◌, ◌==◌, Bool, true, cond, List, [], ◌∷◌, ◌++◌, length, take, drop, get_or, Option,
-    Some, None, refl, sym, ap, subst, arith, append-nil, IsTrue}
+use Rattle.std.proofs.Common.{◌≡◌, ◌∙◌, ℕ, ◌+◌, ◌<◌, ◌≤◌, ◌==◌, Bool, true, cond, List, [], ◌∷◌, ◌++◌, length, take, drop, get_or, Option}
+use Rattle.std.proofs.Common.{Some, None, refl, sym, ap, subst, arith, append-nil, IsTrue}
 use Rattle.std.proofs.lemmas.Bool.{eq-eqb}
 use Rattle.std.proofs.lemmas.List.{drop_more, length-append, take-append-drop}
 use Rattle.std.proofs.lemmas.List.Elements.{filter_map-append}
@@ -60,11 +60,11 @@ module _ (p : Inside) (l : Line) (sound : IsProgram p) (within : p.at < length p
   names_are =
       sound.names
       ∙ ap (bound_names p.client) (sym (take-append-drop p.at lines)
-          ∙ ap (λ (ls : List Line). take p.at lines ++ ls) (drop_more lines p.at l within
-          ∙ ap (λ (m : Line). m ∷ drop (p.at + 1) lines) (sym is)))
+      ∙ ap (λ (ls : List Line). take p.at lines ++ ls) (drop_more lines p.at l within
+      ∙ ap (λ (m : Line). m ∷ drop (p.at + 1) lines) (sym is)))
       ∙ filter_map-append (bound_by p.client) (take p.at lines) (l ∷ drop (p.at + 1) lines)
       ∙ ap (λ (names : List Name). front ++ names) (filter_map-append (bound_by p.client) (l ∷ []) (drop (p.at + 1) lines)
-          ∙ ap (λ (names : List Name). names ++ rest) (one (bound_by p.client l) refl ∙ ap option_to_list bound_is))
+      ∙ ap (λ (names : List Name). names ++ rest) (one (bound_by p.client l) refl ∙ ap option_to_list bound_is))
     where
       one : (o : Option Name) → bound_by p.client l ≡ o → bound_names p.client (l ∷ []) ≡ option_to_list (bound_by p.client l)
       one None none = rw none refl
@@ -72,8 +72,14 @@ module _ (p : Inside) (l : Line) (sound : IsProgram p) (within : p.at < length p
 
   pub has_room : IsTrue (is_some (bound_name l)) → length p.own.values < length p.own.names
   has_room binds =
-      omega (arith, sound.values, ap length names_are, length-append front (option_to_list (bound_name l) ++ rest),
-          length-append (option_to_list (bound_name l)) rest, one (bound_name l) binds)
+      omega (
+        arith,
+        sound.values,
+        ap length names_are,
+        length-append front (option_to_list (bound_name l) ++ rest),
+        length-append (option_to_list (bound_name l)) rest,
+        one (bound_name l) binds,
+      )
     where
       one : (o : Option Name) → IsTrue (is_some o) → length (option_to_list o) ≡ 1
       one None binds = absurd cc
@@ -94,7 +100,7 @@ module _ (p : Inside) (l : Line) (sound : IsProgram p) (within : p.at < length p
           ∙ ap (λ (k : ℕ). k + length (bound_value (bound_name l) v)) sound.values
           ∙ ap (λ (k : ℕ). length front + k) (as_many (bound_name l))
           ∙ sym (ap length (names_same ∙ names_more p.client lines p.at l within is
-              ∙ ap (λ (o : Option Name). front ++ option_to_list o) bound_is) ∙ length-append front (option_to_list (bound_name l)));
+          ∙ ap (λ (o : Option Name). front ++ option_to_list o) bound_is) ∙ length-append front (option_to_list (bound_name l)));
       setup = sound.setup;
       end_of_setup = sound.end_of_setup;
       ports = sound.ports;
@@ -113,14 +119,14 @@ module _ (p : Inside) (l : Line) (sound : IsProgram p) (within : p.at < length p
     leaves_done s seen passes now now_is =
         let here : lines_from p.client p.at lines ≡ (p.at, l) ∷ lines_from p.client (p.at + 1) lines =
         lines_at p.client p.at lines l within is
-            ∙ ap (λ (b : Bool). cond b ((p.at, l) ∷ lines_from p.client (p.at + 1) lines) (lines_from p.client (p.at + 1) lines)) own in
+        ∙ ap (λ (b : Bool). cond b ((p.at, l) ∷ lines_from p.client (p.at + 1) lines) (lines_from p.client (p.at + 1) lines)) own in
         let rows : known table ≡ bound (bound_name l) v (known p.own) =
         ap known bound_now
         ∙ ap (λ (names : List Name). zip names (p.own.values ++ bound_value (bound_name l) v)) names_are
         ∙ known_more front rest (bound_name l) p.own.values v sound.values
         ∙ ap (λ (names : List Name). bound (bound_name l) v (zip names p.own.values)) (sym names_are) in
         let with : List (Name × ℕ) → Option Canvas × List (ℕ × Line)
-            → Program = λ names x. record (program_of p) { own = names; canvas = x.0; lines = x.1; stage = stage.Fresh } in
+        → Program = λ names x. record (program_of p) { own = names; canvas = x.0; lines = x.1; stage = stage.Fresh } in
         ap program_of now_is
         ∙ ap (λ (names : List (Name × ℕ)). with names (canvas, lines_from p.client at lines)) rows
         ∙ ap (with (bound (bound_name l) v (known p.own))) (sym passes)

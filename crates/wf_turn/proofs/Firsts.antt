@@ -1,6 +1,6 @@
 -- The first line of a program, and what the setup hands on.
-use Rattle.std.proofs.Common.{◌≡◌, ◌∙◌, ℕ, zero, suc, ◌+◌, ◌<◌, ◌≤◌, Bool, cond, List, [], ◌∷◌, ◌++◌, length, take, drop, get_or, Option,
-    Some, None, refl, sym, ap, subst, arith}
+use Rattle.std.proofs.Common.{◌≡◌, ◌∙◌, ℕ, zero, suc, ◌+◌, ◌<◌, ◌≤◌, Bool, cond, List, [], ◌∷◌, ◌++◌, length, take, drop, get_or, Option}
+use Rattle.std.proofs.Common.{Some, None, refl, sym, ap, subst, arith}
 use Rattle.std.proofs.lemmas.Bool.{eq-eqb}
 use Rattle.std.proofs.lemmas.List.Elements.{filter_map-append}
 use Rattle.std.proofs.lemmas.List.{take-append-drop}
@@ -37,8 +37,8 @@ from_place client at lines place = of_line (slice_get lines at) refl place.here
         let within = inside lines at l some in
         let is : l ≡ get_or lines at l = cc (some, get_within lines at l within) in
         lines_at client at lines l within is
-            ∙ ap (λ (b : Bool). cond b ((at, l) ∷ lines_from client (at + 1) lines) (lines_from client (at + 1) lines))
-            (eq-eqb l.client client here)
+        ∙ ap (λ (b : Bool). cond b ((at, l) ∷ lines_from client (at + 1) lines) (lines_from client (at + 1) lines))
+        (eq-eqb l.client client here)
       where
         inside : {A : Type 0} (xs : List A) (i : ℕ) (x : A) → slice_get xs i ≡ Some x → i < length xs
         inside [] i x some = absurd cc
@@ -60,7 +60,7 @@ place_at p s l sound seen is = of_line (slice_get p.script.now.lines p.at) refl 
     of_line None none some = absurd cc
     of_line (Some m) at some =
         let here : lines_from p.client p.at p.script.now.lines ≡ (p.at, m) ∷ lines_from p.client (p.at + 1) p.script.now.lines =
-            from_place p.client p.at p.script.now.lines sound.place ∙ ap (from_line p.client p.at p.script.now.lines) at in
+        from_place p.client p.at p.script.now.lines sound.place ∙ ap (from_line p.client p.at p.script.now.lines) at in
         sym (ap (λ (ls : List (ℕ × Line)). place_of (record (program_of p) { lines = ls })) here) ∙ ap place_of seen
 
 -- the line at a program's place is its client's
@@ -89,15 +89,15 @@ setup_first lines = ap (bound_names 0) (sym (take-append-drop (setup_lines lines
 pub learns : (p clock : Inside) (s k : Program) (names : List Name) (values : List ℕ) → IsProgram p → IsProgram clock → program_of p ≡ s
     → program_of clock ≡ k → k.script ≡ s.script → k.client ≡ 0
     → names ≡ p.learned.names → values ≡ take (length p.learned.names) clock.own.values
-        → record (program_of p) { learned = zip names values } ≡ taught k s
+    → record (program_of p) { learned = zip names values } ≡ taught k s
 learns p clock s k names values sound clock_sound seen clock_seen script client names_are values_are =
     let lines = p.script.now.lines in
     let same : clock.script.now ≡ p.script.now = ap (λ (q : Program). q.script) clock_seen ∙ script
-        ∙ sym (ap (λ (q : Program). q.script) seen) in
+    ∙ sym (ap (λ (q : Program). q.script) seen) in
     let zeroth : clock.client ≡ 0 = ap (λ (q : Program). q.client) clock_seen ∙ client in
     let clock_names : clock.own.names ≡ setup_names lines ++ bound_names 0 (drop (setup_lines lines) lines) =
     clock_sound.names ∙ ap (λ (n : ℕ). bound_names n clock.script.now.lines) zeroth ∙ ap (λ (x : PlainScript). bound_names 0 x.lines) same
-        ∙ setup_first lines in
+    ∙ setup_first lines in
     let learned : zip names values ≡ take (length (setup_names lines)) (zip clock.own.names clock.own.values) =
     ap (λ (ns : List Name). zip ns values) (names_are ∙ sound.setup)
     ∙ ap (λ (vs : List ℕ). zip (setup_names lines) vs) (values_are ∙ ap (λ (ns : List Name). take (length ns) clock.own.values) sound.setup)

@@ -1,6 +1,6 @@
 -- A program that took an answer can make its next call.
-use Rattle.std.proofs.Common.{◌≡◌, ℕ, ◌+◌, ◌≤◌, ◌==◌, Bool, true, false, not, cond, ◌||◌, List, [], ◌∷◌, Option, Some, None, refl, sym, ap,
-    subst, arith, IsTrue}
+use Rattle.std.proofs.Common.{◌≡◌, ℕ, ◌+◌, ◌≤◌, ◌==◌, Bool, true, false, not, cond, ◌||◌, List, [], ◌∷◌, Option, Some, None, refl, sym, ap}
+use Rattle.std.proofs.Common.{subst, arith, IsTrue}
 use Rattle.std.specs.Prelude.{nat_lt}
 use Rattle.std.specs.Option.{is_some, option_map, IfSome, IsSome}
 use Rattle.std.proofs.lemmas.Bool.{ltb-false, ltb-true, or_parts}
@@ -19,9 +19,9 @@ use Rattle.wf_turn.specs.declared.stage.Stage.{Stage}
 use Rattle.wf_turn.specs.declared.stage.Stage.TheVariants as stage
 use Rattle.wf_turn.specs.declared.stage.Wanted.{Wanted}
 use Rattle.wf_turn.specs.Names.{bound_name}
-use Rattle.wf_turn.specs.Program.{Program, asked_next, at_port, before, bound, first_call, first_line, first_of, given_canvas, go_on,
-    is_event, line_done, next, painted_job, port_count, silent, skipped, taught, ticking, took, took_at, took_first, took_frame, took_job,
-    took_leg, wanted_at, worked}
+use Rattle.wf_turn.specs.Program.{Program, asked_next, at_port, before, bound, first_call, first_line, first_of, given_canvas, go_on}
+use Rattle.wf_turn.specs.Program.{is_event, line_done, next, painted_job, port_count, silent, skipped, taught, ticking, took, took_at}
+use Rattle.wf_turn.specs.Program.{took_first, took_frame, took_job, took_leg, wanted_at, worked}
 use Rattle.wf_turn.specs.Ready.{IsAnswered, IsAsking, IsAt, IsFit}
 
 -- where lines are skipped, an event stands first
@@ -30,7 +30,7 @@ skips_to : (canvas : Option Canvas) (ls : List (ℕ × Line))
 skips_to canvas [] = tt
 skips_to canvas (l ∷ ls) =
     elim (is_event (is_some canvas) l.1.verb) as (λ b. is_event (is_some canvas) l.1.verb ≡ b
-        → Fits (cond b (canvas, l ∷ ls) (skipped (silent l.1.verb canvas) ls))) [
+    → Fits (cond b (canvas, l ∷ ls) (skipped (silent l.1.verb canvas) ls))) [
       | true ↦ λ is. is
       | false ↦ λ is. skips_to (silent l.1.verb canvas) ls
     ] refl
@@ -59,13 +59,13 @@ holds_done p v few = of_lines p.lines refl
         subst Holds (sym same) (record { at = tt; ports = few })
     of_lines (l ∷ ls) is =
         let same : line_done p v ≡ before (record p { own = bound (bound_name l.1) v p.own }) ls =
-            ap (λ (ms : List (ℕ × Line)). line_done (record p { lines = ms }) v) is in
+        ap (λ (ms : List (ℕ × Line)). line_done (record p { lines = ms }) v) is in
         subst Holds (sym same) (holds_before (record p { own = bound (bound_name l.1) v p.own }) ls few)
 
 holds_ports : (p : Program) (port : ℕ) → port_count p ≤ 4 → Holds (at_port p port)
 holds_ports p port few =
     elim (nat_lt (port_count p) port) as (λ b. nat_lt (port_count p) port ≡ b
-        → Holds (cond b (line_done p 0) (record p { stage = stage.Ticking (leg.Ports port) }))) [
+    → Holds (cond b (line_done p 0) (record p { stage = stage.Ticking (leg.Ports port) }))) [
       | true ↦ λ over. holds_done p 0 few
       | false ↦ λ within. record { at = if_some (first_line p) (λ l. ltb-false (port_count p) port within); ports = few }
     ] refl
@@ -73,12 +73,14 @@ holds_ports p port few =
 holds_asked : (p : Program) (asked last : ℕ) → port_count p ≤ 4 → Holds (asked_next p asked last)
 holds_asked p asked last few =
     elim ((last == 0) || not (nat_lt asked 16)) as (λ b. ((last == 0) || not (nat_lt asked 16)) ≡ b
-        → Holds (cond b (at_port p 1) (record p { stage = stage.Ticking (leg.Contexts asked last) }))) [
+    → Holds (cond b (at_port p 1) (record p { stage = stage.Ticking (leg.Contexts asked last) }))) [
       | true ↦ λ over. holds_ports p 1 few
       | false ↦
-          λ on. record
-          { at = if_some (first_line p) (λ l. ltb-true asked 16
-          (below (nat_lt asked 16) (or_parts (last == 0) (not (nat_lt asked 16)) on).1)); ports = few }
+          λ on. record {
+            at = if_some (first_line p) (λ l. ltb-true asked 16
+                (below (nat_lt asked 16) (or_parts (last == 0) (not (nat_lt asked 16)) on).1));
+            ports = few;
+          }
     ] refl
   where
     below : (b : Bool) → not b ≡ false → b ≡ true

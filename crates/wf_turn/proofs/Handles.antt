@@ -26,9 +26,9 @@ value_either : (name : Name) (xs ys : List (Name × ℕ)) → value_of name (xs 
 value_either name [] ys = refl
 value_either name (x ∷ xs) ys =
     elim (bytes_eq x.0 name) as (λ b. option_map (λ (row : Name × ℕ). row.1)
-        (cond b (Some x) (find (λ (row : Name × ℕ). bytes_eq row.0 name) (xs ++ ys)))
-        ≡ or_else (option_map (λ (row : Name × ℕ). row.1) (cond b (Some x) (find (λ (row : Name × ℕ). bytes_eq row.0 name) xs)))
-        (value_of name ys)) [
+    (cond b (Some x) (find (λ (row : Name × ℕ). bytes_eq row.0 name) (xs ++ ys)))
+    ≡ or_else (option_map (λ (row : Name × ℕ). row.1) (cond b (Some x) (find (λ (row : Name × ℕ). bytes_eq row.0 name) xs)))
+    (value_of name ys)) [
       | true ↦ refl
       | false ↦ value_either name xs ys
     ]

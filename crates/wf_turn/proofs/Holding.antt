@@ -1,6 +1,6 @@
 -- The Job that a program holds, and whether that is not painted yet: what is true of both stays true through an answer.
-use Rattle.std.proofs.Common.{◌≡◌, ℕ, zero, suc, ◌+◌, Bool, true, false, not, cond, ◌==◌, ◌&&◌, ◌||◌, List, [], ◌∷◌, map, Option, Some,
-    None, refl, set}
+use Rattle.std.proofs.Common.{◌≡◌, ℕ, zero, suc, ◌+◌, Bool, true, false, not, cond, ◌==◌, ◌&&◌, ◌||◌, List, [], ◌∷◌, map, Option, Some}
+use Rattle.std.proofs.Common.{None, refl, set}
 use Rattle.std.specs.Prelude.{nat_lt}
 use Rattle.wf_image.specs.declared.canvas.Canvas.{Canvas}
 use Rattle.wf_image.specs.declared.paint.Paint.{Paint}
@@ -15,8 +15,8 @@ use Rattle.wf_turn.specs.declared.stage.Leg.{Leg}
 use Rattle.wf_turn.specs.declared.stage.Leg.TheVariants as leg
 use Rattle.wf_turn.specs.declared.stage.Stage.TheVariants as stage
 use Rattle.wf_turn.specs.declared.stage.Wanted.{Wanted}
-use Rattle.wf_turn.specs.Program.{Program, at_port, given_canvas, go_on, line_done, next, port_count, program, taught, took, took_frame,
-    took_job}
+use Rattle.wf_turn.specs.Program.{Program, at_port, given_canvas, go_on, line_done, next, port_count, program, taught, took, took_frame}
+use Rattle.wf_turn.specs.Program.{took_job}
 use Rattle.wf_turn.specs.Turns.{all_taught, handed_on, is_setting_up}
 use Rattle.wf_words.specs.Each.{each_mapped, each_set}
 use Rattle.std.specs.List.{AllByRecursion, range_with_len}
@@ -36,13 +36,18 @@ module _ (Q : Option Job → Bool → Type 0) where
   port_holds : (p : Program) (port : ℕ) → Holds p → Holds (at_port p port)
   port_holds p port holds =
       elim (nat_lt (port_count p) port) as (λ b. Holds (cond b (line_done p 0) (record p { stage = stage.Ticking (leg.Ports port) }))) [
-          true ↦ done_holds p 0 holds | false ↦ holds ]
+        | true ↦ done_holds p 0 holds
+        | false ↦ holds
+      ]
 
   pub on_holds : (p : Program) (l : Leg) → Holds p → Holds (go_on p l)
   on_holds p (leg.Contexts asked last) holds =
       elim ((last == 0) || not (nat_lt asked 16)) as (λ b. Holds
-          (cond b (at_port p 1) (record p { stage = stage.Ticking (leg.Contexts asked last) }))) [ true ↦ port_holds p 1 holds | false ↦
-          holds ]
+      (cond b (at_port p 1) (record p { stage = stage.Ticking (leg.Contexts asked last) }))) [
+        | true ↦ port_holds p 1 holds
+        | false ↦
+            holds
+      ]
   on_holds p (leg.Ports port) holds = port_holds p port holds
 
   frame_holds : (p : Program) (paint : Paint) (canvas : Option Canvas) → Holds p → Holds (took_frame p paint canvas)

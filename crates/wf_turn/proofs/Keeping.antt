@@ -1,6 +1,6 @@
 -- What an answer leaves of a program: all but its lines, its names, what it holds, its stage and its tick.
-use Rattle.std.proofs.Common.{◌≡◌, ℕ, ◌+◌, Bool, true, false, not, cond, ◌==◌, ◌||◌, List, [], ◌∷◌, Option, Some, None, refl, sym, ap,
-    subst}
+use Rattle.std.proofs.Common.{◌≡◌, ℕ, ◌+◌, Bool, true, false, not, cond, ◌==◌, ◌||◌, List, [], ◌∷◌, Option, Some, None, refl, sym, ap}
+use Rattle.std.proofs.Common.{subst}
 use Rattle.std.specs.Prelude.{nat_lt}
 use Rattle.std.specs.Option.{option_map}
 use Rattle.wf_image.specs.declared.canvas.Canvas.{Canvas}
@@ -18,8 +18,8 @@ use Rattle.wf_turn.specs.declared.stage.Leg.TheVariants as leg
 use Rattle.wf_turn.specs.declared.stage.Stage.{Stage}
 use Rattle.wf_turn.specs.declared.stage.Stage.TheVariants as stage
 use Rattle.wf_turn.specs.Names.{bound_name}
-use Rattle.wf_turn.specs.Program.{Program, at_port, before, bound, first_line, given_canvas, go_on, line_done, painted_canvas, painted_job,
-    port_count, skipped, ticking, took, took_at, took_first, took_frame, took_job, took_leg, worked}
+use Rattle.wf_turn.specs.Program.{Program, at_port, before, bound, first_line, given_canvas, go_on, line_done, painted_canvas, painted_job}
+use Rattle.wf_turn.specs.Program.{port_count, skipped, ticking, took, took_at, took_first, took_frame, took_job, took_leg, worked}
 
 -- a program whose changing parts are these
 abbrev pub changed : Program → List (ℕ × Line) → List (Name × ℕ) → Option Canvas → Option Job → Bool → Stage → ℕ → Program
@@ -39,9 +39,9 @@ module _ (P : Program
           subst P (sym same) (keeps p [] p.own p.canvas p.job p.unpainted p.stage p.tick holds)
       of_lines (l ∷ ls) is =
           let same : line_done p v ≡ before (record p { own = bound (bound_name l.1) v p.own }) ls =
-              ap (λ (ms : List (ℕ × Line)). line_done (record p { lines = ms }) v) is in
+          ap (λ (ms : List (ℕ × Line)). line_done (record p { lines = ms }) v) is in
           subst P (sym same) (keeps p (skipped p.canvas ls).1 (bound (bound_name l.1) v p.own) (skipped p.canvas ls).0 p.job p.unpainted
-              stage.Fresh p.tick holds)
+          stage.Fresh p.tick holds)
 
   keeps_at : (p : Program) (s : Stage) → P p → P (record p { stage = s })
   keeps_at p s holds = keeps p p.lines p.own p.canvas p.job p.unpainted s p.tick holds
@@ -49,13 +49,18 @@ module _ (P : Program
   keeps_port : (p : Program) (port : ℕ) → P p → P (at_port p port)
   keeps_port p port holds =
       elim (nat_lt (port_count p) port) as (λ b. P (cond b (line_done p 0) (record p { stage = stage.Ticking (leg.Ports port) }))) [
-          true ↦ keeps_done p 0 holds | false ↦ keeps_at p _ holds ]
+        | true ↦ keeps_done p 0 holds
+        | false ↦ keeps_at p _ holds
+      ]
 
   keeps_on : (p : Program) (l : Leg) → P p → P (go_on p l)
   keeps_on p (leg.Contexts asked last) holds =
       elim ((last == 0) || not (nat_lt asked 16)) as (λ b. P
-          (cond b (at_port p 1) (record p { stage = stage.Ticking (leg.Contexts asked last) }))) [ true ↦ keeps_port p 1 holds | false ↦
-          keeps_at p _ holds ]
+      (cond b (at_port p 1) (record p { stage = stage.Ticking (leg.Contexts asked last) }))) [
+        | true ↦ keeps_port p 1 holds
+        | false ↦
+            keeps_at p _ holds
+      ]
   keeps_on p (leg.Ports port) holds = keeps_port p port holds
 
   keeps_job : (p : Program) (given : Payload) (l : Leg) → P p → P (took_job p given l)
@@ -79,7 +84,7 @@ module _ (P : Program
   keeps_first p l (verb.Frame s paint) reply holds = keeps_frame p paint (given_canvas reply.payload) holds
   keeps_first p l verb.Tick reply holds =
       keeps_job (ticking p) reply.payload (leg.Contexts 1 reply.value)
-          (keeps p p.lines p.own p.canvas p.job p.unpainted (stage.Ticking (leg.Contexts 0 0)) (p.tick + 1) holds)
+      (keeps p p.lines p.own p.canvas p.job p.unpainted (stage.Ticking (leg.Contexts 0 0)) (p.tick + 1) holds)
   keeps_first p l _ reply holds = keeps_done p reply.value holds
 
   keeps_leg : (p : Program) (reply : Reply) (l : Leg) → P p → P (took_leg p reply l)
@@ -112,14 +117,14 @@ pub same_script : (p : Program) (reply : Reply) → (worked (took p reply)).scri
 same_script p reply =
     let P : Program → Type 0 = λ q. q.script ≡ p.script in
     let keeps =
-        λ (q : Program) (lines : List (ℕ × Line)) (own : List (Name × ℕ)) (canvas : Option Canvas) (job : Option Job)
-          (unpainted : Bool) (s : Stage) (tick : ℕ) (h : q.script ≡ p.script). h in
+    λ (q : Program) (lines : List (ℕ × Line)) (own : List (Name × ℕ)) (canvas : Option Canvas) (job : Option Job)
+    (unpainted : Bool) (s : Stage) (tick : ℕ) (h : q.script ≡ p.script). h in
     keeps_worked P keeps (took p reply) (keeps_took P keeps p reply refl)
 
 pub same_client : (p : Program) (reply : Reply) → (worked (took p reply)).client ≡ p.client
 same_client p reply =
     let P : Program → Type 0 = λ q. q.client ≡ p.client in
     let keeps =
-        λ (q : Program) (lines : List (ℕ × Line)) (own : List (Name × ℕ)) (canvas : Option Canvas) (job : Option Job)
-          (unpainted : Bool) (s : Stage) (tick : ℕ) (h : q.client ≡ p.client). h in
+    λ (q : Program) (lines : List (ℕ × Line)) (own : List (Name × ℕ)) (canvas : Option Canvas) (job : Option Job)
+    (unpainted : Bool) (s : Stage) (tick : ℕ) (h : q.client ≡ p.client). h in
     keeps_worked P keeps (took p reply) (keeps_took P keeps p reply refl)

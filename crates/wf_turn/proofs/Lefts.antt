@@ -1,6 +1,6 @@
 -- Each answer leaves a program with fewer events to make.
-use Rattle.std.proofs.Common.{◌≡◌, ◌∙◌, ℕ, ◌+◌, ◌*◌, ◌-◌, ◌≤◌, ◌==◌, true, false, not, cond, ◌||◌, List, [], ◌∷◌, Option, Some, None, refl,
-    sym, ap, subst, arith, IsTrue}
+use Rattle.std.proofs.Common.{◌≡◌, ◌∙◌, ℕ, ◌+◌, ◌*◌, ◌-◌, ◌≤◌, ◌==◌, true, false, not, cond, ◌||◌, List, [], ◌∷◌, Option, Some, None, refl}
+use Rattle.std.proofs.Common.{sym, ap, subst, arith, IsTrue}
 use Rattle.std.specs.Prelude.{nat_lt}
 use Rattle.std.specs.Option.{is_some, option_map, IfSome}
 use Rattle.std.proofs.lemmas.List.Sums.{sum_by-cons}
@@ -17,8 +17,9 @@ use Rattle.wf_turn.specs.declared.stage.Leg.TheVariants as leg
 use Rattle.wf_turn.specs.declared.stage.Stage.{Stage}
 use Rattle.wf_turn.specs.declared.stage.Stage.TheVariants as stage
 use Rattle.wf_turn.specs.Names.{bound_name}
-use Rattle.wf_turn.specs.Program.{Program, asked_next, at_port, before, bound, first_line, first_of, given_canvas, go_on, is_event,
-    line_done, painted_job, port_count, silent, skipped, ticking, took, took_at, took_first, took_frame, took_job, took_leg, worked}
+use Rattle.wf_turn.specs.Program.{Program, asked_next, at_port, before, bound, first_line, first_of, given_canvas, go_on, is_event}
+use Rattle.wf_turn.specs.Program.{line_done, painted_job, port_count, silent, skipped, ticking, took, took_at, took_first, took_frame}
+use Rattle.wf_turn.specs.Program.{took_job, took_leg, worked}
 use Rattle.wf_turn.specs.Quota.{left, leg_left, line_quota, lines_left, stage_left}
 use Rattle.wf_turn.specs.Ready.{IsAsking, IsAt, IsFit}
 
@@ -30,7 +31,7 @@ left_skipped : (p : Program) (canvas : Option Canvas) (ls : List (ℕ × Line))
 left_skipped p canvas [] = omega arith
 left_skipped p canvas (l ∷ ls) =
     elim (is_event (is_some canvas) l.1.verb) as (λ b. Left (cond b (canvas, l ∷ ls) (skipped (silent l.1.verb canvas) ls)) ≤ lines_left (l
-        ∷ ls)) [
+    ∷ ls)) [
       | true ↦ omega (arith, one_line l ls)
       | false ↦ (let rest = left_skipped p (silent l.1.verb canvas) ls in omega (arith, rest, one_line l ls))
     ]
@@ -52,8 +53,8 @@ module _ (p : Program) (l : ℕ × Line) (ls : List (ℕ × Line)) where
   left_ports : (port : ℕ) → left (at_port at_line port) ≤ 2 * (port_count p + 1 - port) + lines_left ls
   left_ports port =
       elim (nat_lt (port_count p) port)
-          as (λ b. left (cond b (line_done at_line 0) (record at_line { stage = stage.Ticking (leg.Ports port) })) ≤
-          2 * (port_count p + 1 - port) + lines_left ls) [
+      as (λ b. left (cond b (line_done at_line 0) (record at_line { stage = stage.Ticking (leg.Ports port) })) ≤
+      2 * (port_count p + 1 - port) + lines_left ls) [
         | true ↦ omega (arith, left_done 0)
         | false ↦ omega arith
       ]
@@ -61,8 +62,8 @@ module _ (p : Program) (l : ℕ × Line) (ls : List (ℕ × Line)) where
   left_asked : (asked last : ℕ) → left (asked_next at_line asked last) ≤ 2 * (16 - asked) + 2 * port_count p + lines_left ls
   left_asked asked last =
       elim ((last == 0) || not (nat_lt asked 16)) as (λ b. left
-          (cond b (at_port at_line 1) (record at_line { stage = stage.Ticking (leg.Contexts asked last) })) ≤
-          2 * (16 - asked) + 2 * port_count p + lines_left ls) [
+      (cond b (at_port at_line 1) (record at_line { stage = stage.Ticking (leg.Contexts asked last) })) ≤
+      2 * (16 - asked) + 2 * port_count p + lines_left ls) [
         | true ↦ omega (arith, left_ports 1)
         | false ↦ omega arith
       ]
@@ -119,7 +120,7 @@ left_took p l reply fit is = of_lines p.lines refl
     of_lines (m ∷ ls) some =
         let same : p ≡ record p { lines = m ∷ ls } = ap (λ (ms : List (ℕ × Line)). record p { lines = ms }) some in
         let at : IsAt (record p { lines = m ∷ ls }) m.1 p.stage =
-            subst (λ (ms : List (ℕ × Line)). IfSome (first_of ms) (λ k. IsAt (record p { lines = ms }) k p.stage)) some fit.at in
+        subst (λ (ms : List (ℕ × Line)). IfSome (first_of ms) (λ k. IsAt (record p { lines = ms }) k p.stage)) some fit.at in
         let less = left_at p m ls p.stage reply at fit.ports in
         let full : left (worked (took (record p { lines = m ∷ ls }) reply)) + 1 ≤ left (record p { lines = m ∷ ls }) =
         rw (left_worked (took (record p { lines = m ∷ ls }) reply)) (omega (arith, less)) in

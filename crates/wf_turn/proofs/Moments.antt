@@ -18,8 +18,8 @@ use Rattle.wf_turn.specs.declared.stage.Leg.TheVariants as leg
 use Rattle.wf_turn.specs.declared.stage.Wanted.{Wanted}
 use Rattle.wf_turn.specs.Moments.{Begins, IsOfMoment}
 use Rattle.wf_turn.specs.Play.{frames_after, is_marked, replay}
-use Rattle.wf_turn.specs.Program.{given_canvas, go_on, line_done, next, painted_job, Program, took, took_canvas, took_frame, took_job,
-    worked, plain, asked_for}
+use Rattle.wf_turn.specs.Program.{given_canvas, go_on, line_done, next, painted_job, Program, took, took_canvas, took_frame, took_job}
+use Rattle.wf_turn.specs.Program.{worked, plain, asked_for}
 use Rattle.wf_turn.specs.Turns.{Show, frames_of, shown, turn, program_at}
 use Rattle.wf_turn.proofs.Begins.{nothing_shown}
 use Rattle.wf_turn.proofs.Cases.{turn_case, IsTick, asks_begin}
@@ -34,38 +34,38 @@ use Rattle.wf_calls.specs.Replies.{bare}
 
 -- the turn of a program: what it shows behind the answer, the entry of the answer tells
 module _ (show : Show) (client : ℕ) (m : Bool) (p : Program) (stands : program_at show client ≡ Some p) (painted : p.unpainted ≡ false)
-    where
-  abbrev h : State
-  h = show.state
+  where
+    abbrev h : State
+    h = show.state
 
-  abbrev AreBegun : Turn → List Frame → Type 0
-  AreBegun t frames = All (λ f. Begins f show t) frames
+    abbrev AreBegun : Turn → List Frame → Type 0
+    AreBegun t frames = All (λ f. Begins f show t) frames
 
-  none_begun : (t : Turn) (q : Program) → q.unpainted ≡ false → AreBegun t (frames_of q)
-  none_begun t q clean = subst (AreBegun t) (sym (nothing_shown q clean)) (All-nil (λ f. Begins f show t))
+    none_begun : (t : Turn) (q : Program) → q.unpainted ≡ false → AreBegun t (frames_of q)
+    none_begun t q clean = subst (AreBegun t) (sym (nothing_shown q clean)) (All-nil (λ f. Begins f show t))
 
-  abbrev Told : Wanted → (Reply → Program) → Type 0
-  Told w now = next p ≡ Some w → AreBegun (entry client (step h client w.call m).1) (frames_of (now (step h client w.call m).1))
+    abbrev Told : Wanted → (Reply → Program) → Type 0
+    Told w now = next p ≡ Some w → AreBegun (entry client (step h client w.call m).1) (frames_of (now (step h client w.call m).1))
 
-  -- a call whose answer brings no Job
-  at_other : (c : Call) (now : Reply → Program) → ((reply : Reply) → (now reply).unpainted ≡ false) → Told (plain c) now
-  at_other c now clean asks = (let reply = (step h client c m).1 in none_begun (entry client reply) (now reply) (clean reply))
+    -- a call whose answer brings no Job
+    at_other : (c : Call) (now : Reply → Program) → ((reply : Reply) → (now reply).unpainted ≡ false) → Told (plain c) now
+    at_other c now clean asks = (let reply = (step h client c m).1 in none_begun (entry client reply) (now reply) (clean reply))
 
-  -- a frame that a question begins
-  begun : (l : Leg) (tick : ℕ) → IsTick p l tick → next p ≡ Some (asked_for l) → (b : Beginning)
-      → begin_call (asked_for l).call h ≡ Ok (Some b)
-      → AreBegun (entry client (start b h).1) (shown b.kind tick (painted_job (job_of b h)))
-  begun (leg.Contexts asked last) tick at asks b is =
-      let own = next_is last h b is in
-      let t = entry client (start b h).1 in
-      subst (λ (k : JobKind). AreBegun t (shown k tick (painted_job (job_of b h)))) (sym (ap (λ (x : Beginning). x.kind) own.is))
-      (All-nil (λ f. Begins f show t))
-  begun (leg.Ports port) tick at asks b is =
-      let own = port_is (pos port) h b is in
-      let its = port_beginning (pos port) own.scene in
-      let t = entry client (start its h).1 in
-      subst (λ (x : Beginning). AreBegun (entry client (start x h).1) (shown x.kind tick (painted_job (job_of x h)))) (sym own.is)
-      (All-cons (λ f. Begins f show t) (frame_of port tick (painted_job (job_of its h)).image) []
+    -- a frame that a question begins
+    begun : (l : Leg) (tick : ℕ) → IsTick p l tick → next p ≡ Some (asked_for l) → (b : Beginning)
+        → begin_call (asked_for l).call h ≡ Ok (Some b)
+        → AreBegun (entry client (start b h).1) (shown b.kind tick (painted_job (job_of b h)))
+    begun (leg.Contexts asked last) tick at asks b is =
+        let own = next_is last h b is in
+        let t = entry client (start b h).1 in
+        subst (λ (k : JobKind). AreBegun t (shown k tick (painted_job (job_of b h)))) (sym (ap (λ (x : Beginning). x.kind) own.is))
+        (All-nil (λ f. Begins f show t))
+    begun (leg.Ports port) tick at asks b is =
+        let own = port_is (pos port) h b is in
+        let its = port_beginning (pos port) own.scene in
+        let t = entry client (start its h).1 in
+        subst (λ (x : Beginning). AreBegun (entry client (start x h).1) (shown x.kind tick (painted_job (job_of x h)))) (sym own.is)
+        (All-cons (λ f. Begins f show t) (frame_of port tick (painted_job (job_of its h)).image) []
         (record {
           asks = record { program = p; own = stands; next_is = asks };
           tick = at;
@@ -75,30 +75,30 @@ module _ (show : Show) (client : ℕ) (m : Bool) (p : Program) (stands : program
         })
         (All-nil (λ f. Begins f show t)))
 
-  at_question : (l : Leg) (tick : ℕ) (s : Stage) (leg_of : ℕ → Leg) → IsTick p l tick
-      → Told (asked_for l) (λ reply. took_job (record p { tick = tick; stage = s }) reply.payload (leg_of reply.value))
-  unfolding step
-  at_question l tick s leg_of at asks =
-      let q = record p { tick = tick; stage = s } in
-      by_begin (λ x. AreBegun (entry client x.1) (frames_of (took_job q x.1.payload (leg_of x.1.value)))) h (asked_for l).call m
-      (asks_begin l)
-      (λ a. none_begun (entry client (bare a)) (go_on q (leg_of a.value)) (on_painted q painted (leg_of a.value)))
-      (begun l tick at asks)
+    at_question : (l : Leg) (tick : ℕ) (s : Stage) (leg_of : ℕ → Leg) → IsTick p l tick
+        → Told (asked_for l) (λ reply. took_job (record p { tick = tick; stage = s }) reply.payload (leg_of reply.value))
+    unfolding step
+    at_question l tick s leg_of at asks =
+        let q = record p { tick = tick; stage = s } in
+        by_begin (λ x. AreBegun (entry client x.1) (frames_of (took_job q x.1.payload (leg_of x.1.value)))) h (asked_for l).call m
+        (asks_begin l)
+        (λ a. none_begun (entry client (bare a)) (go_on q (leg_of a.value)) (on_painted q painted (leg_of a.value)))
+        (begun l tick at asks)
 
-  pub turn_told : (w : Wanted) → next p ≡ Some w → Told w (took p)
-  turn_told w asks =
-      turn_case p Told w
-      (record {
-        canvas = λ c still. at_other c (λ reply. took_canvas p reply.payload) (canvas_painted p painted);
-        value = λ c still. at_other c (λ reply. line_done p reply.value) (λ reply. done_painted p painted reply.value);
-        frame = λ s paint.
-            at_other (call.Acquire s) (λ reply. took_frame p paint (given_canvas reply.payload))
-            (λ reply. frame_painted p painted paint (given_canvas reply.payload));
-        asks = at_question;
-        ended = λ job held l.
-            at_other (call.End job) (λ reply. go_on (record p { job = None; unpainted = false }) l)
-            (λ reply. on_painted (record p { job = None; unpainted = false }) refl l);
-      }) asks
+    pub turn_told : (w : Wanted) → next p ≡ Some w → Told w (took p)
+    turn_told w asks =
+        turn_case p Told w
+        (record {
+          canvas = λ c still. at_other c (λ reply. took_canvas p reply.payload) (canvas_painted p painted);
+          value = λ c still. at_other c (λ reply. line_done p reply.value) (λ reply. done_painted p painted reply.value);
+          frame = λ s paint.
+              at_other (call.Acquire s) (λ reply. took_frame p paint (given_canvas reply.payload))
+              (λ reply. frame_painted p painted paint (given_canvas reply.payload));
+          asks = at_question;
+          ended = λ job held l.
+              at_other (call.End job) (λ reply. go_on (record p { job = None; unpainted = false }) l)
+              (λ reply. on_painted (record p { job = None; unpainted = false }) refl l);
+        }) asks
 
 -- what a turn adds to a show: frames that its entry tells of
 record Adds (show after : Show) (t : Turn) : Type 0 where
@@ -131,7 +131,7 @@ module _ (script : PlainScript) (order : List Turn) where
   turn_keeps show after step are =
       let t : Turn = step.entry in
       let adds = turn_adds show t.client (is_marked t) (after, t) are.painted
-          (taken_turn t (turn show t.client (is_marked t)) after step.takes) in
+      (taken_turn t (turn show t.client (is_marked t)) after step.takes) in
       let own : (f : Frame) → Begins f show t → IsOfMoment script order f = λ f begins. at_step (Begins f) step begins in
       record {
         painted = adds.painted;

@@ -19,26 +19,44 @@ use Rattle.wf_turn.proofs.Fitting.{fit_before}
 few_ports : (script : PlainScript) → may_declare script.ports ≡ true → length script.ports.modes.items ≤ 4
 few_ports script declared =
     let first = and_parts ((nat_le 1 (length script.ports.modes.items) && nat_le (length script.ports.modes.items) 4)
-        && list_all may_have script.ports.modes.items) (nat_le script.ports.pipes 8) declared in
+    && list_all may_have script.ports.modes.items) (nat_le script.ports.pipes 8) declared in
     let second = and_parts (nat_le 1 (length script.ports.modes.items) && nat_le (length script.ports.modes.items) 4)
-        (list_all may_have script.ports.modes.items) first.0 in
+    (list_all may_have script.ports.modes.items) first.0 in
     let third = and_parts (nat_le 1 (length script.ports.modes.items)) (nat_le (length script.ports.modes.items) 4) second.0 in
     leb-true (length script.ports.modes.items) 4 third.1
 
 are_opening : (script : PlainScript) → length script.ports.modes.items ≤ 4 → (k n : ℕ)
     → AreOf script k (map (program script) (range_with_len k n))
 are_opening script few k zero = tt
-are_opening script few k (suc n) = (refl, refl, fit_before (start k) (lines_from k 0 script.lines) few refl,
-    are_opening script few (k + 1) n)
+are_opening script few k (suc n) = (
+  refl,
+  refl,
+  fit_before (start k) (lines_from k 0 script.lines) few refl,
+  are_opening script few (k + 1) n,
+)
   where
     start : ℕ → Program
-    start client = record { script = script; client = client; lines = []; own = []; learned = []; canvas = None; job = None;
-        unpainted = false; stage = stage.Fresh; tick = 0 }
+    start client = record {
+      script = script;
+      client = client;
+      lines = [];
+      own = [];
+      learned = [];
+      canvas = None;
+      job = None;
+      unpainted = false;
+      stage = stage.Fresh;
+      tick = 0;
+    }
 
 pub opening_cast : (script : PlainScript) → may_declare script.ports ≡ true → IsCast (opening_show script)
 opening_cast script declared =
-    record { script = script; programs = are_opening script (few_ports script declared) 0 8;
-        eight = length-map (range_with_len 0 8) (program script); alone = tt }
+    record {
+      script = script;
+      programs = are_opening script (few_ports script declared) 0 8;
+      eight = length-map (range_with_len 0 8) (program script);
+      alone = tt;
+    }
 
 -- no program has a Job
 pub opening_painted : (script : PlainScript) → ArePainted (opening_show script).programs
@@ -54,4 +72,4 @@ range_more n = from 1 n ∙ ap (λ (k : ℕ). range_with_len 1 n ++ k ∷ []) (o
         let shift : suc n + 1 ≡ suc (n + 1) = omega arith in
         let at : a + 1 + n ≡ a + suc n = omega arith in
         ap (range_with_len a) shift ∙ ap (λ (ns : List ℕ). a ∷ ns) (from (a + 1) n)
-            ∙ ap (λ (k : ℕ). a ∷ range_with_len (a + 1) n ++ k ∷ []) at
+        ∙ ap (λ (k : ℕ). a ∷ range_with_len (a + 1) n ++ k ∷ []) at

@@ -14,8 +14,8 @@ use Rattle.wf_image.specs.Contents.{image_of}
 use Rattle.wf_stream.specs.Streams.{KeptStream, stream_at}
 use Rattle.wf_calls.specs.declared.call.JobKind.{JobKind}
 use Rattle.wf_calls.specs.declared.call.JobKind.TheVariants as kind
-use Rattle.wf_model.specs.Frames.{Beginning, content_shape, has_shape, is_of_frame, job_of, newest_images, newest_of, running_of,
-    same_kind, scene_streams}
+use Rattle.wf_model.specs.Frames.{Beginning, content_shape, has_shape, is_of_frame, job_of, newest_images, newest_of, running_of, same_kind}
+use Rattle.wf_model.specs.Frames.{scene_streams}
 use Rattle.wf_model.specs.Picture.{Images}
 use Rattle.wf_model.specs.State.{State}
 use Rattle.wf_turn.specs.Program.{painted_job}
@@ -86,5 +86,11 @@ own_job b h =
     let streams = scene_streams b.scene in
     let images = newest_images streams h.streams in
     let shaped = all_shaped images (newest_apart streams h.streams (once_none_twice _)) images (λ n i found. found) in
-    rw (eq-eqb (h.begun + 1) (h.begun + 1) refl, same_kinds b.kind, same_sizes b.scene.size, same_formats b.format,
-        length-map images content_shape, eq-eqb (length images) (length images) refl) shaped
+    rw (
+      eq-eqb (h.begun + 1) (h.begun + 1) refl,
+      same_kinds b.kind,
+      same_sizes b.scene.size,
+      same_formats b.format,
+      length-map images content_shape,
+      eq-eqb (length images) (length images) refl,
+    ) shaped

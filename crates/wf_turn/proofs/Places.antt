@@ -1,6 +1,6 @@
 -- Names that are added to an index.
-use Rattle.std.proofs.Common.{◌≡◌, ◌∙◌, ℕ, zero, suc, Bool, true, false, cond, List, [], ◌∷◌, ◌++◌, length, Option, Some, None, refl, sym,
-    ap, Bor}
+use Rattle.std.proofs.Common.{◌≡◌, ◌∙◌, ℕ, zero, suc, Bool, true, false, cond, List, [], ◌∷◌, ◌++◌, length, Option, Some, None, refl, sym}
+use Rattle.std.proofs.Common.{ap, Bor}
 use Rattle.std.proofs.lemmas.Slice.Eq.{bytes_eq-Decides}
 use Rattle.std.specs.Option.{is_some, option_copied}
 use Rattle.std.specs.Str.{bytes_eq}
@@ -17,7 +17,7 @@ place_behind : (q n : Name) (names : List Name) → place_in q (names ++ n ∷ [
 place_behind q n [] = refl
 place_behind q n (m ∷ names) =
     elim (bytes_eq m q) as (λ b. cond b (Some zero) (next_place (place_in q (names ++ n ∷ [])))
-        ≡ place_or (cond b (Some zero) (next_place (place_in q names))) (cond (bytes_eq n q) (Some (suc (length names))) None)) [
+    ≡ place_or (cond b (Some zero) (next_place (place_in q names))) (cond (bytes_eq n q) (Some (suc (length names))) None)) [
       | true ↦ refl
       | false ↦ ap next_place (place_behind q n names) ∙ next_or (place_in q names) (bytes_eq n q) (length names)
     ]
@@ -35,7 +35,7 @@ pub told_new : (old new : Name → Option ℕ) (n : Name) (names : List Name) �
 told_new old new n names told absent adds q =
     adds q
     ∙ (elim (bytes_eq n q) as (λ b. bytes_eq n q ≡ b → cond b (Some (length names)) (old q)
-        ≡ place_or (place_in q names) (cond b (Some (length names)) None)) [
+    ≡ place_or (place_in q names) (cond b (Some (length names)) None)) [
       | true ↦ λ hit. (let none : place_in q names ≡ None = sym (told q) ∙ ap old (sym ((bytes_eq-Decides n q).0 hit))
           ∙ nothing (old n) absent in rw none refl)
       | false ↦ λ miss. told q ∙ or_none (place_in q names)

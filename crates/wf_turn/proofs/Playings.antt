@@ -1,6 +1,6 @@
 -- Turns that are played one after another, and their frames.
-use Rattle.std.proofs.Common.{◌≡◌, ◌∙◌, ℕ, ◌+◌, ◌*◌, ◌<◌, ◌≤◌, ◌^◌, Bool, true, false, ◌⊎◌, inl, inr, List, [], ◌∷◌, ◌++◌, length, Option,
-    Some, None, refl, sym, ap, subst, arith, append_assoc, append-nil}
+use Rattle.std.proofs.Common.{◌≡◌, ◌∙◌, ℕ, ◌+◌, ◌*◌, ◌<◌, ◌≤◌, ◌^◌, Bool, true, false, ◌⊎◌, inl, inr, List, [], ◌∷◌, ◌++◌, length, Option}
+use Rattle.std.proofs.Common.{Some, None, refl, sym, ap, subst, arith, append_assoc, append-nil}
 use Rattle.std.specs.Prelude.{flat_map, slice_get}
 use Rattle.std.specs.Option.{IsSome}
 use Rattle.std.proofs.lemmas.List.{length-append}
@@ -13,9 +13,8 @@ use Rattle.wf_film.specs.Film.{Frame, frame_bytes, frame_of}
 use Rattle.wf_io.specs.Bytes.{Puts, PutsPart}
 use Rattle.wf_io.specs.Parts.{puts_both, stops_late}
 use Rattle.wf_model.specs.State.{Running}
-use Rattle.wf_turn.specs.Playing.{ArePainted, PlaysTurn, PlaysTurns, StopsTurn, StopsTurns, Turned, TurnsTo, frames_if, job_frames,
-    shown_by,
-    with_frames}
+use Rattle.wf_turn.specs.Playing.{ArePainted, PlaysTurn, PlaysTurns, StopsTurn, StopsTurns, Turned, TurnsTo, frames_if, job_frames}
+use Rattle.wf_turn.specs.Playing.{shown_by, with_frames}
 use Rattle.wf_turn.specs.Program.{Program}
 use Rattle.wf_turn.specs.Quota.{all_left}
 use Rattle.wf_turn.specs.Serial.{IsRun}
@@ -26,21 +25,25 @@ use Rattle.wf_turn.proofs.Framing.{next_behind}
 module _ {K : Type 0} (took : K → List ℕ → Type 0) where
   -- turns were played, and there is room for those that are left
   pub record IsPlaying (old new : K) (was written : ℕ) (start now : Show) (played : List Turn) (most room before_faults faults : ℕ) : Type 0
-      where
-    pub plays : PlaysTurns took old new was written start now played
-    pub fits : length played + all_left now.programs ≤ room
-    pub many : length played + all_left now.programs ≤ most
-    pub few : written + all_left now.programs * 4194314 < 2 ^ 62
-    pub later : before_faults ≤ faults
-    pub painted : ArePainted now.programs
+    where
+      pub plays : PlaysTurns took old new was written start now played
+      pub fits : length played + all_left now.programs ≤ room
+      pub many : length played + all_left now.programs ≤ most
+      pub few : written + all_left now.programs * 4194314 < 2 ^ 62
+      pub later : before_faults ≤ faults
+      pub painted : ArePainted now.programs
 
   flat_one : (frames more : List Frame) → flat_map frame_bytes (frames ++ more) ≡ flat_map frame_bytes frames ++ flat_map frame_bytes more
   flat_one frames more = flat_map-append frame_bytes frames more
 
   -- before the first turn
   pub none_played : (k : K) (was : ℕ) (start : Show) → PlaysTurns took k k was was start start []
-  none_played k was start = record { frames = []; run = refl; put = λ before t. subst (took k) (sym (append-nil before)) t;
-      written_is = omega arith }
+  none_played k was start = record {
+    frames = [];
+    run = refl;
+    put = λ before t. subst (took k) (sym (append-nil before)) t;
+    written_is = omega arith;
+  }
 
   -- one turn more
   pub one_played : (a b c : K) (was middle written : ℕ) (start last now : Show) (played after : List Turn)
@@ -52,11 +55,16 @@ module _ {K : Type 0} (took : K → List ℕ → Type 0) where
         run =
             subst (λ (ts : List Turn). IsRun (with_frames [] start) ts (with_frames (so_far.frames ++ one.frames) now)) (sym one.after_is)
             (run_more (with_frames [] start) (with_frames so_far.frames last) (with_frames (so_far.frames ++ one.frames) now) played
-                one.turn so_far.run (next_behind so_far.frames one.frames last now one.turn one.next));
+            one.turn so_far.run (next_behind so_far.frames one.frames last now one.turn one.next));
         put = subst (λ (bytes : List ℕ). Puts took a c bytes) (sym (flat_one so_far.frames one.frames))
             (puts_both took a b c (flat_map frame_bytes so_far.frames) (flat_map frame_bytes one.frames) so_far.put one.put);
-        written_is = omega (arith, so_far.written_is, one.written_is, ap length (flat_one so_far.frames one.frames),
-            length-append (flat_map frame_bytes so_far.frames) (flat_map frame_bytes one.frames));
+        written_is = omega (
+          arith,
+          so_far.written_is,
+          one.written_is,
+          ap length (flat_one so_far.frames one.frames),
+          length-append (flat_map frame_bytes so_far.frames) (flat_map frame_bytes one.frames),
+        );
       }
 
   -- a turn whose frame was not put whole
@@ -80,9 +88,9 @@ module _ {K : Type 0} (took : K → List ℕ → Type 0) where
         played_is = stop.after_is;
         part =
             subst (λ (bytes : List ℕ). PutsPart took a c was bytes written)
-                (sym (flat_one so_far.frames (stop.frame ∷ []) ∙ ap (λ (bytes : List ℕ). flat_map frame_bytes so_far.frames ++ bytes) one))
+            (sym (flat_one so_far.frames (stop.frame ∷ []) ∙ ap (λ (bytes : List ℕ). flat_map frame_bytes so_far.frames ++ bytes) one))
             (stops_late took a b c was middle (flat_map frame_bytes so_far.frames) (frame_bytes stop.frame) written so_far.put
-                so_far.written_is stop.part);
+            so_far.written_is stop.part);
         least = omega (arith, so_far.written_is, stop.part.least);
       }
 
@@ -112,7 +120,7 @@ one_shown painted ps client = of_program (slice_get ps client) refl
 pub stopped : {K : Type 0} (took : K → List ℕ → Type 0) (k a : K) (was written : ℕ) (show middle now : Show) (client : ℕ) (t u : Turn)
     (painted ended : Bool) (played first after : List Turn) → painted ≡ true
     → Turned show client middle t painted → Turned middle client now u ended
-        → PutsPart took k a was (flat_map frame_bytes (shown_by true middle.programs client)) written
+    → PutsPart took k a was (flat_map frame_bytes (shown_by true middle.programs client)) written
     → first ≡ played ++ t ∷ [] → after ≡ first ++ u ∷ [] → StopsTurn took k a was written show now played after
 stopped took k a was written show middle now client t u painted ended played first after paints begins ends part first_is after_is =
     elim (one_shown true middle.programs client) [

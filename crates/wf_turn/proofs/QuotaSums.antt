@@ -1,6 +1,6 @@
 -- Sums of quotas.
-use Rattle.std.proofs.Common.{◌≡◌, ◌∙◌, ℕ, zero, suc, ◌+◌, ◌*◌, ◌<◌, ◌≤◌, ◌==◌, Bool, true, false, cond, List, [], ◌∷◌, length, refl, sym,
-    ap, arith}
+use Rattle.std.proofs.Common.{◌≡◌, ◌∙◌, ℕ, zero, suc, ◌+◌, ◌*◌, ◌<◌, ◌≤◌, ◌==◌, Bool, true, false, cond, List, [], ◌∷◌, length, refl, sym}
+use Rattle.std.proofs.Common.{ap, arith}
 use Rattle.std.specs.Prelude.{sum_by}
 use Rattle.std.specs.List.{range_with_len}
 use Rattle.std.proofs.lemmas.Bool.Decides.{nat_tests}
@@ -22,7 +22,7 @@ total_more f n = from 0 n ∙ ap (λ (k : ℕ). sum_by f (range_with_len 0 n) + 
         let shift : suc n + 1 ≡ suc (n + 1) = omega arith in
         let at : a + 1 + n ≡ a + suc n = omega arith in
         rw shift (sum_by-cons f a (range_with_len (a + 1) (n + 1)) ∙ ap (λ (k : ℕ). f a + k) (from (a + 1) n)
-            ∙ rw at (omega (arith, sum_by-cons f a (range_with_len (a + 1) n))))
+        ∙ rw at (omega (arith, sum_by-cons f a (range_with_len (a + 1) n))))
 
 least_40 : (v : Verb) → line_quota v ≤ 40
 least_40 (verb.Paint p) = omega arith
@@ -71,7 +71,7 @@ most_40 [] = nothing (range_with_len 0 8)
     nothing (n ∷ ns) = (let rest = nothing ns in omega (arith, sum_by-cons (quota []) n ns, rest))
 most_40 (l ∷ lines) =
     let split = sum_both (λ c. quota_of c l) (quota lines) (quota (l ∷ lines)) (range_with_len 0 8)
-        (λ c. sum_by-cons (quota_of c) l lines) in
+    (λ c. sum_by-cons (quota_of c) l lines) in
     let one = one_client l 0 8 in
     let rest = most_40 lines in
     omega (arith, split, one, least_40 l.verb, rest)

@@ -1,6 +1,6 @@
 -- What each turn keeps holds in every show that an order reaches.
-use Rattle.std.proofs.Common.{◌≡◌, ◌∙◌, ℕ, Bool, true, false, not, cond, ◌&&◌, ◌==◌, List, [], ◌∷◌, ◌++◌, Option, Some, None, refl, sym,
-    ap, subst, append_assoc}
+use Rattle.std.proofs.Common.{◌≡◌, ◌∙◌, ℕ, Bool, true, false, not, cond, ◌&&◌, ◌==◌, List, [], ◌∷◌, ◌++◌, Option, Some, None, refl, sym, ap}
+use Rattle.std.proofs.Common.{subst, append_assoc}
 use Rattle.std.specs.Prelude.{slice_get}
 use Rattle.std.specs.Option.{unwrap_or}
 use Rattle.std.proofs.lemmas.Bool.{and_parts, eqb-true}
@@ -69,8 +69,15 @@ pub record Step (script : PlainScript) (order : List Turn) (show after : Show) :
 pub at_step : {script : PlainScript} {order : List Turn} {show after : Show} (Holds : Show → Turn
     → Type 0) (s : Step script order show after) → Holds show s.entry
     → At script order Holds
-at_step {show = show} Holds s holds = record { earlier = s.earlier; entry = s.entry; later = s.later; cut = s.cut; moment = show;
-    reached = s.reached; holds = holds }
+at_step {show = show} Holds s holds = record {
+  earlier = s.earlier;
+  entry = s.entry;
+  later = s.later;
+  cut = s.cut;
+  moment = show;
+  reached = s.reached;
+  holds = holds;
+}
 
 module _ (script : PlainScript) (order : List Turn) (Holds : Show → Type 0) (keeps : (show after : Show) → Step script order show after
     → Holds show → Holds after) where
@@ -85,7 +92,7 @@ module _ (script : PlainScript) (order : List Turn) (Holds : Show → Type 0) (k
         | Some after ↦ λ some. rest_keeps later (earlier ++ t ∷ []) after last (cut ∙ sym (append_assoc earlier (t ∷ []) later))
             (replay_more (opening_show script) show after earlier t reached some)
             (keeps show after (record { earlier = earlier; entry = t; later = later; cut = cut; reached = reached; takes = some }) holds)
-                (sym (replay_step show t later (Some after) some) ∙ is)
+            (sym (replay_step show t later (Some after) some) ∙ is)
       ] refl
 
   pub order_keeps : Holds (opening_show script) → (last : Show) → replay script order ≡ Some last → Holds last
@@ -103,7 +110,7 @@ pub record TurnOf (show : Show) (client : ℕ) (m : Bool) (done : Show × Turn) 
 own_program : (show : Show) (client : ℕ) (p : Program) → program_at show client ≡ Some p → slice_get show.programs client ≡ Some p
 own_program show client p at =
     elim (not (client == 0) && is_setting_up show.programs) as (λ b. cond b None (slice_get show.programs client) ≡ Some p
-        → slice_get show.programs client ≡ Some p) [ true ↦ λ e. absurd cc | false ↦ λ e. e ] at
+    → slice_get show.programs client ≡ Some p) [ true ↦ λ e. absurd cc | false ↦ λ e. e ] at
 
 pub turn_of : (show : Show) (client : ℕ) (m : Bool) (done : Show × Turn) → turn show client m ≡ Some done → TurnOf show client m done
 unfolding turn
@@ -114,8 +121,14 @@ turn_of show client m done taken = of_program (program_at show client) refl
     of_wait p w at asks true waits = absurd (let no : None ≡ Some done = rw (at, asks, waits) at taken in cc)
     of_wait p w at asks false waits =
         let same : Some (answered show client p (step show.state client w.call m)) ≡ Some done = rw (at, asks, waits) at taken in
-        record { program = p; wanted = w; stands = at; own = own_program show client p at; asks = asks;
-            is = ap (λ (o : Option (Show × Turn)). unwrap_or o done) same }
+        record {
+          program = p;
+          wanted = w;
+          stands = at;
+          own = own_program show client p at;
+          asks = asks;
+          is = ap (λ (o : Option (Show × Turn)). unwrap_or o done) same;
+        }
 
     of_wanted : (p : Program) → program_at show client ≡ Some p → (o : Option Wanted) → next p ≡ o → TurnOf show client m done
     of_wanted p at None asks = absurd (let no : None ≡ Some done = rw (at, asks) at taken in cc)

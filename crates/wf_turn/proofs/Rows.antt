@@ -90,11 +90,11 @@ abbrev composed : PlainScript
 composed =
     on_port (record { w = 4; h = 2 })
     (made d verb.DeviceNew ∷ made c (verb.ScreenContext d (pos 1)) ∷ new_stream ∷ made x (verb.SourceNew d c s)
-        ∷ made e (verb.ElementNew d c)
+    ∷ made e (verb.ElementNew d c)
     ∷ set element.Source (value.Handle x) ∷ set element.SrcRect (value.Numbers (pos 0 ∷ pos 0 ∷ pos 1 ∷ pos 1 ∷ []))
-        ∷ set element.Dest (value.Numbers (pos 0 ∷ pos 0 ∷ pos 4 ∷ pos 2 ∷ []))
+    ∷ set element.Dest (value.Numbers (pos 0 ∷ pos 0 ∷ pos 4 ∷ pos 2 ∷ []))
     ∷ line 0 (verb.ElementInsert d e None) ∷ line 0 (verb.Commit d c) ∷ line 0 (verb.Activate d c) ∷ line 0 (verb.Frame s (Fill grey))
-        ∷ line 0 verb.Tick ∷ [])
+    ∷ line 0 verb.Tick ∷ [])
 
 abbrev composed_order : List Turn
 composed_order = map (entry 0 0) (1 ∷ 2 ∷ 3 ∷ 4 ∷ 5 ∷ 0 ∷ 0 ∷ 0 ∷ 0 ∷ 0 ∷ 0 ∷ 0 ∷ 0 ∷ 2 ∷ 0 ∷ 0 ∷ 1 ∷ 0 ∷ [])
@@ -150,19 +150,31 @@ clock_of (clock ∷ others) = clock
 begun_at_port : Begins black (show_after before_port) (entry 0 0 1)
 unfolding replay_from turn step act drawn
 begun_at_port =
-    record { asks = record { program = clock_of (show_after before_port).programs; own = refl; next_is = refl }; tick = refl; code = refl;
-        value = refl; shows = refl }
+    record {
+      asks = record { program = clock_of (show_after before_port).programs; own = refl; next_is = refl };
+      tick = refl;
+      code = refl;
+      value = refl;
+      shows = refl;
+    }
 
 created_moment : IsOfMoment created created_order black
 unfolding replay_from turn step act drawn
 created_moment =
-    record { earlier = before_port; entry = entry 0 0 1; later = entry 0 0 0 ∷ []; cut = refl; moment = show_after before_port;
-        reached = refl; holds = begun_at_port }
+    record {
+      earlier = before_port;
+      entry = entry 0 0 1;
+      later = entry 0 0 0 ∷ [];
+      cut = refl;
+      moment = show_after before_port;
+      reached = refl;
+      holds = begun_at_port;
+    }
 
 not_at_creation : Begins black (opening_show created) (entry 0 0 1) → ⊥
 not_at_creation begins =
     let own : Some (program created 0) ≡ Some begins.asks.program = begins.asks.own in
     let is : program created 0 ≡ begins.asks.program = cc in
     let next : next (program created 0) ≡ Some (waiting (call.BeginPort (pos 1))) =
-        subst (λ (p : Program). next p ≡ Some (waiting (call.BeginPort (pos 1)))) (sym is) begins.asks.next_is in
+    subst (λ (p : Program). next p ≡ Some (waiting (call.BeginPort (pos 1)))) (sym is) begins.asks.next_is in
     absurd cc

@@ -23,8 +23,8 @@ use Rattle.wf_model.specs.Outcome.{found, refuse}
 use Rattle.wf_model.specs.State.{Running, State}
 use Rattle.wf_model.specs.Step.{act, step}
 use Rattle.wf_model.specs.Streams.{acquirable, is_out_at_client, is_out_of, with_stream, stream_made}
-use Rattle.wf_turn.proofs.Screening.{AreFine, BringsHome, at_number, begun_fine, ended_fine, home_fine, of_handle, others_change,
-    unnamed_fine, Fine}
+use Rattle.wf_turn.proofs.Screening.{AreFine, BringsHome, at_number, begun_fine, ended_fine, home_fine, of_handle, others_change}
+use Rattle.wf_turn.proofs.Screening.{unnamed_fine, Fine}
 use Rattle.wf_model.specs.Effects.{Effect, acquires, begins, composes, effect, ends, makes, moves_frame, refuses, returns, tells, unnames}
 use Rattle.wf_calls.specs.Parts.{is_begin, Register, of_device, register_of, no_register}
 use Rattle.wf_words.specs.Each.{each_filtered, each_more, each_mapped}
@@ -66,8 +66,10 @@ module _ (n : ℕ) (Composed : ℕ → Bitmap → Type 0) where
       }
 
   changed_keeps : (k : ℕ) (g : Buffers → Buffers) (h : State) → nat_le k n ≡ false → AreScreens h → AreScreens (with_stream k g h)
-  changed_keeps k g h apart are = record { streams = others_change n Composed k g apart h.frame h.streams are.streams;
-      numbered = are.numbered }
+  changed_keeps k g h apart are = record {
+    streams = others_change n Composed k g apart h.frame h.streams are.streams;
+    numbered = are.numbered;
+  }
 
   -- a canvas that a client has is no screen's
   clients_canvas : (canvas : Canvas) (h : State) → AreScreens h → is_out_at_client canvas h ≡ true → nat_le canvas.stream n ≡ false
@@ -82,11 +84,11 @@ module _ (n : ℕ) (Composed : ℕ → Bitmap → Type 0) where
       of_stream screen (Some s) is out =
           let own = at_number n Composed h.frame canvas.stream h.streams s are.streams is in
           let first = and_parts s.buffers.out (same_size canvas.image.size s.buffers.size)
-              (and_parts (s.buffers.out && same_size canvas.image.size s.buffers.size) (same_format canvas.image.format s.buffers.format)
-              out).0 in
+          (and_parts (s.buffers.out && same_size canvas.image.size s.buffers.size) (same_format canvas.image.format s.buffers.format)
+          out).0 in
           let draws : is_target canvas.stream h.frame ≡ true =
-              subst (λ (k : ℕ). is_target k h.frame ≡ true) own.1
-              ((own.0 (subst (λ (k : ℕ). nat_le k n ≡ true) (sym own.1) screen)).drawn first.0) in
+          subst (λ (k : ℕ). is_target k h.frame ≡ true) own.1
+          ((own.0 (subst (λ (k : ℕ). nat_le k n ≡ true) (sym own.1) screen)).drawn first.0) in
           (let no : not true ≡ true = rw draws at parts.0 in cc)
 
       of_range : (b : Bool) → nat_le canvas.stream n ≡ b → nat_le canvas.stream n ≡ false
@@ -108,12 +110,12 @@ module _ (n : ℕ) (Composed : ℕ → Bitmap → Type 0) where
 
       live_at : (o : Option KeptStream)
           → (found code.BadHandle o >>= (λ t. refuse code.Busy t.buffers.out >>=
-              (λ _. refuse code.NoBuffer (is_blocked t.buffers) >>= (λ _. Ok t)))) ≡ Ok s
+          (λ _. refuse code.NoBuffer (is_blocked t.buffers) >>= (λ _. Ok t)))) ≡ Ok s
           → o ≡ Some s
       live_at None same = absurd cc
       live_at (Some t) same =
           ap (λ (x : KeptStream). Some x) (of_tests t (refuse code.Busy t.buffers.out) (λ _. refuse code.NoBuffer (is_blocked t.buffers))
-              same)
+          same)
 
   settled : (b : Bool) (h : State) → AreScreens h → AreScreens (settle_if b h)
   settled true h are =
@@ -131,7 +133,7 @@ module _ (n : ℕ) (Composed : ℕ → Bitmap → Type 0) where
       record {
         streams = ended_fine n Composed job.kind job.image r (own_kind job r is) brings.image home
             (each_mapped (Fine n Composed (Some r)) (Fine n Composed (Some r)) (λ s. home_if (image_of s.number job.contents) s)
-              (home_fine n Composed (Some r) job.contents brings.contents) h.streams fine);
+            (home_fine n Composed (Some r) job.contents brings.contents) h.streams fine);
         numbered = are.numbered;
       }
 

@@ -1,7 +1,7 @@
 -- What each call keeps of the streams of the ports' screens: they have no handle, their write buffers are out only while
 -- a frame draws into them, and each of their images was composed.
-use Rattle.std.proofs.Common.{◌≡◌, ℕ, Bool, true, false, not, cond, ◌&&◌, ◌||◌, ◌==◌, List, [], ◌∷◌, map, Option, Some, None, refl, sym,
-    subst, arith}
+use Rattle.std.proofs.Common.{◌≡◌, ℕ, Bool, true, false, not, cond, ◌&&◌, ◌||◌, ◌==◌, List, [], ◌∷◌, map, Option, Some, None, refl, sym}
+use Rattle.std.proofs.Common.{subst, arith}
 use Rattle.std.specs.Prelude.{nat_le}
 use Rattle.std.specs.Option.{IfSome}
 use Rattle.std.proofs.lemmas.Bool.{and_parts, eq-eqb, eqb-true}
@@ -15,8 +15,8 @@ use Rattle.wf_stream.specs.Streams.{KeptStream, change_stream, stream_at, stream
 use Rattle.wf_calls.specs.declared.call.Job.{Job}
 use Rattle.wf_calls.specs.declared.call.JobKind.{JobKind}
 use Rattle.wf_calls.specs.declared.call.JobKind.TheVariants as kind
-use Rattle.wf_model.specs.Frames.{delivered, drawing, home_if, is_target, latched_among, newest_images, newest_of, running_of, same_kind,
-    scene_streams, with_job}
+use Rattle.wf_model.specs.Frames.{delivered, drawing, home_if, is_target, latched_among, newest_images, newest_of, running_of, same_kind}
+use Rattle.wf_model.specs.Frames.{scene_streams, with_job}
 use Rattle.wf_model.specs.Composing.{composed}
 use Rattle.wf_model.specs.Picture.{Images}
 use Rattle.wf_model.specs.State.{Running, State}
@@ -78,8 +78,11 @@ module _ (n : ℕ) (Composed : ℕ → Bitmap → Type 0) where
     where
       one : (s : KeptStream) → Fine f s → Fine f (unnamed handle s)
       one s fine =
-          elim (s.handle == handle) as (λ b. Fine f (cond b (record s { handle = 0 }) s)) [ true ↦ λ screen. (let is = fine screen in
-          record { bare = refl; drawn = is.drawn; ready = is.ready; read = is.read }) | false ↦ fine ]
+          elim (s.handle == handle) as (λ b. Fine f (cond b (record s { handle = 0 }) s)) [
+            | true ↦ λ screen. (let is = fine screen in
+                record { bare = refl; drawn = is.drawn; ready = is.ready; read = is.read })
+            | false ↦ fine
+          ]
 
   -- a frame begins
 
@@ -100,8 +103,11 @@ module _ (n : ℕ) (Composed : ℕ → Bitmap → Type 0) where
 
   latched_fine : (f : Option Running) (ns : List ℕ) (s : KeptStream) → Fine f s → Fine f (latched_among ns s)
   latched_fine f ns s fine = elim (is_in s.number ns)
-      as (λ b. Fine f (cond b (record s { buffers = latched s.buffers }) s)) [ true ↦ λ screen. latched_screen f s
-      (fine screen) | false ↦ fine ]
+      as (λ b. Fine f (cond b (record s { buffers = latched s.buffers }) s)) [
+        | true ↦ λ screen. latched_screen f s
+            (fine screen)
+        | false ↦ fine
+      ]
 
   -- no screen's write buffer is out while no frame runs
   switched : (g : Option Running) (s : KeptStream) → Fine None s → Fine g s
@@ -115,15 +121,19 @@ module _ (n : ℕ) (Composed : ℕ → Bitmap → Type 0) where
       elim (s.number == target) as (λ b. (s.number == target) ≡ b → Fine (Some r) (cond b (record s { buffers = acquired s.buffers }) s)) [
         | true ↦ λ here screen. (
             let is = fine screen in
-            record { bare = is.bare; drawn = λ out. rw (runs, eq-eqb target s.number (sym (eqb-true s.number target here))) refl;
-                ready = is.ready; read = is.read })
+            record {
+              bare = is.bare;
+              drawn = λ out. rw (runs, eq-eqb target s.number (sym (eqb-true s.number target here))) refl;
+              ready = is.ready;
+              read = is.read;
+            })
         | false ↦ λ apart. switched (Some r) s fine
       ] refl
 
   drawing_fine : (k : JobKind) (r : Running) → r.kind ≡ k → (ss : List KeptStream) → AreFine None ss → AreFine (Some r) (drawing k ss)
   drawing_fine (kind.Context handle target) r runs ss are =
       each_mapped (Fine None) (Fine (Some r)) (λ s. cond (s.number == target) (record s { buffers = acquired s.buffers }) s)
-          (drawn_fine handle target r runs) ss are
+      (drawn_fine handle target r runs) ss are
   drawing_fine (kind.Port p) r runs ss are = each_other (Fine None) (Fine (Some r)) (switched (Some r)) ss are
 
   pub begun_fine : (job : Job) (h : State) → h.frame ≡ None → AreFine h.frame h.streams
@@ -131,8 +141,8 @@ module _ (n : ℕ) (Composed : ℕ → Bitmap → Type 0) where
   begun_fine job h free are =
       let now : AreFine None h.streams = rw free at are in
       drawing_fine job.kind (running_of job) refl (map (latched_among (scene_streams job.scene)) h.streams)
-          (each_mapped (Fine None) (Fine None) (latched_among (scene_streams job.scene)) (latched_fine None (scene_streams job.scene))
-          h.streams now)
+      (each_mapped (Fine None) (Fine None) (latched_among (scene_streams job.scene)) (latched_fine None (scene_streams job.scene))
+      h.streams now)
 
   -- images that are away
 
@@ -165,7 +175,7 @@ module _ (n : ℕ) (Composed : ℕ → Bitmap → Type 0) where
           let own = at_number f k ss s are at in
           let newest_is : newest s.buffers ≡ Some image = rw at at has in
           subst (λ (x : ℕ). Composed x image) own.1 (newest_composed f s image
-              (own.0 (subst (λ (x : ℕ). nat_le x n ≡ true) (sym own.1) screen)) newest_is)
+          (own.0 (subst (λ (x : ℕ). nat_le x n ≡ true) (sym own.1) screen)) newest_is)
 
   pub newest_home : (f : Option Running) (ns : List ℕ) (ss : List KeptStream) → AreFine f ss → AreHome (newest_images ns ss)
   newest_home f [] ss are = tt
@@ -183,7 +193,7 @@ module _ (n : ℕ) (Composed : ℕ → Bitmap → Type 0) where
             let same : x.1 ≡ image = (let is : Some x.1 ≡ Some image = rw here at has in cc) in
             let number : x.0 ≡ k = eqb-true x.0 k here in
             subst (λ (i : Bitmap). Composed k i) same (subst (λ (m : ℕ). Composed m x.1) number
-                (are.0 (subst (λ (m : ℕ). nat_le m n ≡ true) (sym number) screen))))
+            (are.0 (subst (λ (m : ℕ). nat_le m n ≡ true) (sym number) screen))))
         | false ↦ λ apart. home_composed xs k image are.1 screen (rw apart at has)
       ] refl
 
@@ -216,9 +226,12 @@ module _ (n : ℕ) (Composed : ℕ → Bitmap → Type 0) where
         | true ↦ λ here screen. (
             let is = fine screen in
             let number : s.number ≡ target = eqb-true s.number target here in
-            record { bare = is.bare; drawn = λ out. absurd (let no : false ≡ true = out in cc);
-                ready = subst (λ (m : ℕ). Composed m image) (sym number) (composed (subst (λ (m : ℕ). nat_le m n ≡ true) number screen));
-                read = is.read })
+            record {
+              bare = is.bare;
+              drawn = λ out. absurd (let no : false ≡ true = out in cc);
+              ready = subst (λ (m : ℕ). Composed m image) (sym number) (composed (subst (λ (m : ℕ). nat_le m n ≡ true) number screen));
+              read = is.read;
+            })
         | false ↦ λ apart screen. (let is = fine screen in
             record { bare = is.bare; drawn = λ out. absurd (of_kind r.kind refl apart (is.drawn out)); ready = is.ready; read = is.read })
       ] refl
@@ -235,7 +248,7 @@ module _ (n : ℕ) (Composed : ℕ → Bitmap → Type 0) where
       → AreFine (Some r) ss → AreFine None (delivered k image ss)
   ended_fine (kind.Context handle target) image r same composed ss are =
       each_mapped (Fine (Some r)) (Fine None) (λ s. cond (s.number == target) (record s { buffers = posted image s.buffers }) s)
-          (target_fine handle target image r same composed) ss are
+      (target_fine handle target image r same composed) ss are
   ended_fine (kind.Port p) image r same composed ss are =
       each_other (Fine (Some r)) (Fine None) (λ s fine screen. (let is = fine screen in
       record { bare = is.bare; drawn = λ out. absurd (of_kind s r.kind refl (is.drawn out)); ready = is.ready; read = is.read })) ss are

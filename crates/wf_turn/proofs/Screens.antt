@@ -1,6 +1,6 @@
 -- Each image of a screen, after any order, was composed of a context's committed scene.
-use Rattle.std.proofs.Common.{◌≡◌, ◌∙◌, ℕ, ◌+◌, Bool, true, false, cond, List, [], ◌∷◌, map, length, Option, Some, None, refl, sym, subst,
-    arith, Ok, pos}
+use Rattle.std.proofs.Common.{◌≡◌, ◌∙◌, ℕ, ◌+◌, Bool, true, false, cond, List, [], ◌∷◌, map, length, Option, Some, None, refl, sym, subst}
+use Rattle.std.proofs.Common.{arith, Ok, pos}
 use Rattle.std.specs.Prelude.{nat_le, zip}
 use Rattle.std.specs.List.{range_with_len}
 use Rattle.std.specs.Option.{IfSome}
@@ -25,8 +25,8 @@ use Rattle.wf_turn.specs.declared.stage.Leg.{Leg}
 use Rattle.wf_turn.specs.declared.stage.Leg.TheVariants as leg
 use Rattle.wf_turn.specs.Moments.{Composes, IsComposed, image_after}
 use Rattle.wf_turn.specs.Play.{is_marked, replay}
-use Rattle.wf_turn.specs.Program.{Program, next, painted_job, took, worked, took_canvas, asked_for, plain, line_done, took_frame,
-    given_canvas, took_job}
+use Rattle.wf_turn.specs.Program.{Program, next, painted_job, took, worked, took_canvas, asked_for, plain, line_done, took_frame}
+use Rattle.wf_turn.specs.Program.{given_canvas, took_job}
 use Rattle.wf_turn.specs.Turns.{Show, opening_show, turn, program_at}
 use Rattle.wf_turn.proofs.Cases.{turn_case, asks_begin}
 use Rattle.wf_turn.proofs.Holding.{AllHold, handed_hold, opening_hold, took_holds, Holds}
@@ -127,8 +127,8 @@ module _ (n : ℕ) (Composed : ℕ → Bitmap → Type 0) where
         by_begin (λ x. Tells x.1 → (job : Job) → x.1.payload ≡ payload.Job job → BringsHome n Composed (painted_job job)) h
         (asked_for l).call m begins (λ a tells job has. absurd cc)
         (λ b is tells job has. (
-          let same : job_of b h ≡ job = cc in
-          subst (λ (j : Job). BringsHome n Composed (painted_job j)) same (begun_brings l asks b is tells)))
+        let same : job_of b h ≡ job = cc in
+        subst (λ (j : Job). BringsHome n Composed (painted_job j)) same (begun_brings l asks b is tells)))
 
     begin_brings : (w : Wanted) → next p ≡ Some w → Comes w (took p)
     begin_brings w asks =
@@ -156,11 +156,11 @@ module _ (n : ℕ) (Composed : ℕ → Bitmap → Type 0) where
       let reply : Reply = (step show.state client t.wanted.call m).1 in
       let brings : Brings p.job p.unpainted = each_at (Holds Brings) show.programs client p are.programs t.own in
       let own_tells : Tells show client m p t.stands are.state reply =
-          subst (λ (x : Show × Turn). (stream : ℕ) (image : Bitmap) → Composes stream image show x.1 → Composed stream image)
-          (sym t.is) tells in
+      subst (λ (x : Show × Turn). (stream : ℕ) (image : Bitmap) → Composes stream image show x.1 → Composed stream image)
+      (sym t.is) tells in
       let will : WillBring (took p reply).job (took p reply).unpainted =
-          took_holds WillBring tt p t.wanted reply (rw brings.0 brings.1)
-          (λ begins job has. begin_brings show client m p t.stands are.state t.wanted t.asks t.asks begins own_tells job has) t.asks in
+      took_holds WillBring tt p t.wanted reply (rw brings.0 brings.1)
+      (λ begins job has. begin_brings show client m p t.stands are.state t.wanted t.asks t.asks begins own_tells job has) t.asks in
       subst (λ (x : Show × Turn). AreComposed x.0) t.is
       (record {
         state = step_keeps n Composed show.state client t.wanted.call m (next_carries p t.wanted brings t.asks) are.state;
@@ -178,14 +178,16 @@ module _ (script : PlainScript) (order : List Turn) where
   step_composed show after s are =
       let t : Turn = s.entry in
       turn_composed (length script.ports.modes.items) (IsComposed script order) show t.client (is_marked t) (after, t)
-          (taken_turn t (turn show t.client (is_marked t)) after s.takes)
+      (taken_turn t (turn show t.client (is_marked t)) after s.takes)
       (λ stream image told. at_step (Composes stream image) s told) are
 
   opening_composed : AreComposed (length script.ports.modes.items) (IsComposed script order) (opening_show script)
   opening_composed =
       record {
-        state = record { streams = opening_fine (length script.ports.modes.items) (IsComposed script order) script.ports.modes.items 1;
-            numbered = grind (arith, nat_tests) };
+        state = record {
+          streams = opening_fine (length script.ports.modes.items) (IsComposed script order) script.ports.modes.items 1;
+          numbered = grind (arith, nat_tests);
+        };
         programs = opening_hold (Brings (length script.ports.modes.items) (IsComposed script order)) (refl, tt) script 0 8;
       }
 
@@ -197,6 +199,6 @@ module _ (script : PlainScript) (order : List Turn) where
       of_show None none has = absurd cc
       of_show (Some last) is has =
           let are = order_keeps script order (AreComposed (length script.ports.modes.items) (IsComposed script order)) step_composed
-              opening_composed last is in
+          opening_composed last is in
           screen_composed (length script.ports.modes.items) (IsComposed script order) last.state.frame port last.state.streams image
-              are.state.streams declared has
+          are.state.streams declared has

@@ -1,6 +1,6 @@
 -- Serial play: a run of turns is a replay, and the beginning of the serial order.
-use Rattle.std.proofs.Common.{◌≡◌, ◌∙◌, ℕ, zero, suc, ◌+◌, ◌*◌, ◌-◌, ◌<◌, ◌≤◌, ◌==◌, true, false, cond, List, [], ◌∷◌, ◌++◌, map, length,
-    Option, Some, None, refl, sym, ap, subst, arith, append-nil}
+use Rattle.std.proofs.Common.{◌≡◌, ◌∙◌, ℕ, zero, suc, ◌+◌, ◌*◌, ◌-◌, ◌<◌, ◌≤◌, ◌==◌, true, false, cond, List, [], ◌∷◌, ◌++◌, map, length}
+use Rattle.std.proofs.Common.{Option, Some, None, refl, sym, ap, subst, arith, append-nil}
 use Rattle.std.specs.Prelude.{filter}
 use Rattle.std.specs.List.{enumerate_from}
 use Rattle.std.specs.Option.{IsSomeAnd}
@@ -9,8 +9,8 @@ use Rattle.std.proofs.lemmas.Bool.Decides.{nat_tests}
 use Rattle.wf_words.specs.Keyed.{is_in}
 use Rattle.wf_calls.specs.declared.order.Turn.{Turn}
 use Rattle.wf_script.specs.Script.{PlainScript}
-use Rattle.wf_turn.specs.Play.{IsComplete, first_client, is_marked, marks, replay, replay_from, replay_turn, same_turn, serial_from,
-    serial_order}
+use Rattle.wf_turn.specs.Play.{IsComplete, first_client, is_marked, marks, replay, replay_from, replay_turn, same_turn, serial_from}
+use Rattle.wf_turn.specs.Play.{serial_order}
 use Rattle.wf_turn.specs.Program.{place_of}
 use Rattle.wf_turn.specs.Serial.{BeginsSerial, IsNextTurn, IsRun, IsSerial}
 use Rattle.wf_turn.specs.Turns.{Show, opening_show, turn}
@@ -55,9 +55,9 @@ none_before n place (t ∷ ts) before =
     let apart : (place == n) ≡ false = grind (arith, nat_tests, before) in
     let rest = none_before n (place + 1) ts (omega (arith, before)) in
     elim (is_marked t)
-        as (λ b. is_in n
-        (map (λ (row : ℕ × Turn). row.0) (cond b ((place, t) ∷ filter (λ (row : ℕ × Turn). is_marked row.1) (enumerate_from (place + 1) ts))
-        (filter (λ (row : ℕ × Turn). is_marked row.1) (enumerate_from (place + 1) ts)))) ≡ false) [
+    as (λ b. is_in n
+    (map (λ (row : ℕ × Turn). row.0) (cond b ((place, t) ∷ filter (λ (row : ℕ × Turn). is_marked row.1) (enumerate_from (place + 1) ts))
+    (filter (λ (row : ℕ × Turn). is_marked row.1) (enumerate_from (place + 1) ts)))) ≡ false) [
       | true ↦ rw apart rest
       | false ↦ rest
     ]
@@ -76,8 +76,8 @@ marks_tell place (t ∷ ts) =
     let more = one_more place (marks_from (place + 1) ts) (place + 1) ts (omega arith) rest in
     let nothing = none_before place (place + 1) ts (omega arith) in
     elim (is_marked t) as (λ b. let ms = map (λ (row : ℕ × Turn). row.0)
-        (cond b ((place, t) ∷ filter (λ (row : ℕ × Turn). is_marked row.1) (enumerate_from (place + 1) ts))
-        (filter (λ (row : ℕ × Turn). is_marked row.1) (enumerate_from (place + 1) ts))) in (is_in place ms ≡ b) × Tell ms (place + 1) ts) [
+    (cond b ((place, t) ∷ filter (λ (row : ℕ × Turn). is_marked row.1) (enumerate_from (place + 1) ts))
+    (filter (λ (row : ℕ × Turn). is_marked row.1) (enumerate_from (place + 1) ts))) in (is_in place ms ≡ b) × Tell ms (place + 1) ts) [
       | true ↦ (rw here refl, more)
       | false ↦ (nothing, rest)
     ]
@@ -122,7 +122,7 @@ run_serial most place ms show after [] run tell few =
     let same : most ≡ most - 0 = omega arith in
     let here : place ≡ place + 0 = omega arith in
     ap (λ (s : Show). serial_from most place ms s) run ∙ ap (λ (n : ℕ). serial_from n place ms after) same
-        ∙ ap (λ (n : ℕ). serial_from (most - 0) n ms after) here
+    ∙ ap (λ (n : ℕ). serial_from (most - 0) n ms after) here
 run_serial zero place ms show after (t ∷ ts) run tell few = absurd (omega (arith, few))
 run_serial (suc most) place ms show after (t ∷ ts) run tell few =
     let fewer : suc most - suc (length ts) ≡ most - length ts = omega arith in

@@ -1,6 +1,6 @@
 -- One turn of a show that is played serially.
-use Rattle.std.proofs.Common.{◌≡◌, ◌∙◌, ℕ, zero, suc, ◌+◌, ◌-◌, ◌<◌, ◌≤◌, ◌==◌, Bool, true, false, not, cond, ◌&&◌, List, [], ◌∷◌, map,
-    length, Option, Some, None, refl, sym, ap, subst, arith, set, get_or, IsTrue}
+use Rattle.std.proofs.Common.{◌≡◌, ◌∙◌, ℕ, zero, suc, ◌+◌, ◌-◌, ◌<◌, ◌≤◌, ◌==◌, Bool, true, false, not, cond, ◌&&◌, List, [], ◌∷◌, map}
+use Rattle.std.proofs.Common.{length, Option, Some, None, refl, sym, ap, subst, arith, set, get_or, IsTrue}
 use Rattle.std.specs.Prelude.{slice_get}
 use Rattle.std.specs.Option.{IfSome, IsSome, IsSomeAnd}
 use Rattle.wf_calls.specs.declared.order.Turn.{Turn}
@@ -13,8 +13,8 @@ use Rattle.wf_model.specs.Step.{step}
 use Rattle.wf_script.specs.declared.line.Line.{Line}
 use Rattle.wf_script.specs.Script.{PlainScript}
 use Rattle.wf_turn.specs.Play.{first_client, is_marked}
-use Rattle.wf_turn.specs.Playing.{ArePainted, Ends, FirstEnds, HoldsPaintable, IsCast, IsReady, TakesTurn, TakesTurnAt, Turned, TurnsTo,
-    all_painted, has_work, may_turn, shown_by, with_frames, with_paint}
+use Rattle.wf_turn.specs.Playing.{ArePainted, Ends, FirstEnds, HoldsPaintable, IsCast, IsReady, TakesTurn, TakesTurnAt, Turned, TurnsTo}
+use Rattle.wf_turn.specs.Playing.{all_painted, has_work, may_turn, shown_by, with_frames, with_paint}
 use Rattle.wf_turn.specs.Program.{Program, in_setup, is_work, place_of, taught, took, worked}
 use Rattle.wf_turn.specs.Quota.{all_left, left}
 use Rattle.std.proofs.lemmas.List.{length-map}
@@ -26,8 +26,8 @@ use Rattle.wf_turn.proofs.Works.{all_are, cast_painted, handed_here, handed_work
 use Rattle.wf_turn.specs.Serial.{IsFirst}
 use Rattle.wf_turn.specs.Turns.{Show, answered, frames_of, handed_on, is_setting_up, turn}
 use Rattle.wf_turn.proofs.Begins.{Leaves, ended, turn_leaves}
-use Rattle.wf_turn.proofs.Casts.{IsOf, are_handed, are_set, at_client, handed_get, handed_same, left_handed, left_set, not_handed,
-    other_is, other_set, setup_set, shown_handed}
+use Rattle.wf_turn.proofs.Casts.{IsOf, are_handed, are_set, at_client, handed_get, handed_same, left_handed, left_set, not_handed, other_is}
+use Rattle.wf_turn.proofs.Casts.{other_set, setup_set, shown_handed}
 use Rattle.wf_words.specs.Places.{get_map, get_set, length_map, map_set}
 use Rattle.wf_turn.proofs.Clients.{first_place}
 use Rattle.wf_turn.proofs.Fitting.{fit_took}
@@ -56,7 +56,7 @@ module _ (s : Show) (client : ℕ) (p : Program) (cast : IsCast s) (first : IsFi
       of_first None is none = absurd none
       of_first (Some c) is here =
           let at : slice_get (map place_of s.programs) client ≡ Some (Some c.1) = ap (slice_get (map place_of s.programs)) (sym here)
-              ∙ first_place (map place_of s.programs) c is in
+          ∙ first_place (map place_of s.programs) c is in
           let there : Some (place_of p) ≡ Some (Some c.1) = sym (get_map place_of s.programs client p found) ∙ at in
           let placed_at : place_of p ≡ Some c.1 = cc in
           rw placed_at refl
@@ -80,7 +80,7 @@ module _ (s : Show) (client : ℕ) (p : Program) (cast : IsCast s) (first : IsFi
 
 module _ (s : Show) (client : ℕ) (p q : Program) (left_state : State) (t : Turn) (painted : Bool)
     (cast : IsCast s) (first : IsFirst s.programs client) (allowed : may_turn s.programs client ≡ true)
-        (found : slice_get s.programs client ≡ Some p) (takes : TakesTurn client s.state left_state p q t painted) where
+    (found : slice_get s.programs client ≡ Some p) (takes : TakesTurn client s.state left_state p q t painted) where
   abbrev W : State × Reply
   W = step s.state client takes.wanted.call (is_marked t)
 
@@ -105,8 +105,11 @@ module _ (s : Show) (client : ℕ) (p q : Program) (left_state : State) (t : Tur
 
   pub turns : TurnsTo s t (shown_by painted programs_now client) show_now
   turns =
-      let show : State → Program → List Frame → Show = λ h r frames. record { state = h;
-          programs = handed_on s.programs (set s.programs client r); frames = frames } in
+      let show : State → Program → List Frame → Show = λ h r frames. record {
+        state = h;
+        programs = handed_on s.programs (set s.programs client r);
+        frames = frames;
+      } in
       record {
         first = subst (λ (n : ℕ). IsFirst s.programs n) (sym client_is) first;
         taken =
@@ -128,7 +131,7 @@ module _ (s : Show) (client : ℕ) (p q : Program) (left_state : State) (t : Tur
   programs_are =
       are_handed cast.script s.programs placed
       (are_set cast.script 0 s.programs client p q cast.programs found (ap (λ (x : Program). x.script) takes.program ∙ same_script p W.1)
-          (ap (λ (x : Program). x.client) takes.program ∙ same_client p W.1) fit_now)
+      (ap (λ (x : Program). x.client) takes.program ∙ same_client p W.1) fit_now)
 
   ends_now : (f : Running) → s.state.frame ≡ Some f → Ends f p
   ends_now f runs = rw runs at (ends_running s client p cast first found)
@@ -176,7 +179,7 @@ module _ (s : Show) (client : ℕ) (p q : Program) (left_state : State) (t : Tur
       of_frame (Some f) was =
           let e = ended p s.state client (is_marked t) takes.wanted f was (ends_now f was) takes.asks in
           absurd (let no : IsSome none_running = subst (λ (o : Option Running). IsSome o) (ap (λ (h : State). h.frame) takes.state ∙ e.free)
-              runs in cc)
+          runs in cc)
       of_frame None free = of_now W.0.frame refl (leaves free).ends
         where
           of_now : (o : Option Running) → W.0.frame ≡ o → IfSome o (λ f. Ends f (worked (took p W.1)) × ((took p W.1).lines ≡ p.lines))
@@ -212,7 +215,7 @@ module _ (s : Show) (client : ℕ) (p q : Program) (left_state : State) (t : Tur
           of_now None own = tt
           of_now (Some f) own =
               subst (λ (ns : List (Option ℕ)). IfSome (first_client ns) (λ c. IfSome (slice_get programs_now c.0) (Ends f)))
-                  (sym (same_places own.1))
+              (sym (same_places own.1))
               (of_first f own.1 (subst (Ends f) (sym takes.program) own.0) (first_client (map place_of s.programs)) refl first)
 
   pub cast_now : IsCast show_now
@@ -266,8 +269,11 @@ ready s client cast first within = of_program (slice_get s.programs client) refl
         past [] i none = omega arith
         past (q ∷ qs) zero none = absurd cc
         past (q ∷ qs) (suc i) none = (let rest = past qs i none in omega (arith, rest))
-    of_program (Some p) found = record { fit = (of s client p cast first found).fit; more = stands s client p cast first found;
-        alone = ends_running s client p cast first found }
+    of_program (Some p) found = record {
+      fit = (of s client p cast first found).fit;
+      more = stands s client p cast first found;
+      alone = ends_running s client p cast first found;
+    }
 
 -- a show in which it is a client's turn
 pub record HasTurn (s : Show) (client : ℕ) : Type 0 where
@@ -309,7 +315,7 @@ module _ (s : Show) (client : ℕ) (h : State) (placed : List Program) (t : Turn
     where
       of_program : (o : Option Program) → slice_get s.programs client ≡ o → IsSomeAnd o (IsReady s.state)
           → IfSome o (λ p. (q : Program)
-              × ((placed ≡ set s.programs client q) × TakesTurn client s.state h p (worked q) t (is_work q) × IsWork q)) → Taken
+          × ((placed ≡ set s.programs client q) × TakesTurn client s.state h p (worked q) t (is_work q) × IsWork q)) → Taken
       of_program None none is took = absurd is
       of_program (Some p) found is took =
           record { before = p; now = took.0; found = found; placed_is = took.1.0; turn_is = took.1.1; work = took.1.2 }
@@ -340,7 +346,7 @@ module _ (s : Show) (client : ℕ) (h : State) (placed : List Program) (t : Turn
   pub cast_after : IsCast (all_painted show_left)
   cast_after =
       let same : map worked show_left.programs ≡ worked_programs = sym (paint_all client show_left.programs)
-          ∙ ap (λ (ps : List Program). map worked ps) painted_is ∙ all_are worked_programs are_worked in
+      ∙ ap (λ (ps : List Program). map worked ps) painted_is ∙ all_are worked_programs are_worked in
       subst (λ (ps : List Program). IsCast (with_programs ps)) (sym same)
       (cast_now s client taken.before (worked taken.now) h t (is_work taken.now) has.cast has.first has.allowed taken.found taken.turn_is)
 
@@ -378,11 +384,11 @@ module _ (s : Show) (client : ℕ) (h : State) (placed : List Program) (t : Turn
       let one = taken.turn_is in
       let reply = (step s.state client one.wanted.call (is_marked t)).1 in
       let set_is : map worked placed ≡ set s.programs client (worked taken.now) = ap (λ (ps : List Program). map worked ps) taken.placed_is
-          ∙ worked_set s.programs client taken.now has.are in
+      ∙ worked_set s.programs client taken.now has.are in
       subst (λ (ps : List Program). AreOf has.cast.script 0 ps) (sym set_is)
       (are_set has.cast.script 0 s.programs client p (worked taken.now) has.cast.programs taken.found
-          (ap (λ (x : Program). x.script) one.program ∙ same_script p reply) (ap (λ (x : Program). x.client) one.program
-          ∙ same_client p reply)
+      (ap (λ (x : Program). x.script) one.program ∙ same_script p reply) (ap (λ (x : Program). x.client) one.program
+      ∙ same_client p reply)
       (subst IsFit (sym one.program) (fit_took p reply (of s client p has.cast has.first taken.found).fit)))
 
 -- what is handed on, by the clock and the other programs
@@ -417,9 +423,14 @@ other_turned clock others client h left_state d q t apart is takes work =
         → IfSome o (λ p. (r : Program) × ((clock ∷ set others (client - 1) q ≡ set (clock ∷ others) client r)
         × TakesTurn client h left_state p (worked r) t (is_work r) × IsWork r))
     of_program None same = tt
-    of_program (Some p) same =
-        (q, (other_set clock others client q apart,
-            subst (λ (x : Program). TakesTurn client h left_state x (worked q) t (is_work q)) (sym same) takes, work))
+    of_program (Some p) same = (
+      q,
+      (
+        other_set clock others client q apart,
+        subst (λ (x : Program). TakesTurn client h left_state x (worked q) t (is_work q)) (sym same) takes,
+        work,
+      ),
+    )
 
 -- there are eight programs
 pub eight_at : (s : Show) → IsCast (all_painted s) → (client : ℕ) → client < 8 → IsSome (slice_get s.programs client)
@@ -445,6 +456,8 @@ other_painted clock others client d apart is some = of_program (slice_get (clock
         → (clock ∷ set others (client - 1) (worked d) ≡ with_paint client (clock ∷ others)) × (is_work d ≡ has_work client (clock ∷ others))
     of_program None none is_there = absurd cc
     of_program (Some p) found is_there =
-        let same : p ≡ d = other_is clock others client d apart is (Some p) found in
-        (other_set clock others client (worked d) apart ∙ ap (λ (x : Program). set (clock ∷ others) client (worked x)) (sym same)
-            ∙ rw found refl, ap is_work (sym same) ∙ rw found refl)
+        let same : p ≡ d = other_is clock others client d apart is (Some p) found in (
+          other_set clock others client (worked d) apart ∙ ap (λ (x : Program). set (clock ∷ others) client (worked x)) (sym same)
+              ∙ rw found refl,
+          ap is_work (sym same) ∙ rw found refl,
+        )

@@ -1,6 +1,6 @@
 -- One line more that makes no event.
-use Rattle.std.proofs.Common.{◌≡◌, ◌∙◌, ℕ, zero, suc, ◌+◌, ◌<◌, ◌≤◌, ◌==◌, Bool, true, false, cond, List, [], ◌∷◌, ◌++◌, length, take,
-    drop, get_or, Option, Some, None, refl, sym, ap, arith, append-nil, ◌&&◌}
+use Rattle.std.proofs.Common.{◌≡◌, ◌∙◌, ℕ, zero, suc, ◌+◌, ◌<◌, ◌≤◌, ◌==◌, Bool, true, false, cond, List, [], ◌∷◌, ◌++◌, length, take, drop}
+use Rattle.std.proofs.Common.{get_or, Option, Some, None, refl, sym, ap, arith, append-nil, ◌&&◌}
 use Rattle.std.proofs.lemmas.Bool.{and_parts, eqb-true}
 use Rattle.std.proofs.lemmas.List.{drop_more}
 use Rattle.std.proofs.lemmas.Option.{slice_get_past}
@@ -28,7 +28,7 @@ pub lines_at : (client at : ℕ) (lines : List Line) (l : Line) → at < length 
     → lines_from client at lines ≡ cond (l.client == client) ((at, l) ∷ lines_from client (at + 1) lines) (lines_from client (at + 1) lines)
 lines_at client at lines l within is =
     ap (λ (ls : List Line). filter (λ (m : ℕ × Line). m.1.client == client) (enumerate_from at ls)) (drop_more lines at l within
-        ∙ ap (λ (m : Line). m ∷ drop (at + 1) lines) (sym is))
+    ∙ ap (λ (m : Line). m ∷ drop (at + 1) lines) (sym is))
 
 pub lines_end : (client at : ℕ) (lines : List Line) → length lines ≤ at → lines_from client at lines ≡ []
 lines_end client at lines over = ap (λ (ls : List Line). filter (λ (m : ℕ × Line). m.1.client == client) (enumerate_from at ls))
@@ -62,7 +62,7 @@ nothing_bound : (client at : ℕ) (lines : List Line) (l : Line) → at < length
     → bound_names client (take (at + 1) lines) ≡ bound_names client (take at lines)
 nothing_bound client at lines l within is none =
     names_more client lines at l within is ∙ ap (λ (o : Option Name). bound_names client (take at lines) ++ option_to_list o) none
-        ∙ append-nil (bound_names client (take at lines))
+    ∙ append-nil (bound_names client (take at lines))
 
 -- at a line of the client that makes an event all is passed
 stopped : (client at : ℕ) (lines : List Line) (l : Line) (canvas : Option Canvas) → at < length lines → l ≡ get_or lines at l
@@ -70,17 +70,17 @@ stopped : (client at : ℕ) (lines : List Line) (l : Line) (canvas : Option Canv
     → skipped canvas (lines_from client at lines) ≡ (canvas, lines_from client at lines)
 stopped client at lines l canvas within is own event =
     let here : lines_from client at lines ≡ (at, l) ∷ lines_from client (at + 1) lines = lines_at client at lines l within is
-        ∙ ap (λ (b : Bool). cond b ((at, l) ∷ lines_from client (at + 1) lines) (lines_from client (at + 1) lines)) own in
+    ∙ ap (λ (b : Bool). cond b ((at, l) ∷ lines_from client (at + 1) lines) (lines_from client (at + 1) lines)) own in
     ap (skipped canvas) here
     ∙ ap (λ (b : Bool). cond b (canvas, (at, l) ∷ lines_from client (at + 1) lines)
-        (skipped (silent l.verb canvas) (lines_from client (at + 1) lines))) event
+    (skipped (silent l.verb canvas) (lines_from client (at + 1) lines))) event
     ∙ ap (λ (ls : List (ℕ × Line)). (canvas, ls)) (sym here)
 
 -- what stands where there is no event of the client
 quiet_at : (client at : ℕ) (lines : List Line) (l : Line) (canvas : Option Canvas) → at < length lines → l ≡ get_or lines at l
     → (own event : Bool) → (l.client == client) ≡ own → is_event (is_some canvas) l.verb ≡ event → (own && event) ≡ false
     → (skipped canvas (lines_from client at lines) ≡ skipped (cond own (silent l.verb canvas) canvas) (lines_from client (at + 1) lines))
-        × (bound_by client l ≡ None)
+    × (bound_by client l ≡ None)
 quiet_at client at lines l canvas within is false event other makes quiet = (
   ap (skipped canvas) (lines_at client at lines l within is
       ∙ ap (λ (b : Bool). cond b ((at, l) ∷ lines_from client (at + 1) lines) (lines_from client (at + 1) lines)) other),
@@ -98,7 +98,7 @@ quiet_at client at lines l canvas within is true event own makes quiet =
 pub passes : (client at : ℕ) (lines : List Line) (l : Line) (canvas : Option Canvas) → at < length lines → l ≡ get_or lines at l
     → is_event_of client (is_some canvas) l ≡ false
     → (skipped canvas (lines_from client at lines) ≡ skipped (passed client l canvas) (lines_from client (at + 1) lines))
-        × (bound_names client (take (at + 1) lines) ≡ bound_names client (take at lines))
+    × (bound_names client (take (at + 1) lines) ≡ bound_names client (take at lines))
 passes client at lines l canvas within is quiet =
     let step = quiet_at client at lines l canvas within is (l.client == client) (is_event (is_some canvas) l.verb) refl refl quiet in
     (step.0, nothing_bound client at lines l within is step.1)

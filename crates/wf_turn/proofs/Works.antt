@@ -1,6 +1,6 @@
 -- The Job that a turn leaves, before it is painted and then.
-use Rattle.std.proofs.Common.{◌≡◌, ℕ, ◌+◌, zero, suc, Bool, true, false, ◌&&◌, not, cond, List, [], ◌∷◌, map, set, slice_get, option_map,
-    Option, Some, None, refl, sym, ap, subst, ◌∙◌}
+use Rattle.std.proofs.Common.{◌≡◌, ℕ, ◌+◌, zero, suc, Bool, true, false, ◌&&◌, not, cond, List, [], ◌∷◌, map, set, slice_get, option_map}
+use Rattle.std.proofs.Common.{Option, Some, None, refl, sym, ap, subst, ◌∙◌}
 use Rattle.std.specs.List.{All}
 use Rattle.std.proofs.lemmas.List.Elements.{All-cons, All-nil}
 use Rattle.wf_script.specs.Script.{PlainScript}
@@ -68,10 +68,10 @@ pub handed_here : (ps : List Program) (client : ℕ) (p q : Program) → slice_g
 handed_here [] client p q found = absurd cc
 handed_here (clock ∷ others) zero p q found =
     elim (in_setup clock && not (in_setup q))
-        as (λ b. slice_get (cond b (q ∷ map (taught q) others) (q ∷ others)) 0 ≡ Some q) [ true ↦ refl | false ↦ refl ]
+    as (λ b. slice_get (cond b (q ∷ map (taught q) others) (q ∷ others)) 0 ≡ Some q) [ true ↦ refl | false ↦ refl ]
 handed_here (clock ∷ others) (suc k) p q found =
     ap (λ (ps : List Program). slice_get ps (suc k)) (not_handed (clock ∷ others) (clock ∷ set others k q) refl)
-        ∙ get_set others k p q found
+    ∙ get_set others k p q found
 
 -- names that are handed on before a Job is painted are the same behind it
 pub handed_worked : (ps : List Program) (client : ℕ) (p q : Program) → slice_get ps client ≡ Some p
@@ -83,8 +83,8 @@ handed_worked ps client p q found = rw (handed_here ps client p q found) (of_lis
     of_list [] client found = absurd cc
     of_list (clock ∷ others) zero found =
         elim q.unpainted
-            as (λ b. set (handed_on (clock ∷ others) (q ∷ others)) 0 (worked_if b q)
-                ≡ handed_on (clock ∷ others) (worked_if b q ∷ others)) [
+        as (λ b. set (handed_on (clock ∷ others) (q ∷ others)) 0 (worked_if b q)
+        ≡ handed_on (clock ∷ others) (worked_if b q ∷ others)) [
           | true ↦ of_setup (worked_if true q) refl (λ x. refl)
           | false ↦ of_setup q refl (λ x. refl)
         ]
@@ -93,7 +93,7 @@ handed_worked ps client p q found = rw (handed_here ps client p q found) (of_lis
             → set (handed_on (clock ∷ others) (q ∷ others)) 0 r ≡ handed_on (clock ∷ others) (r ∷ others)
         of_setup r setup same =
             elim (in_setup clock && not (in_setup q))
-                as (λ b. set (cond b (q ∷ map (taught q) others) (q ∷ others)) 0 r ≡ cond b (r ∷ map (taught r) others) (r ∷ others)) [
+            as (λ b. set (cond b (q ∷ map (taught q) others) (q ∷ others)) 0 r ≡ cond b (r ∷ map (taught r) others) (r ∷ others)) [
               | true ↦ ap (λ (xs : List Program). r ∷ xs) (sym (taught_same others))
               | false ↦ refl
             ] ∙ ap (λ (b : Bool). cond (in_setup clock && not b) (r ∷ map (taught r) others) (r ∷ others)) (sym setup)

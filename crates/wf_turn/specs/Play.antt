@@ -1,6 +1,6 @@
 -- Orders: which are legal, their film, and the order of serial play.
-use Rattle.std.specs.Prelude.{ℕ, zero, suc, ◌+◌, ◌*◌, Bool, false, ◌&&◌, ◌==◌, nat_lt, List, [], ◌∷◌, map, length, filter, fold, Option,
-    Some, None, IsSome, IsTrue, if◌then◌else◌}
+use Rattle.std.specs.Prelude.{ℕ, zero, suc, ◌+◌, ◌*◌, Bool, false, ◌&&◌, ◌==◌, nat_lt, List, [], ◌∷◌, map, length, filter, fold, Option}
+use Rattle.std.specs.Prelude.{Some, None, IsSome, IsTrue, if◌then◌else◌}
 use Rattle.std.specs.List.{enumerate_from}
 use Rattle.wf_words.specs.Keyed.{is_in}
 use Rattle.wf_calls.specs.declared.order.Turn.{Turn}

@@ -1,6 +1,6 @@
 -- A show while it is played serially: how it is kept, and what holds of it.
-use Rattle.std.specs.Prelude.{◌≡◌, ℕ, ◌+◌, ◌≤◌, Bool, false, ◌&&◌, List, [], ◌∷◌, ◌++◌, map, length, slice_get, slice_set, flat_map,
-    Option, Some, None, IfSome, IsSome, IsSomeAnd, IsTrue, not, ◌==◌, if◌then◌else◌}
+use Rattle.std.specs.Prelude.{◌≡◌, ℕ, ◌+◌, ◌≤◌, Bool, false, ◌&&◌, List, [], ◌∷◌, ◌++◌, map, length, slice_get, slice_set, flat_map, Option}
+use Rattle.std.specs.Prelude.{Some, None, IfSome, IsSome, IsSomeAnd, IsTrue, not, ◌==◌, if◌then◌else◌}
 use Rattle.std.specs.List.{AllByRecursion}
 use Rattle.wf_calls.specs.declared.call.Job.{Job}
 use Rattle.wf_calls.specs.declared.order.Turn.{Turn}
@@ -127,7 +127,7 @@ pub record TakesTurn (client : ℕ) (h left : State) (p now : Program) (t : Turn
 abbrev pub TakesTurnAt : ℕ → State → State → List Program → List Program → Turn → Type 0
 TakesTurnAt client h left programs now t =
     IfSome (slice_get programs client) (λ p. (q : Program)
-        × ((now ≡ slice_set programs client q) × TakesTurn client h left p (worked q) t (is_work q) × IsWork q))
+    × ((now ≡ slice_set programs client q) × TakesTurn client h left p (worked q) t (is_work q) × IsWork q))
 
 -- the frames that a turn of a client shows
 abbrev pub shown_by : Bool → List Program → ℕ → List Frame

@@ -1,6 +1,6 @@
 -- The program of a client: its place in its lines, the values of the names that it sees, and what it holds.
-use Rattle.std.specs.Prelude.{ℕ, ◌+◌, Bool, true, false, not, ◌&&◌, ◌||◌, ◌==◌, nat_lt, pos, List, [], ◌∷◌, ◌++◌, length, filter, drop,
-    take, Option, Some, None, is_some, unwrap_or, option_map, if◌then◌else◌}
+use Rattle.std.specs.Prelude.{ℕ, ◌+◌, Bool, true, false, not, ◌&&◌, ◌||◌, ◌==◌, nat_lt, pos, List, [], ◌∷◌, ◌++◌, length, filter, drop}
+use Rattle.std.specs.Prelude.{take, Option, Some, None, is_some, unwrap_or, option_map, if◌then◌else◌}
 use Rattle.std.specs.List.{enumerate_from}
 use Rattle.wf_image.specs.declared.canvas.Canvas.{Canvas}
 use Rattle.wf_image.specs.declared.paint.Paint.{Paint}

@@ -1,7 +1,7 @@
 //! The names that lines bind, with the values of those that are bound by now.
 
-ghost use Rattle.std.specs.Prelude.{◌≡◌, ◌++◌, ◌∷◌, ◌<◌, ◌≤◌, [], length, slice_get, take, vec_capacity, IfOk, IfSome, IsTrue, Option,
-    option_to_list};
+ghost use Rattle.std.specs.Prelude.{◌≡◌, ◌++◌, ◌∷◌, ◌<◌, ◌≤◌, [], length, slice_get, take, vec_capacity, IfOk, IfSome, IsTrue, Option};
+ghost use Rattle.std.specs.Prelude.{option_to_list};
 ghost use Rattle.std.specs.Option.{option_copied};
 ghost use Rattle.wf_turn.specs.Index.{IsIndex, names_of};
 ghost use Rattle.wf_turn.specs.Names.{bound_by, bound_names, is_creation, known, value_of};

@@ -131,8 +131,8 @@ fn play_turn<K: Sink>(
     ensures many { length played.new.items + all_left show.new.programs ≤ length played.old.items + all_left show.old.programs }
     ensures most { OnOk result (writer.new ≤ writer.old + 4194314) }
     ensures room { OnOk result (vec_capacity played.old ≤ vec_capacity played.new) }
-    ensures part
-        { IfErr result (λ stop. StopsTurn K.took k.old k.new writer.old stop.written show.old show.new played.old.items played.new.items) }
+    ensures part { IfErr result (λ stop. StopsTurn K.took k.old k.new writer.old stop.written show.old show.new played.old.items
+        played.new.items) }
     ensures cause { HasCause (K.faults k.old) (K.faults k.new) result }
 {
     let (turn, painted) = turn_and_paint(show, client);

@@ -5,8 +5,8 @@ ghost use Rattle.std.specs.List.{list_all};
 ghost use Rattle.std.specs.Option.{option_copied};
 ghost use Rattle.wf_script.specs.Script.{is_line};
 ghost use Rattle.wf_turn.specs.Calls.{plain_call};
-ghost use Rattle.wf_turn.specs.Program.{asked_for, first_call, first_line, handed, handle, in_setup, kept_first, next, plain, place_of,
-    program, taught, waiting};
+ghost use Rattle.wf_turn.specs.Program.{asked_for, first_call, first_line, handed, handle, in_setup, kept_first, next, plain, place_of};
+ghost use Rattle.wf_turn.specs.Program.{program, taught, waiting};
 
 use crate::names::Names;
 use crate::setup::setup_lines;

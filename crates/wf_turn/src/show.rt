@@ -1,14 +1,14 @@
 //! A show: the machine, and the programs of the eight clients.
 
-ghost use Rattle.std.specs.Prelude.{◌≡◌, ◌+◌, ◌*◌, ◌<◌, ◌≤◌, ◌^◌, ◌&&◌, not, if◌then◌else◌, ◌∷◌, map, slice_get, option_map, length,
-    flat_map, Some, IfOk, IfErr, IfSome, IsSomeAnd, IsTrue, OnOk, All, true};
+ghost use Rattle.std.specs.Prelude.{◌≡◌, ◌+◌, ◌*◌, ◌<◌, ◌≤◌, ◌^◌, ◌&&◌, not, if◌then◌else◌, ◌∷◌, map, slice_get, option_map, length};
+ghost use Rattle.std.specs.Prelude.{flat_map, Some, IfOk, IfErr, IfSome, IsSomeAnd, IsTrue, OnOk, All, true};
 ghost use Rattle.wf_film.specs.Film.{frame_bytes};
 ghost use Rattle.wf_io.specs.Bytes.{Puts, PutsPart};
 ghost use Rattle.wf_io.specs.Causes.{HasCause};
 ghost use Rattle.wf_machine.specs.Object.{IsPaintable};
 ghost use Rattle.wf_turn.specs.Play.{earlier, first_client};
-ghost use Rattle.wf_turn.specs.Playing.{ArePainted, HoldsPaintable, IsReady, StandsOwn, TakesTurnAt, Turned, has_work, may_turn,
-    shown_by, with_paint};
+ghost use Rattle.wf_turn.specs.Playing.{ArePainted, HoldsPaintable, IsReady, StandsOwn, TakesTurnAt, Turned, has_work, may_turn, shown_by};
+ghost use Rattle.wf_turn.specs.Playing.{with_paint};
 ghost use Rattle.wf_turn.specs.Program.{in_setup, place_of, taught};
 ghost use Rattle.wf_turn.specs.Ready.{IsWork};
 ghost use Rattle.wf_turn.specs.Serial.{IsFirst};
@@ -166,12 +166,7 @@ impl<'a> Show<'a> {
         ensures work { IfSome (slice_get self.new.programs client) IsWork }
     {
         let was_setup = self.clock.in_setup();
-        let turn = take_turn_of(
-            &mut self.machine,
-            &mut self.clock,
-            &mut self.others,
-            client,
-        );
+        let turn = take_turn_of(&mut self.machine, &mut self.clock, &mut self.others, client);
         hand_on(was_setup, &self.clock, &mut self.others);
         turn
     }
@@ -215,9 +210,8 @@ impl<'a> Show<'a> {
         ensures all { OnOk result (Puts K.took k.old k.new (flat_map frame_bytes (shown_by true self.now.programs client))) }
         ensures written { OnOk result (writer.new ≡ writer.old + length (flat_map frame_bytes (shown_by true self.now.programs client))) }
         ensures most { OnOk result (writer.new ≤ writer.old + 10 + 4 * 1024 * 1024) }
-        ensures part
-            { IfErr result (λ stop. PutsPart K.took k.old k.new writer.old (flat_map frame_bytes (shown_by true self.now.programs client))
-            stop.written) }
+        ensures part { IfErr result (λ stop. PutsPart K.took k.old k.new writer.old
+            (flat_map frame_bytes (shown_by true self.now.programs client)) stop.written) }
         ensures cause { HasCause (K.faults k.old) (K.faults k.new) result }
     {
         let program = self.program(client);
@@ -235,8 +229,7 @@ fn put_job<K: Sink>(k: &mut K, writer: &mut Writer, tick: u32, job: &Job) -> Res
     ensures all { OnOk result (Puts K.took k.old k.new (flat_map frame_bytes (shown job.now.kind tick job.now))) }
     ensures written { OnOk result (writer.new ≡ writer.old + length (flat_map frame_bytes (shown job.now.kind tick job.now))) }
     ensures most { OnOk result (writer.new ≤ writer.old + 10 + 4 * 1024 * 1024) }
-    ensures part
-        { IfErr result (λ stop. PutsPart K.took k.old k.new writer.old (flat_map frame_bytes (shown job.now.kind tick job.now))
+    ensures part { IfErr result (λ stop. PutsPart K.took k.old k.new writer.old (flat_map frame_bytes (shown job.now.kind tick job.now))
         stop.written) }
     ensures cause { HasCause (K.faults k.old) (K.faults k.new) result }
 {

@@ -6,8 +6,8 @@ ghost use Rattle.wf_image.specs.Paints.{is_paint};
 ghost use Rattle.wf_script.specs.Script.{is_line};
 ghost use Rattle.wf_turn.specs.Ready.{IsAnswered, IsAsking, IsWork};
 ghost use Rattle.wf_turn.specs.Names.{bound_name, bound_value};
-ghost use Rattle.wf_turn.specs.Program.{asked_next, at_port, given_canvas, go_on, line_done, port_count, took, took_canvas, took_first,
-    took_frame, took_job, took_leg, is_work, ticking, worked};
+ghost use Rattle.wf_turn.specs.Program.{asked_next, at_port, given_canvas, go_on, line_done, port_count, took, took_canvas, took_first};
+ghost use Rattle.wf_turn.specs.Program.{took_frame, took_job, took_leg, is_work, ticking, worked};
 
 use crate::names::{Names, is_creation};
 use crate::program::Program;

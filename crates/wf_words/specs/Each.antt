@@ -1,6 +1,6 @@
 -- What holds of every element of a list, by recursion: at a place, where one is written, added, found or left out.
-use Rattle.std.proofs.Common.{◌≡◌, ℕ, zero, suc, Bool, true, false, cond, List, [], ◌∷◌, ◌++◌, map, find, filter, set, slice_get, Some,
-    subst}
+use Rattle.std.proofs.Common.{◌≡◌, ℕ, zero, suc, Bool, true, false, cond, List, [], ◌∷◌, ◌++◌, map, find, filter, set, slice_get, Some}
+use Rattle.std.proofs.Common.{subst}
 use Rattle.std.specs.List.{AllByRecursion}
 
 -- what holds of all holds of the element at a place

@@ -36,7 +36,7 @@ filter_mapped p g [] = refl
 filter_mapped p g (x ∷ xs) =
     let later = filter_mapped p g xs in
     elim (p (g x)) as (λ b. cond b (g x ∷ filter p (map g xs)) (filter p (map g xs))
-        ≡ map g (cond b (x ∷ filter (λ y. p (g y)) xs) (filter (λ y. p (g y)) xs))) [
+    ≡ map g (cond b (x ∷ filter (λ y. p (g y)) xs) (filter (λ y. p (g y)) xs))) [
       | true ↦ ap (λ ys. g x ∷ ys) later
       | false ↦ later
     ]

@@ -47,7 +47,7 @@ change_left key n f keeps (x ∷ xs) = by_test (key x == n) refl (change_left ke
   where
     by_test : (b : Bool) → (key x == n) ≡ b → filter (λ y. not (key y == n)) (change key n f xs) ≡ filter (λ y. not (key y == n)) xs
         → filter (λ y. not (key y == n)) (cond b (f x) x ∷ change key n f xs)
-            ≡ cond (not b) (x ∷ filter (λ y. not (key y == n)) xs) (filter (λ y. not (key y == n)) xs)
+        ≡ cond (not b) (x ∷ filter (λ y. not (key y == n)) xs) (filter (λ y. not (key y == n)) xs)
     by_test true is later = let there : (key (f x) == n) ≡ true = ap (λ m. m == n) (keeps x) ∙ is in rw there later
     by_test false is later = rw is (ap (λ ys. x ∷ ys) later)
 

@@ -13,7 +13,7 @@ pub is_in-without : (n x : ℕ) (ns : List ℕ) → (x == n) ≡ false → is_in
 is_in-without n x [] apart = refl
 is_in-without n x (y ∷ ns) apart =
     by_number (is_in n (cond (not (y == x)) (y ∷ filter (λ z. not (z == x)) ns) (filter (λ z. not (z == x)) ns)) ≡ ((y == n) || is_in n ns))
-        y x
+    y x
     (λ here same. rw here (is_in-without n x ns apart ∙ (let no : (y == n) ≡ false = rw same apart in rw no refl)))
     (λ other. rw other (ap (λ (b : Bool). (y == n) || b) (is_in-without n x ns apart)))
 
@@ -26,7 +26,7 @@ pub without_itself : (x : ℕ) (ns : List ℕ) → is_in x (filter (λ y. not (y
 without_itself x [] = refl
 without_itself x (y ∷ ns) =
     elim (y == x) as (λ b. (y == x) ≡ b → is_in x (cond (not b) (y ∷ filter (λ z. not (z == x)) ns) (filter (λ z. not (z == x)) ns))
-        ≡ false) [
+    ≡ false) [
       | true ↦ λ here. without_itself x ns
       | false ↦ λ apart. rw apart (without_itself x ns)
     ] refl

@@ -59,7 +59,7 @@ pub map_step : {A : Type 0} (f : A → A) (xs ys : List A) (i : ℕ) (d y : A) �
 map_step f xs ys i d y within so_far is =
     ap (λ (zs : List _). set zs i y) so_far
     ∙ ap (λ (z : _). set (map f (take i xs) ++ drop i xs) i z) (is ∙ ap (λ (zs : List _). f (get_or zs i d)) so_far
-        ∙ ap f (next_is f xs i d within))
+    ∙ ap f (next_is f xs i d within))
     ∙ step_at f xs i d within
     ∙ (let next : suc i ≡ i + 1 = omega arith in ap (λ (n : ℕ). map f (take n xs) ++ drop n xs) next)
 

@@ -50,7 +50,7 @@ find_tested f q low n (x ∷ xs) rises = by_number (find_tested f q (f x) n xs r
   where
     by_number : find (λ y. (f y == n) && q y) xs ≡ option_and_then (λ y. cond (q y) (Some y) None) (find (λ y. f y == n) xs)
         → (b : Bool) → (f x == n) ≡ b → find (λ y. (f y == n) && q y) (x ∷ xs)
-            ≡ option_and_then (λ y. cond (q y) (Some y) None) (find (λ y. f y == n) (x ∷ xs))
+        ≡ option_and_then (λ y. cond (q y) (Some y) None) (find (λ y. f y == n) (x ∷ xs))
     by_number later false is = rw is later
     by_number later true is =
         let same : f x ≡ n = eqb-true (f x) n is in
@@ -148,7 +148,7 @@ left_of f q n low (y ∷ xs) x rises found fails = by_test (left_of f q n (f y) 
     by_test : (find (λ z. f z == n) xs ≡ Some x → q x ≡ false → filter q (filter (λ z. not (f z == n)) xs) ≡ filter q xs) → (b : Bool)
         → (f y == n) ≡ b → cond b (Some y) (find (λ z. f z == n) xs) ≡ Some x
         → filter q (cond (not b) (y ∷ filter (λ z. not (f z == n)) xs) (filter (λ z. not (f z == n)) xs))
-            ≡ cond (q y) (y ∷ filter q xs) (filter q xs)
+        ≡ cond (q y) (y ∷ filter q xs) (filter q xs)
     by_test later true is at =
         let same : y ≡ x = cc in
         let out : q y ≡ false = ap q same ∙ fails in

@@ -8,7 +8,7 @@ returns-in-Err c =
     let p = c.in_ok-place in
     let x = within a.objects.now.contexts p.place p.ensures.within in
     commit_refused a.objects.now a.store.now c.requires p.place x.0 x.1 c.cached.result.now (rw x.1 at c.cached.ensures) a.device a.context
-        p.ensures.found p.ensures.here c.in-Err.refused c.in-Err.ensures.scene
+    p.ensures.found p.ensures.here c.in-Err.refused c.in-Err.ensures.scene
 
 pub set_committed-requires-clause-scene_fits : goal.set_committed-requires-clause-scene_fits
 set_committed-requires-clause-scene_fits c =
@@ -16,7 +16,7 @@ set_committed-requires-clause-scene_fits c =
     let p = c.in_ok-place in
     let x = within a.objects.now.contexts p.place p.ensures.within in
     rw x.1 (scene_fits a.objects.now a.store.now c.requires p.place x.0 x.1 c.cached.result.now (rw x.1 at c.cached.ensures) c.in-Ok.scene
-        c.in-Ok.ensures.scene c.in-Ok.ensures.placed)
+    c.in-Ok.ensures.scene c.in-Ok.ensures.placed)
 
 pub returns : goal.returns
 returns c =
@@ -24,4 +24,4 @@ returns c =
     let p = c.in_ok-place in
     let x = within a.objects.now.contexts p.place p.ensures.within in
     commit_taken a.objects.now a.store.now c.requires p.place x.0 x.1 c.cached.result.now (rw x.1 at c.cached.ensures) a.device a.context
-        p.ensures.found p.ensures.here c.in-Ok.scene c.in-Ok.ensures.scene c.set_committed.new.self c.set_committed.ensures
+    p.ensures.found p.ensures.here c.in-Ok.scene c.in-Ok.ensures.scene c.set_committed.new.self c.set_committed.ensures

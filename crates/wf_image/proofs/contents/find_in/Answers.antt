@@ -10,8 +10,8 @@ use Rattle.wf_image.proofs.contents.find_in.Goals.{in-Some+else-number-stream, i
 pub returns-then-number-stream-clause-some : goal.returns-then-number-stream-clause-some
 returns-then-number-stream-clause-some c =
     ap (λ o. option_map (λ pair. pair.1) o) (find_here (λ pair. pair.0 == c.args.stream) c.args.pairs.now c.loop-at.at
-        c.index-pairs-at.result (c.in-Some.number, c.in-Some.image) c.loop-at-test.true c.index-pairs-at.is c.loop-at.invariant c.in-Some.is
-        (grind (arith, nat_tests, c.if-number-stream.true)))
+    c.index-pairs-at.result (c.in-Some.number, c.in-Some.image) c.loop-at-test.true c.index-pairs-at.is c.loop-at.invariant c.in-Some.is
+    (grind (arith, nat_tests, c.if-number-stream.true)))
 
 pub loop-at-preserved : goal.loop-at-preserved
 loop-at-preserved c =

@@ -6,5 +6,5 @@ pub returns : goal.returns
 returns c =
     let stride : c.args.at + c.args.size.w * c.bytes_of_pixel.result - c.args.at ≡ c.args.size.w * c.bytes_of_pixel.result = omega arith in
     row_in_place c.args.size c.args.format c.args.bytes.now c.paint_row.new.row c.args.p.now c.args.y c.args.at
-        (c.args.at + c.args.size.w * c.bytes_of_pixel.result - c.args.at) (stride ∙ ap (λ n. c.args.size.w * n) c.bytes_of_pixel.ensures)
-        c.paint_row.ensures
+    (c.args.at + c.args.size.w * c.bytes_of_pixel.result - c.args.at) (stride ∙ ap (λ n. c.args.size.w * n) c.bytes_of_pixel.ensures)
+    c.paint_row.ensures

@@ -12,6 +12,6 @@ loop-y-preserved c =
     let at : ℕ = c.loop-y.y * stride in
     let new : List ℕ = put_mid at (at + stride - at) c.loop-y.bytes c.paint_row.new.row in
     written_more row stride c.loop-y.y c.loop-y.bytes new c.args.bytes.now at (at + stride) ((c.loop-y.y + 1) * stride)
-        (length-bound_row c.args.scene.now c.args.layers.now) (omega arith) refl (omega arith) c.loop-y.invariant
+    (length-bound_row c.args.scene.now c.args.layers.now) (omega arith) refl (omega arith) c.loop-y.invariant
     (part_written c.loop-y.bytes c.paint_row.new.row at (at + stride - at) (at + stride) (omega arith)
-        ∙ ap (λ (part : List ℕ). take at c.loop-y.bytes ++ part ++ drop (at + stride) c.loop-y.bytes) c.paint_row.ensures)
+    ∙ ap (λ (part : List ℕ). take at c.loop-y.bytes ++ part ++ drop (at + stride) c.loop-y.bytes) c.paint_row.ensures)

@@ -21,7 +21,7 @@ bring_image_home-requires c =
     let is = next_home c.args.contents c.loop-number.contents c.pop.new.self home pair c.loop-number.invariant.1 c.in-Some.ensures.last in
     let awaited = next_awaited streams c.args.contents c.pop.new.self home pair is c.requires.awaited in
     subst (λ (store : StoreView). Awaits store.streams pair) (sym c.loop-number.invariant.2)
-        (still_awaits pair home streams awaited.1 awaited.0)
+    (still_awaits pair home streams awaited.1 awaited.0)
 
 pub loop-number-preserved : goal.loop-number-preserved
 loop-number-preserved c =
@@ -34,14 +34,14 @@ loop-number-preserved c =
       is,
       c.bring_image_home.ensures
           ∙ ap (λ (store : StoreView). record store { streams = change_stream c.in-Some.number (returned c.in-Some.image) store.streams })
-              c.loop-number.invariant.2
+          c.loop-number.invariant.2
           ∙ ap (λ (streams : List KeptStream). record before { streams = streams })
-              (home_more c.in-Some.number c.in-Some.image home before.streams awaited.1),
+          (home_more c.in-Some.number c.in-Some.image home before.streams awaited.1),
     )
 
 pub returns : goal.returns
 returns c =
     let before = c.args.store.now in
     let is : c.args.contents ≡ c.loop-number.invariant.0 = c.loop-number.invariant.1
-        ∙ ap (λ (xs : Images). xs ++ c.loop-number.invariant.0) c.in_default.ensures.none in
+    ∙ ap (λ (xs : Images). xs ++ c.loop-number.invariant.0) c.in_default.ensures.none in
     c.loop-number.invariant.2 ∙ ap (λ (xs : Images). record before { streams = brought_home xs before.streams }) (sym is)

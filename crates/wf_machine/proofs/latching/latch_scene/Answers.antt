@@ -15,22 +15,22 @@ take-requires-clause-home c = take_home c.args.store.now c.loop-layer.store _ _ 
 pub take-requires-in-loop-layer-clause-home : goal.take-requires-in-loop-layer-clause-home
 take-requires-in-loop-layer-clause-home c =
     let first = take_step c.args.store.now c.loop-layer.store c.take.new.store _ _ c.args.store.now.numbered c.loop-layer.images
-        c.take.new.self c.requires.numbered c.loop-layer.invariant.so_far c.take.ensures.contents c.take.ensures.store
-        c.take.ensures.shaped in
+    c.take.new.self c.requires.numbered c.loop-layer.invariant.so_far c.take.ensures.contents c.take.ensures.store
+    c.take.ensures.shaped in
     take_home c.args.store.now c.take.new.store _ _ c.take.new.self c.requires.home first
 
 pub loop-layer-preserved : goal.loop-layer-preserved
 loop-layer-preserved c =
     let first = take_step c.args.store.now c.loop-layer.store c.take.new.store _ _ c.args.store.now.numbered c.loop-layer.images
-        c.take.new.self c.requires.numbered c.loop-layer.invariant.so_far c.take.ensures.contents c.take.ensures.store
-        c.take.ensures.shaped in
+    c.take.new.self c.requires.numbered c.loop-layer.invariant.so_far c.take.ensures.contents c.take.ensures.store
+    c.take.ensures.shaped in
     let t = c.take-in-loop-layer in
     let second = take_step c.args.store.now c.take.new.store t.new.store _ _ c.args.store.now.numbered c.take.new.self t.new.self
-        c.requires.numbered first t.ensures.contents t.ensures.store t.ensures.shaped in
+    c.requires.numbered first t.ensures.contents t.ensures.store t.ensures.shaped in
     let one : length c.take.new.self ≤ length c.loop-layer.images + 1 =
-        few_step _ c.loop-layer.store.streams c.loop-layer.images c.take.new.self c.take.ensures.contents in
+    few_step _ c.loop-layer.store.streams c.loop-layer.images c.take.new.self c.take.ensures.contents in
     let two : length t.new.self ≤ length c.take.new.self + 1 =
-        few_step _ c.take.new.store.streams c.take.new.self t.new.self t.ensures.contents in
+    few_step _ c.take.new.store.streams c.take.new.self t.new.self t.ensures.contents in
     record {
       so_far = subst (λ (ns : List ℕ). IsTaken c.args.store.now ns t.new.self t.new.store)
           (sym (names_more c.loop-layer.layer-index c.as_slice-layer-items.result.now _ c.loop-layer-test.true)) second;

@@ -5,9 +5,11 @@ use Rattle.wf_machine.proofs.port.take_image.Goals as goal
 
 pub take_image-requires-clause-some : goal.take_image-requires-clause-some
 take_image-requires-clause-some c =
-    omega (arith,
-    (fits_at None c.args.ports.now.items c.args.place c.index_mut.result.now c.requires.within c.index_mut.ensures.value
-    c.requires.fit).some)
+    omega (
+      arith,
+      (fits_at None c.args.ports.now.items c.args.place c.index_mut.result.now c.requires.within c.index_mut.ensures.value
+          c.requires.fit).some,
+    )
 
 pub take_image-requires-clause-there : goal.take_image-requires-clause-there
 take_image-requires-clause-there c =
@@ -17,12 +19,12 @@ take_image-requires-clause-there c =
 pub returns-clause-shape : goal.returns-clause-shape
 returns-clause-shape c =
     shape_of c.args.ports.now.items c.args.place c.index_mut.result.now c.take_image.result c.requires.within
-        (rw (sym c.index_mut.ensures.value) c.take_image.ensures.shape)
+    (rw (sym c.index_mut.ensures.value) c.take_image.ensures.shape)
 
 pub returns-clause-modes : goal.returns-clause-modes
 returns-clause-modes c =
     modes_stay c.args.ports.now.items c.args.place c.take_image.new.self c.index_mut.result.now c.requires.within
-        (c.take_image.ensures.modes ∙ ap (λ (p : declared.Port). p.modes) c.index_mut.ensures.value)
+    (c.take_image.ensures.modes ∙ ap (λ (p : declared.Port). p.modes) c.index_mut.ensures.value)
 
 pub returns-clause-away : goal.returns-clause-away
 returns-clause-away c frame is =

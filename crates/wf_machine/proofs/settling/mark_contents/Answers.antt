@@ -14,9 +14,9 @@ loop-content-preserved c =
     let all = c.args.contents.now in
     let i = c.loop-content.content-index in
     let more = more_marked c.args.store.now c.loop-content.store c.mark_kept.new.store (map stream (take i all)) _ c.loop-content.invariant
-        c.mark_kept.ensures in
+    c.mark_kept.ensures in
     subst (λ (ns : List ℕ). Marks c.args.store.now c.mark_kept.new.store ns)
-        (sym (ap (map stream) (take_more all i _ c.loop-content-test.true) ∙ map-append stream (take i all) (_ ∷ []))) more
+    (sym (ap (map stream) (take_more all i _ c.loop-content-test.true) ∙ map-append stream (take i all) (_ ∷ []))) more
 
 pub returns : goal.returns
 returns c = subst (λ (cs : List Content). Marks c.args.store.now c.loop-content.store (map (λ (x : Content). x.stream) cs))

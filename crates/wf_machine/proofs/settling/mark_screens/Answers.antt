@@ -12,6 +12,6 @@ loop-port-preserved c =
     let n = c.loop-port.port in
     let next : n + 1 ≡ 1 + n = omega arith in
     let more = more_marked c.args.store.now c.loop-port.store c.mark_kept.new.store (range_with_len 1 n) ((n + 1) ∷ [])
-        c.loop-port.invariant c.mark_kept.ensures in
+    c.loop-port.invariant c.mark_kept.ensures in
     subst (λ (ns : List ℕ). Marks c.args.store.now c.mark_kept.new.store ns) (ap (λ (k : ℕ). range_with_len 1 n ++ k ∷ []) next
-        ∙ sym (range_more 1 n)) more
+    ∙ sym (range_more 1 n)) more

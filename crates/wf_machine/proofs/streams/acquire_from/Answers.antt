@@ -11,10 +11,10 @@ pub returns-clause-acquired : goal.returns-clause-acquired
 returns-clause-acquired c =
     on_ok c.acquire.result c.acquire.ensures.acquired
     (λ is. lent c.args.store.now c.args.number acquired c.in-Some.stream.now c.acquire.new.self c.get_mut.ensures.numbered
-        c.in-Some.ensures.value is)
+    c.in-Some.ensures.value is)
 
 pub returns-clause-refused : goal.returns-clause-refused
 returns-clause-refused c =
     on_err c.acquire.result c.acquire.ensures.refused
     (λ is. lent_same c.args.store.now c.args.number c.in-Some.stream.now c.acquire.new.self c.get_mut.ensures.numbered
-        c.in-Some.ensures.value is)
+    c.in-Some.ensures.value is)

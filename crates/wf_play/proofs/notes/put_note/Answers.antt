@@ -8,6 +8,6 @@ returns-clause-line g c =
     let before = g.N.Sink.faults c.args.notes.now in
     let now = g.N.Sink.faults c.write_all.new.k in
     subst (λ (bytes : List ℕ). PutsOrFront g.N.Sink.took c.args.notes.now c.write_all.new.k before now bytes) (c.as_slice.ensures.value
-        ∙ c.note_of.ensures)
+    ∙ c.note_of.ensures)
     (put_front g.N.Sink.took c.args.notes.now c.write_all.new.k before now c.as_slice.result.now c.write_all.result c.write_all.ensures.all
-        c.write_all.ensures.part c.write_all.ensures.cause)
+    c.write_all.ensures.part c.write_all.ensures.cause)

@@ -15,14 +15,14 @@ loop-rest-preserved c =
     let long : 8 ≤ length c.loop-rest.rest.now = omega (arith, cases.2) in
     rw c.in_ok-push-in-Ok.ensures.items
     (sym (pixel_more c.loop-rest.pixels.items c.loop-rest.rest.now c.in-Some.digits.now c.in-Some.behind.now c.in-Ok.pixel long cases.0
-        cases.1 (sym c.in-Ok.ensures)) ∙ c.loop-rest.invariant)
+    cases.1 (sym c.in-Ok.ensures)) ∙ c.loop-rest.invariant)
 
 pub returns-in-Err : goal.returns-in-Err
 returns-in-Err c =
     let cases = c.in-Some.ensures.cases in
     let long : 8 ≤ length c.loop-rest.rest.now = omega (arith, cases.2) in
     sym c.loop-rest.invariant ∙ no_pixel c.loop-rest.pixels.items c.loop-rest.rest.now c.in-Some.digits.now c.in-Err.rule long cases.0
-        (sym c.in-Err.ensures)
+    (sym c.in-Err.ensures)
 
 pub returns : goal.returns
 returns c =

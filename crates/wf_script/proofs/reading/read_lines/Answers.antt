@@ -19,7 +19,7 @@ returns-in-Err c =
     let few : n ≤ 16384 = omega arith in
     rw c.fault_at.ensures
     (line_fault_is n r (reading c.line.new.self) c.in-Err.fault c.in-Some.line.now (lines_of c.in-Some.behind.now)
-        (read_lines 2 nothing_read (lines_of c.args.bytes.now)) few c.in-Err.ensures.read
+    (read_lines 2 nothing_read (lines_of c.args.bytes.now)) few c.in-Err.ensures.read
     (sym (ap (λ (ls : List (List ℕ)). read_lines n r ls) c.in-Some.ensures.lines) ∙ c.loop-line.invariant.same))
 
 pub loop-line-preserved : goal.loop-line-preserved
@@ -40,11 +40,11 @@ returns-then-not-reader c =
     let n = c.loop-line.number in
     let r = reading c.loop-line.reader in
     sym c.loop-line.invariant.same ∙ ap (λ (ls : List (List ℕ)). read_lines n r ls) c.in_default.ensures.lines
-        ∙ no_end n r c.if-not-reader.true
+    ∙ no_end n r c.if-not-reader.true
 
 pub returns : goal.returns
 returns c =
     let n = c.loop-line.number in
     let r = reading c.loop-line.reader in
     sym c.loop-line.invariant.same ∙ ap (λ (ls : List (List ℕ)). read_lines n r ls) c.in_default.ensures.lines
-        ∙ ended n r c.if-not-reader.false
+    ∙ ended n r c.if-not-reader.false

@@ -6,10 +6,10 @@ pub returns-clause-front : goal.returns-clause-front
 returns-clause-front c =
     let text = c.args.text.now in
     c.cut_out.ensures.front ∙ ap (λ n. take n text) (c.unwrap_or-place.ensures ∙ ap (λ o. unwrap_or o (length text)) c.place_of.ensures
-        ∙ place_or_end (λ b. b == c.args.mark) text)
+    ∙ place_or_end (λ b. b == c.args.mark) text)
 
 pub returns-clause-behind : goal.returns-clause-behind
 returns-clause-behind c =
     let text = c.args.text.now in
     c.cut_out.ensures.behind ∙ ap (λ n. drop (n + 1) text) (c.unwrap_or-place.ensures
-        ∙ ap (λ o. unwrap_or o (length text)) c.place_of.ensures ∙ place_or_end (λ b. b == c.args.mark) text)
+    ∙ ap (λ o. unwrap_or o (length text)) c.place_of.ensures ∙ place_or_end (λ b. b == c.args.mark) text)

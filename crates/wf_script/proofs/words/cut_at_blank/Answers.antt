@@ -7,10 +7,10 @@ pub returns-clause-front : goal.returns-clause-front
 returns-clause-front c =
     let text = c.args.text.now in
     c.cut_out.ensures.front ∙ ap (λ n. take n text) (c.unwrap_or-place.ensures ∙ ap (λ o. unwrap_or o (length text)) c.blank_in.ensures
-        ∙ place_or_end is_blank text)
+    ∙ place_or_end is_blank text)
 
 pub returns-clause-behind : goal.returns-clause-behind
 returns-clause-behind c =
     let text = c.args.text.now in
     c.cut_out.ensures.behind ∙ ap (λ n. drop (n + 1) text) (c.unwrap_or-place.ensures
-        ∙ ap (λ o. unwrap_or o (length text)) c.blank_in.ensures ∙ place_or_end is_blank text)
+    ∙ ap (λ o. unwrap_or o (length text)) c.blank_in.ensures ∙ place_or_end is_blank text)

@@ -9,7 +9,7 @@ returns-then-not-is_empty-clause-words c =
     let cut = c.cut_at_blank in
     let some : 0 < length cut.result.0.now = grind (arith, nat_tests) in
     sym c.loop-rest.invariant.same ∙ next_is_word c.loop-rest.rest.now cut.result.0.now cut.result.1.now cut.ensures.front
-        cut.ensures.behind some
+    cut.ensures.behind some
 
 pub loop-rest-preserved : goal.loop-rest-preserved
 loop-rest-preserved c =

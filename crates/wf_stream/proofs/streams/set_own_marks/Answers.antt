@@ -8,4 +8,4 @@ use Rattle.wf_stream.proofs.streams.set_own_marks.Goals as goal
 pub returns : goal.returns
 returns c =
     map_same_pairs _ (λ (o : Place). with_mark (is_marked_or_own c.args.pool.now o) o) _ (λ k v b w f' t. search rules)
-        c.args.places.now.entries _ c.retain.ensures.filtered
+    c.args.places.now.entries _ c.retain.ensures.filtered

@@ -22,5 +22,5 @@ pub returns-in-Err-clause-part : goal.returns-in-Err-clause-part
 returns-in-Err-clause-part c =
     λ c'.
     one_stopped c.K.Sink.took c'.args.k.now c'.loop-client.k c'.play_turn.new.k c'.args.writer.now c'.loop-client.writer
-        c'.in-Err.stop.written c'.args.show.now c'.loop-client.show c'.play_turn.new.show c'.loop-client.played.items
-        c'.play_turn.new.played.items c'.loop-client.invariant.plays c'.in-Err.ensures.part
+    c'.in-Err.stop.written c'.args.show.now c'.loop-client.show c'.play_turn.new.show c'.loop-client.played.items
+    c'.play_turn.new.played.items c'.loop-client.invariant.plays c'.in-Err.ensures.part

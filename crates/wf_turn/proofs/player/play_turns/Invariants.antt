@@ -6,7 +6,7 @@ use Rattle.wf_turn.proofs.player.play_turns.Given as goal
 abbrev pub invariant-loop-client : goal.invariant-loop-client
 invariant-loop-client g l =
     IsPlaying g.K.Sink.took l.initial.k l.k l.initial.writer l.writer l.initial.show l.show l.played.items
-        (all_left l.initial.show.programs) (vec_capacity l.played) (g.K.Sink.faults l.initial.k) (g.K.Sink.faults l.k)
+    (all_left l.initial.show.programs) (vec_capacity l.played) (g.K.Sink.faults l.initial.k) (g.K.Sink.faults l.k)
 
 abbrev pub decreases-loop-client : goal.decreases-loop-client
 decreases-loop-client g l = all_left l.show.programs

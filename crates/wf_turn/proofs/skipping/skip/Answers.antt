@@ -10,9 +10,9 @@ loop-at-preserved c =
     let lines = c.args.lines.now in
     let was = c.loop-at.invariant in
     let quiet = ap (λ held. is_event_of c.args.client held c.index-lines-at.result) (sym c.is_some.ensures) ∙ sym c.is_event_of.ensures
-        ∙ c.if-is_event_of.false in
+    ∙ c.if-is_event_of.false in
     let step = passes c.args.client c.loop-at.at lines c.index-lines-at.result c.loop-at.canvas c.loop-at-test.true c.index-lines-at.is
-        quiet in
+    quiet in
     record {
       within = omega (arith, c.loop-at-test.true);
       later = omega (arith, was.later);

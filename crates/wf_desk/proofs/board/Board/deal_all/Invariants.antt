@@ -9,4 +9,4 @@ invariant-loop-i g l = (l.root.table_id ≡ l.self.table.shared.table_id) × (l.
     × (l.root.me.0.quotas ≡ drop l.i l.key.quotas.items) × (l.root.me.0.next ≡ l.i) × (l.client ≡ l.i)
     × (vec_len l.passes ≡ l.i) × (length l.key.quotas.items ≤ vec_capacity l.passes)
     × (l.passes.items ++ fresh l.self.table.shared.table_id l.key.opening.value l.i (drop l.i l.key.quotas.items)
-        ≡ fresh l.self.table.shared.table_id l.key.opening.value 0 l.key.quotas.items)
+    ≡ fresh l.self.table.shared.table_id l.key.opening.value 0 l.key.quotas.items)

@@ -7,15 +7,18 @@ use Rattle.wf_desk.proofs.board.Board.finish.Goals as goal
 
 pub record-at-requires-clause-may : goal.record-at-requires-clause-may
 record-at-requires-clause-may g c κs within =
-    let f = c.requires.finds in
-    (f.0, f.1, asked g.O.Object.after g.O.Object.may g.O.Object.entry_of f.0 c.args.seat.now.me.0 c.args.home
-        (event c.args.client c.args.call c.answer-reply.result) _ c.of-asked.ensures f.2 c.answer-reply.ensures.may)
+    let f = c.requires.finds in (
+      f.0,
+      f.1,
+      asked g.O.Object.after g.O.Object.may g.O.Object.entry_of f.0 c.args.seat.now.me.0 c.args.home
+          (event c.args.client c.args.call c.answer-reply.result) _ c.of-asked.ensures f.2 c.answer-reply.ensures.may,
+    )
 
 pub leave-requires-clause-home : goal.leave-requires-clause-home
 leave-requires-clause-home g c κs within =
     let f = c.requires.finds in let back = c.put.ensures.put in let a = c.answer-reply.ensures in
     let grew = ap (λ m. m.0) back ∙ (ap (λ m. m.0) c.record-at.ensures.grown
-        ∙ ap (λ x. grown c.args.seat.now.me.0 (event c.args.client x c.answer-reply.result)) c.of-asked.ensures) in (
+    ∙ ap (λ x. grown c.args.seat.now.me.0 (event c.args.client x c.answer-reply.result)) c.of-asked.ensures) in (
       _,
       ap (λ m. m.1) back,
       f.0,
@@ -28,18 +31,18 @@ leave-requires-clause-home g c κs within =
 pub returns-clause-made : goal.returns-clause-made
 returns-clause-made g c =
     let grew = ap (λ m. m.0) c.put.ensures.put ∙ (ap (λ m. m.0) c.record-at.ensures.grown
-        ∙ ap (λ x. grown c.args.seat.now.me.0 (event c.args.client x c.answer-reply.result)) c.of-asked.ensures) in
+    ∙ ap (λ x. grown c.args.seat.now.me.0 (event c.args.client x c.answer-reply.result)) c.of-asked.ensures) in
     c.leave.ensures.idle ∙ ap (λ y. (at_stage y Idle y.seen, [])) grew
 
 pub returns-clause-legal : goal.returns-clause-legal
 returns-clause-legal g c k named =
     let f = finds_at g.O.Object.after g.O.Object.may g.O.Object.entry_of c.args.seat.now.me.0 c.args.seat.now.me.0.seen c.args.home
-        c.requires.finds k named in
+    c.requires.finds k named in
     legal_after g.O.Object.after g.O.Object.may g.O.Object.entry_of k c.args.seat.now.me.0.seen c.args.home
-        (event c.args.client c.args.call c.answer-reply.result) f.0 f.1 c.answer-reply.ensures.may
+    (event c.args.client c.args.call c.answer-reply.result) f.0 f.1 c.answer-reply.ensures.may
 
 pub returns-clause-may : goal.returns-clause-may
 returns-clause-may g c k named =
     let f = finds_at g.O.Object.after g.O.Object.may g.O.Object.entry_of c.args.seat.now.me.0 c.args.seat.now.me.0.seen c.args.home
-        c.requires.finds k named in
+    c.requires.finds k named in
     subst (λ o. g.O.Object.may o c.args.client c.args.call c.answer-reply.result) f.0.0 c.answer-reply.ensures.may

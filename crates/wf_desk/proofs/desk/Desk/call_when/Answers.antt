@@ -9,23 +9,23 @@ pub invariant_of-pass : goal.invariant_of-pass
 invariant_of-pass g c =
     let pass = c.pass.inside in
     sits_after g.O.Object.after g.O.Object.may (λ object. IsTrue (g.O.Object.is_ready object c.args.call)) pass.seat
-        c.make_when-reply.new.seat pass.client pass.left pass.place c.make_when-reply.result.1 c.args.call c.make_when-reply.result.0
+    c.make_when-reply.new.seat pass.client pass.left pass.place c.make_when-reply.result.1 c.args.call c.make_when-reply.result.0
     c.pass.invariant c.make_when-reply.ensures.made
 
 pub returns-clause-made : goal.returns-clause-made
 returns-clause-made g c =
     let pass = c.pass.inside in
     subst (λ k. Made g.O.Object.after g.O.Object.may (λ object. IsTrue (g.O.Object.is_ready object c.args.call)) k c.args.call
-        c.make_when-reply.result.0 (known c.make_when-reply.new.seat pass.client (pass.left - 1) c.make_when-reply.result.1)) c.pass.view_is
+    c.make_when-reply.result.0 (known c.make_when-reply.new.seat pass.client (pass.left - 1) c.make_when-reply.result.1)) c.pass.view_is
     (made_after g.O.Object.after g.O.Object.may (λ object. IsTrue (g.O.Object.is_ready object c.args.call)) pass.seat
-        c.make_when-reply.new.seat pass.client pass.left pass.place c.make_when-reply.result.1 c.args.call c.make_when-reply.result.0
+    c.make_when-reply.new.seat pass.client pass.left pass.place c.make_when-reply.result.1 c.args.call c.make_when-reply.result.0
     c.pass.invariant c.make_when-reply.ensures.made (subst (λ k. 0 < k.left) (sym c.pass.view_is) c.requires.left)
-        c.make_when-reply.ensures.place.0)
+    c.make_when-reply.ensures.place.0)
 
 pub returns-clause-own : goal.returns-clause-own
 returns-clause-own g c =
     let pass = c.pass.inside in
     sits_own g.O.Object.after g.O.Object.may c.make_when-reply.new.seat pass.client (pass.left - 1) c.make_when-reply.result.1
     (sits_after g.O.Object.after g.O.Object.may (λ object. IsTrue (g.O.Object.is_ready object c.args.call)) pass.seat
-        c.make_when-reply.new.seat pass.client pass.left pass.place c.make_when-reply.result.1 c.args.call c.make_when-reply.result.0
+    c.make_when-reply.new.seat pass.client pass.left pass.place c.make_when-reply.result.1 c.args.call c.make_when-reply.result.0
     c.pass.invariant c.make_when-reply.ensures.made)

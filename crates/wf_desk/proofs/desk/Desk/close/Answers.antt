@@ -9,15 +9,15 @@ pub end-requires-clause-all : goal.end-requires-clause-all
 end-requires-clause-all g c κs within =
     let all = subst (λ d. AreAll d.id (length d.quotas) c.args.passes.items) (sym c.self.view_is) c.requires.passes in
     subst (λ hands. Covers hands (length c.self.inside.board.table.shared.key.quotas.items)) (sym c.gather-seat.ensures.hands)
-        (covers _ _ c.args.passes.items all)
+    (covers _ _ c.args.passes.items all)
 
 pub returns : goal.returns
 returns g c =
     let all = subst (λ d. AreAll d.id (length d.quotas) c.args.passes.items) (sym c.self.view_is) c.requires.passes in
     let key = c.self.inside.board.table.shared.key in
     subst (λ d. IsClosing g.O.Object.after g.O.Object.may g.O.Object.entry_of d c.args.passes.items c.end.result.0 c.end.result.1)
-        c.self.view_is
+    c.self.view_is
     (closing g.O.Object.after g.O.Object.may g.O.Object.entry_of key _ c.args.passes.items c.end.result.0 c.end.result.1 all
-        c.gather-seat.ensures.own
+    c.gather-seat.ensures.own
     (subst (λ hands. Ends g.O.Object.after g.O.Object.may g.O.Object.entry_of key hands c.end.result.0 c.end.result.1)
-        c.gather-seat.ensures.hands c.end.ensures))
+    c.gather-seat.ensures.hands c.end.ensures))

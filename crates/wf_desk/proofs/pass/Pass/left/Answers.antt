@@ -7,4 +7,4 @@ pub returns-clause-own : goal.returns-clause-own
 returns-clause-own g c =
     subst (IsOwn g.O.Object.after g.O.Object.may) c.self.view_is
     (sits_own g.O.Object.after g.O.Object.may c.self.inside.seat c.self.inside.client c.self.inside.left c.self.inside.place
-        c.self.invariant)
+    c.self.invariant)

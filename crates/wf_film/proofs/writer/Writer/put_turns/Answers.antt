@@ -8,4 +8,4 @@ returns-in_err-put-clause-part g c =
     let p = err_from_is_err_and c.from_residual.result c.from_residual.ensures.1 in
     rw (p.1, p.2, ← c.turns-turn-items.ensures)
     (stops_within g.K.Sink.took _ _ _ turn_bytes c.turns-turn-items.result.now c.loop-turn.turn-index _ _ _ _ c.loop-turn-test.true
-        c.loop-turn.invariant.front c.loop-turn.invariant.written (rw c.bytes_of_turn.ensures at c.in_err-put.ensures.part))
+    c.loop-turn.invariant.front c.loop-turn.invariant.written (rw c.bytes_of_turn.ensures at c.in_err-put.ensures.part))

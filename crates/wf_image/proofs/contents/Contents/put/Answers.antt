@@ -9,4 +9,4 @@ push-requires c = (omega arith, omega (arith, length-somes c.self.inside.pairs.i
 pub returns : goal.returns
 returns c =
     ap (λ l. somes l) c.push.ensures.items ∙ somes_put c.self.inside.pairs.items (c.args.stream, c.args.image)
-        ∙ ap (λ l. l ++ (c.args.stream, c.args.image) ∷ []) c.self.view_is
+    ∙ ap (λ l. l ++ (c.args.stream, c.args.image) ∷ []) c.self.view_is

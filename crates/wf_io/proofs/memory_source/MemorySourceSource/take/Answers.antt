@@ -11,4 +11,4 @@ returns-clause-bytes c =
     rest_of c.deref-2.result.now at ∙ ap (drop at) c.deref-2.ensures.value ∙ sym left-is in
     moved c.args.self.now.left c.self.inside.bytes.items c.copy_from_slice.new.self c.args.into.now at c.self.inside.step c.min-n.result
     left-is (c.copy_from_slice.ensures.after ∙ ap (take c.min-n.result) whole)
-        (omega (arith, c.min-n.ensures, c.min.ensures, ap length whole)) c.self.invariant.1
+    (omega (arith, c.min-n.ensures, c.min.ensures, ap length whole)) c.self.invariant.1

@@ -8,7 +8,7 @@ pub returns-in-Some-clause-found : goal.returns-in-Some-clause-found
 returns-in-Some-clause-found c =
     let by_map = key_of_lookup 0 c.self.inside.made c.args.handle c.args.kind c.self.inside.live.entries c.self.invariant.rising in
     let same : same_kind c.in-Some.object.now.kind c.args.kind ≡ true = sym (same_test c.in-Some.object.now.kind c.args.kind)
-        ∙ sym c.eq.ensures ∙ c.if-eq.true in
+    ∙ sym c.eq.ensures ∙ c.if-eq.true in
     rw (← c.self.view_is, by_map, ← c.in-Some.ensures.value, same) refl
 
 pub returns-in-Some-clause-live : goal.returns-in-Some-clause-live
@@ -19,7 +19,7 @@ pub returns-in_default-clause-found : goal.returns-in_default-clause-found
 returns-in_default-clause-found c =
     let by_map = key_of_lookup 0 c.self.inside.made c.args.handle c.args.kind c.self.inside.live.entries c.self.invariant.rising in
     let other : same_kind c.in-Some.object.now.kind c.args.kind ≡ false = sym (same_test c.in-Some.object.now.kind c.args.kind)
-        ∙ sym c.eq.ensures ∙ c.if-eq.false in
+    ∙ sym c.eq.ensures ∙ c.if-eq.false in
     rw (← c.self.view_is, by_map, ← c.in-Some.ensures.value, other) refl
 
 pub returns-in_default-2-clause-found : goal.returns-in_default-2-clause-found

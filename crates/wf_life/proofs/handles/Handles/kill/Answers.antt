@@ -14,7 +14,7 @@ pub returns-in-Some-clause-orderly : goal.returns-in-Some-clause-orderly
 returns-in-Some-clause-orderly c =
     let es = c.self.inside.live.entries in
     rw (c.remove.ensures.entries, remove_without 0 c.self.inside.made c.args.handle es c.self.invariant.rising)
-        (rising_without 0 c.self.inside.made c.args.handle (map live_of es) c.self.invariant.rising)
+    (rising_without 0 c.self.inside.made c.args.handle (map live_of es) c.self.invariant.rising)
 
 pub invariant_of-self : goal.invariant_of-self
 invariant_of-self c = record {
@@ -27,10 +27,18 @@ invariant_of-self c = record {
 
 pub returns-in-Some-clause-killed : goal.returns-in-Some-clause-killed
 returns-in-Some-clause-killed c =
-    rw (← c.self.view_is, c.remove.ensures.entries, remove_without 0 c.self.inside.made c.args.handle c.self.inside.live.entries
-        c.self.invariant.rising) refl
+    rw (
+      ← c.self.view_is,
+      c.remove.ensures.entries,
+      remove_without 0 c.self.inside.made c.args.handle c.self.inside.live.entries
+          c.self.invariant.rising,
+    ) refl
 
 pub returns-in_default-clause-killed : goal.returns-in_default-clause-killed
 returns-in_default-clause-killed c =
-    rw (← c.self.view_is, c.remove.ensures.entries, remove_without 0 c.self.inside.made c.args.handle c.self.inside.live.entries
-        c.self.invariant.rising) refl
+    rw (
+      ← c.self.view_is,
+      c.remove.ensures.entries,
+      remove_without 0 c.self.inside.made c.args.handle c.self.inside.live.entries
+          c.self.invariant.rising,
+    ) refl

@@ -9,9 +9,9 @@ made : (c : goal.After-settle_if) → IsStep c.args.self.now c.args.client c.arg
 made c =
     let reply = c.act_carrying-reply.result in
     let done = acts c.args.self.now c.self.inside.parts c.self.view_is c.args.call c.act_carrying-reply.new.self reply
-        c.act_carrying-reply.ensures in
+    c.act_carrying-reply.ensures in
     stepped c.args.self.now c.args.client c.args.call c.act_carrying-reply.new.self reply done c.settle_if.new.self (c.settle_if.ensures
-        ∙ ap (λ b. settle_if b c.act_carrying-reply.new.self) c.is_ok.ensures)
+    ∙ ap (λ b. settle_if b c.act_carrying-reply.new.self) c.is_ok.ensures)
 
 pub invariant_of-self : goal.invariant_of-self
 invariant_of-self c = (made c).settled (subst IsSettled c.self.view_is c.self.invariant)

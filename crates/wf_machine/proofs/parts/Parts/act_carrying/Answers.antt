@@ -43,7 +43,7 @@ returns-in-BeginPort c =
     let p : SFits w64 c.in-BeginPort.port = search rules in
     let begun = rw (to_z-of_z p) at c.begin_port.ensures in
     as_begin c.args.self.now c.begin_port.new.self c.args.call (call.BeginPort c.in-BeginPort.port)
-        c.begin_port.result c.in-BeginPort.is begun.left begun.answer
+    c.begin_port.result c.in-BeginPort.is begun.left begun.answer
 
 pub returns-in-End : goal.returns-in-End
 unfolding act

@@ -13,7 +13,7 @@ pub begin_context-requires-clause-fits : goal.begin_context-requires-clause-fits
 begin_context-requires-clause-fits c =
     let same = c.self.view_is in
     next_fits c.args.self.now c.args.after c.in-Some.handle c.in-Some.shown (c.in-Some.ensures
-        ∙ ap (λ (s : State). next_shown c.args.after s.core) same) c.self.inside.store (ap (λ (s : State). s.streams) same)
+    ∙ ap (λ (s : State). next_shown c.args.after s.core) same) c.self.inside.store (ap (λ (s : State). s.streams) same)
     (subst (λ (core : CoreState). Fits core c.self.inside.store) (ap (λ (s : State). s.core) same) c.self.invariant.fits)
 
 pub begin_context-requires-clause-home : goal.begin_context-requires-clause-home

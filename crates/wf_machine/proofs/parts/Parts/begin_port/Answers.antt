@@ -21,10 +21,10 @@ use Rattle.wf_words.specs.Options.{not_some}
 pub scene_of_port-scene-requires : goal.scene_of_port-scene-requires
 scene_of_port-scene-requires c =
     has_mode c.self.inside c.args.self.now c.self.view_is c.in-Some.place c.index.result.now c.index.ensures (c.in-Some.ensures.1)
-        c.self.invariant
+    c.self.invariant
 
 pub start_frame-requires-clause-may : goal.start_frame-requires-clause-may
-start_frame-requires-clause-may c = 
+start_frame-requires-clause-may c =
     may_start c.self.inside c.args.self.now c.self.view_is c.in-Some.place c.index.result.now c.index.ensures (c.in-Some.ensures.1)
     c.scene_of_port-scene.result c.scene_of_port-scene.ensures
 
@@ -38,7 +38,7 @@ begun c =
     port_begins c.self.inside c.args.self.now seen c.in-Some.place c.index.result.now c.index.ensures c.in-Some.ensures.1
     c.scene_of_port-scene.result c.scene_of_port-scene.ensures c.args.port counted
     (sym (ap (λ (s : State). s.frame) seen) ∙ ap (λ (f : Option Frame). option_map running_of f)
-        (not_some c.self.inside.frame c.if-not-is_none.ensures))
+    (not_some c.self.inside.frame c.if-not-is_none.ensures))
     (subst (λ (s : State). s.begun < 2 ^ 64 - 1) seen (omega (arith, c.if-self.false, c.self.ranges)))
 
 pub returns-clause-left : goal.returns-clause-left

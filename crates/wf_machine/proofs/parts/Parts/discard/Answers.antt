@@ -20,11 +20,11 @@ discard_to-requires c =
 pub invariant_of-self : goal.invariant_of-self
 invariant_of-self c =
     subst (λ (store : StoreView). IsSound (record c.self.inside { store = store })) (sym c.discard_to.ensures)
-        (sound_kept c.self.inside c.args.canvas.stream discarded discarded_keeps
+    (sound_kept c.self.inside c.args.canvas.stream discarded discarded_keeps
     (frame_apart c.args.canvas.stream discarded (map port_of c.self.inside.ports.items) c.self.inside.store.streams
-        (option_map running_of c.self.inside.frame) (shape_kept discarded discarded_keeps)
+    (option_map running_of c.self.inside.frame) (shape_kept discarded discarded_keeps)
     (out_apart c.args.canvas (state_of c.self.inside) (ap (is_out_at_client c.args.canvas) c.self.view_is ∙ sym c.is_out_at_client.ensures
-        ∙ c.if-not-is_out_at_client.false)) c.self.invariant.frame) c.self.invariant)
+    ∙ c.if-not-is_out_at_client.false)) c.self.invariant.frame) c.self.invariant)
 
 pub returns : goal.returns
 returns c =
@@ -32,5 +32,5 @@ returns c =
     let out = ap (is_out_at_client c.args.canvas) c.self.view_is ∙ sym c.is_out_at_client.ensures ∙ c.if-not-is_out_at_client.false in
     leaves inside c.args.self.now c.self.view_is (λ t r. canvas_back c.args.canvas discarded t)
     c.discard_to.new.store (record inside.store { streams = change_stream c.args.canvas.stream discarded inside.store.streams })
-        c.bare.result (bare (done 0))
+    c.bare.result (bare (done 0))
     c.discard_to.ensures (c.bare.ensures ∙ ap bare c.done.ensures) (comes_back c.args.canvas discarded (state_of inside) out)

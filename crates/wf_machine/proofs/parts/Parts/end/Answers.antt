@@ -12,22 +12,27 @@ use Rattle.wf_machine.proofs.parts.Parts.end.Goals as goal
 pub bring_home-requires-clause-awaited : goal.bring_home-requires-clause-awaited
 bring_home-requires-clause-awaited c =
     ending_awaited c.self.inside c.args.job (was_running c.self.inside c.args.job c.args.self.now c.self.view_is
-        (sym c.is_of_running.ensures ∙ c.if-not-is_of_running.false)) c.self.invariant
+    (sym c.is_of_running.ensures ∙ c.if-not-is_of_running.false)) c.self.invariant
 
 pub deliver-requires : goal.deliver-requires
 deliver-requires c =
     subst (λ (ss : List KeptStream). IsDue ss c.self.inside.ports.items c.args.job.kind c.args.job.image)
-        (sym (ap (λ (v : StoreView). v.streams) c.bring_home.ensures))
+    (sym (ap (λ (v : StoreView). v.streams) c.bring_home.ensures))
     (ending_due c.self.inside c.args.job (was_running c.self.inside c.args.job c.args.self.now c.self.view_is (sym c.is_of_running.ensures
-        ∙ c.if-not-is_of_running.false)) c.self.invariant)
+    ∙ c.if-not-is_of_running.false)) c.self.invariant)
 
 module _ (c : goal.After-bare) where
   is : is_of_running c.args.job (option_map running_of c.self.inside.frame) ≡ true
   is = was_running c.self.inside c.args.job c.args.self.now c.self.view_is (sym c.is_of_running.ensures ∙ c.if-not-is_of_running.false)
 
   abbrev now : Inside
-  now = record { store = c.deliver.new.store; core = c.self.inside.core; ports = c.deliver.new.ports; begun = c.self.inside.begun;
-      frame = None }
+  now = record {
+    store = c.deliver.new.store;
+    core = c.self.inside.core;
+    ports = c.deliver.new.ports;
+    begun = c.self.inside.begun;
+    frame = None;
+  }
 
   ended : HasEnded c.self.inside c.args.job is c.self.invariant c.deliver.new.store c.deliver.new.ports.items c.bare.result
   ended =
@@ -46,4 +51,4 @@ invariant_of-self c = sound_ended c.self.inside c.args.job (is c) c.self.invaria
 pub returns : goal.returns
 returns c =
     left_ended c.self.inside c.args.job (is c) c.self.invariant c.deliver.new.store c.deliver.new.ports.items c.bare.result (now c) refl
-        refl refl refl refl (ended c) c.args.self.now c.self.view_is
+    refl refl refl refl (ended c) c.args.self.now c.self.view_is

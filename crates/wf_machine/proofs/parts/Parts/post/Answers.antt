@@ -20,11 +20,11 @@ post_to-requires c =
 pub invariant_of-self : goal.invariant_of-self
 invariant_of-self c =
     subst (λ (store : StoreView). IsSound (record c.self.inside { store = store })) (sym c.post_to.ensures)
-        (sound_kept c.self.inside c.args.canvas.stream (posted c.args.canvas.image) (posted_keeps c.args.canvas.image)
+    (sound_kept c.self.inside c.args.canvas.stream (posted c.args.canvas.image) (posted_keeps c.args.canvas.image)
     (frame_apart c.args.canvas.stream (posted c.args.canvas.image) (map port_of c.self.inside.ports.items) c.self.inside.store.streams
-        (option_map running_of c.self.inside.frame) (shape_kept (posted c.args.canvas.image) (posted_keeps c.args.canvas.image))
+    (option_map running_of c.self.inside.frame) (shape_kept (posted c.args.canvas.image) (posted_keeps c.args.canvas.image))
     (out_apart c.args.canvas (state_of c.self.inside) (ap (is_out_at_client c.args.canvas) c.self.view_is ∙ sym c.is_out_at_client.ensures
-        ∙ c.if-not-is_out_at_client.false)) c.self.invariant.frame) c.self.invariant)
+    ∙ c.if-not-is_out_at_client.false)) c.self.invariant.frame) c.self.invariant)
 
 pub returns : goal.returns
 returns c =
@@ -32,7 +32,7 @@ returns c =
     let out = ap (is_out_at_client c.args.canvas) c.self.view_is ∙ sym c.is_out_at_client.ensures ∙ c.if-not-is_out_at_client.false in
     leaves inside c.args.self.now c.self.view_is (λ t r. canvas_back c.args.canvas (posted c.args.canvas.image) t)
     c.post_to.new.store
-        (record inside.store { streams = change_stream c.args.canvas.stream (posted c.args.canvas.image) inside.store.streams })
-        c.bare.result (bare (done 0))
+    (record inside.store { streams = change_stream c.args.canvas.stream (posted c.args.canvas.image) inside.store.streams })
+    c.bare.result (bare (done 0))
     c.post_to.ensures (c.bare.ensures ∙ ap bare c.done.ensures)
-        (comes_back c.args.canvas (posted c.args.canvas.image) (state_of inside) out)
+    (comes_back c.args.canvas (posted c.args.canvas.image) (state_of inside) out)

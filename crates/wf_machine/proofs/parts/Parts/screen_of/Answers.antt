@@ -11,4 +11,4 @@ pub returns-in-ScreenContext-clause-within : goal.returns-in-ScreenContext-claus
 returns-in-ScreenContext-clause-within c =
     let p : SFits w64 c.in-ScreenContext.port = search rules in
     subst (λ (x : Call). IsOfPort x c.declared_screen.result) (sym c.in-ScreenContext.is)
-        (rw (to_z-of_z p) at c.declared_screen.ensures.within)
+    (rw (to_z-of_z p) at c.declared_screen.ensures.within)

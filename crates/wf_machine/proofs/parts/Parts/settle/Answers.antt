@@ -27,14 +27,14 @@ module _ (c : goal.After-sweep) where
   screens : Marks c.mark.new.store c.mark_screens.new.store (display_names (state_of m).display)
   screens =
       let many : length c.deref.result.now ≡ length (map port_of m.ports.items) = ap length c.deref.ensures.value
-          ∙ sym (length-map m.ports.items port_of) in
+      ∙ sym (length-map m.ports.items port_of) in
       subst (λ (n : ℕ). Marks c.mark.new.store c.mark_screens.new.store (range_with_len 1 n)) many c.mark_screens.ensures
 
   streams : c.sweep.new.self.streams ≡ kept (state_of m)
   streams =
       ap (λ (v : StoreView). v.streams) c.sweep.ensures
       ∙ all_marked m c.unmark.new.self c.mark_own.new.self c.mark.new.store c.mark_screens.new.store c.mark_frame.new.store
-          c.self.invariant.numbered c.unmark.ensures own composed screens c.mark_frame.ensures
+      c.self.invariant.numbered c.unmark.ensures own composed screens c.mark_frame.ensures
 
   rest : record c.mark_frame.new.store { marked = [] } ≡ record m.store { marked = [] }
   rest = rest_marked m c.unmark.new.self c.mark_own.new.self c.mark.new.store c.mark_screens.new.store c.mark_frame.new.store

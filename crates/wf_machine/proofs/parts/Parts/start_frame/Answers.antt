@@ -74,7 +74,7 @@ invariant_of-self c =
     let a = c.args in
     let s = starts c in
     sound_begun c.self.inside (now c) (b c.self.inside (now c) a.kind a.scene a.value _ _ _ _ (frame c) s) (frame c)
-        c.into_parts-contents.result.0
+    c.into_parts-contents.result.0
     (begun c.self.inside (now c) a.kind a.scene a.value _ _ _ _ (frame c) s) c.self.invariant
 
 pub returns-clause-left : goal.returns-clause-left
@@ -84,6 +84,6 @@ returns-clause-left c = left c.self.inside (now c) c.args.kind c.args.scene c.ar
 pub returns-clause-answer : goal.returns-clause-answer
 returns-clause-answer c =
     subst (λ (r : Reply). IsAnswer (start (beginning_of c.args.kind c.args.scene c.args.value c.args.self.now) c.args.self.now).1 r)
-        (sym c.giving_job.ensures)
+    (sym c.giving_job.ensures)
     (answers c.self.inside (now c) c.args.kind c.args.scene c.args.value _ _ _ _ (frame c) (starts c)
-        c.args.self.now c.self.view_is _ refl refl refl refl refl)
+    c.args.self.now c.self.view_is _ refl refl refl refl refl)

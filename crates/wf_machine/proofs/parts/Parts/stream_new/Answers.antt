@@ -16,36 +16,36 @@ returns-in-Err-Limit c =
     let a = c.args in
     let inside = c.self.inside in
     stays inside a.self.now c.self.view_is (λ t r. stream_step t
-        (stream_new a.width a.height a.format a.buffers (is_out_of_memory r.code) t))
+    (stream_new a.width a.height a.format a.buffers (is_out_of_memory r.code) t))
     c.make.new.store (bare c.refuse-in-Err-Limit.result) (bare (refused (refusal code.Limit))) c.in-Err-Limit.ensures.refused
-        (ap bare c.refuse-in-Err-Limit.ensures)
+    (ap bare c.refuse-in-Err-Limit.ensures)
     (limited a.width a.height a.buffers a.format _ (rw (to_z-of_z c.ranges.width, to_z-of_z c.ranges.height, to_z-of_z c.ranges.buffers) at
-        (sym c.may_make.ensures ∙ c.if-not-may_make.false))
-        (rw (to_z-of_z c.ranges.width, to_z-of_z c.ranges.height, to_z-of_z c.ranges.buffers) at
-        (c.in-Err-Limit.ensures.limit (ap (λ (e : MakeStop). Err e) c.in-Err-Limit.field-0-is))))
+    (sym c.may_make.ensures ∙ c.if-not-may_make.false))
+    (rw (to_z-of_z c.ranges.width, to_z-of_z c.ranges.height, to_z-of_z c.ranges.buffers) at
+    (c.in-Err-Limit.ensures.limit (ap (λ (e : MakeStop). Err e) c.in-Err-Limit.field-0-is))))
 
 pub returns-in-Err-NoMemory : goal.returns-in-Err-NoMemory
 returns-in-Err-NoMemory c =
     let a = c.args in
     let inside = c.self.inside in
     stays inside a.self.now c.self.view_is (λ t r. stream_step t
-        (stream_new a.width a.height a.format a.buffers (is_out_of_memory r.code) t))
+    (stream_new a.width a.height a.format a.buffers (is_out_of_memory r.code) t))
     c.make.new.store (bare c.refuse-in-Err-NoMemory.result) (bare (refused (refusal code.OutOfMemory))) c.in-Err-NoMemory.ensures.refused
-        (ap bare c.refuse-in-Err-NoMemory.ensures)
+    (ap bare c.refuse-in-Err-NoMemory.ensures)
     (unmade a.width a.height a.buffers a.format _ (rw (to_z-of_z c.ranges.width, to_z-of_z c.ranges.height, to_z-of_z c.ranges.buffers) at
-        (sym c.may_make.ensures ∙ c.if-not-may_make.false))
-        (rw (to_z-of_z c.ranges.width, to_z-of_z c.ranges.height, to_z-of_z c.ranges.buffers) at
-        (c.in-Err-NoMemory.ensures.memory (ap (λ (e : MakeStop). Err e) c.in-Err-NoMemory.field-0-is))))
+    (sym c.may_make.ensures ∙ c.if-not-may_make.false))
+    (rw (to_z-of_z c.ranges.width, to_z-of_z c.ranges.height, to_z-of_z c.ranges.buffers) at
+    (c.in-Err-NoMemory.ensures.memory (ap (λ (e : MakeStop). Err e) c.in-Err-NoMemory.field-0-is))))
 
 pub invariant_of-self-2 : goal.invariant_of-self-2
 invariant_of-self-2 c =
     let a = c.args in
     subst (λ (store : StoreView). IsSound (record c.self.inside { store = store }))
-        (sym (rw (to_z-of_z c.ranges.width, to_z-of_z c.ranges.height, to_z-of_z c.ranges.buffers) at c.in-Ok.ensures.made))
+    (sym (rw (to_z-of_z c.ranges.width, to_z-of_z c.ranges.height, to_z-of_z c.ranges.buffers) at c.in-Ok.ensures.made))
     (sound_made c.self.inside (size_from a.width a.height) a.format (count_of a.buffers)
-        (made_sides a.width a.height a.buffers (rw (to_z-of_z c.ranges.width, to_z-of_z c.ranges.height, to_z-of_z c.ranges.buffers) at
-        (sym c.may_make.ensures ∙ c.if-not-may_make.false)))
-        (rw (to_z-of_z c.ranges.width, to_z-of_z c.ranges.height, to_z-of_z c.ranges.buffers) at c.in-Ok.ensures.room) c.self.invariant)
+    (made_sides a.width a.height a.buffers (rw (to_z-of_z c.ranges.width, to_z-of_z c.ranges.height, to_z-of_z c.ranges.buffers) at
+    (sym c.may_make.ensures ∙ c.if-not-may_make.false)))
+    (rw (to_z-of_z c.ranges.width, to_z-of_z c.ranges.height, to_z-of_z c.ranges.buffers) at c.in-Ok.ensures.room) c.self.invariant)
 
 pub returns : goal.returns
 returns c =
@@ -53,10 +53,10 @@ returns c =
     let inside = c.self.inside in
     let new = new_buffers a.width a.height a.format a.buffers in
     leaves inside a.self.now c.self.view_is (λ t r. stream_step t
-        (stream_new a.width a.height a.format a.buffers (is_out_of_memory r.code) t))
+    (stream_new a.width a.height a.format a.buffers (is_out_of_memory r.code) t))
     c.make.new.store (with_live_stream new inside.store) (bare c.done.result) (bare (done (inside.store.made + 1)))
-        (rw (to_z-of_z c.ranges.width, to_z-of_z c.ranges.height, to_z-of_z c.ranges.buffers) at c.in-Ok.ensures.made)
-        (ap bare c.done.ensures ∙ ap (λ (n : ℕ). bare (done n)) c.in-Ok.ensures.handle)
+    (rw (to_z-of_z c.ranges.width, to_z-of_z c.ranges.height, to_z-of_z c.ranges.buffers) at c.in-Ok.ensures.made)
+    (ap bare c.done.ensures ∙ ap (λ (n : ℕ). bare (done n)) c.in-Ok.ensures.handle)
     (made a.width a.height a.buffers a.format _ (rw (to_z-of_z c.ranges.width, to_z-of_z c.ranges.height, to_z-of_z c.ranges.buffers) at
-        (sym c.may_make.ensures ∙ c.if-not-may_make.false))
-        (rw (to_z-of_z c.ranges.width, to_z-of_z c.ranges.height, to_z-of_z c.ranges.buffers) at c.in-Ok.ensures.room) c.in-Ok.ensures.free)
+    (sym c.may_make.ensures ∙ c.if-not-may_make.false))
+    (rw (to_z-of_z c.ranges.width, to_z-of_z c.ranges.height, to_z-of_z c.ranges.buffers) at c.in-Ok.ensures.room) c.in-Ok.ensures.free)

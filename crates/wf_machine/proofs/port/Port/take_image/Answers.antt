@@ -11,16 +11,16 @@ index_mut-requires c = omega (arith, as_many 0 c.args.self.now.modes.items c.arg
 pub unreachable-requires : goal.unreachable-requires
 unreachable-requires c =
     let is = first_is c.args.self.now.modes.items c.args.self.now.images.items c.index_mut.result.now c.requires.there c.requires.some
-        c.index_mut.ensures.value in
+    c.index_mut.ensures.value in
     rw (sym c.take.ensures.value ∙ c.in-None.is) at is
 
 pub returns-clause-shape : goal.returns-clause-shape
 returns-clause-shape c =
     let is = first_is c.args.self.now.modes.items c.args.self.now.images.items c.index_mut.result.now c.requires.there c.requires.some
-        c.index_mut.ensures.value in
+    c.index_mut.ensures.value in
     subst (λ (o : Option Bitmap). IsFrameImage (mode_size 1 c.args.self.now.modes.items) o) (sym c.take.ensures.value ∙ c.in-Some.is) is
 
 pub returns-clause-away : goal.returns-clause-away
 returns-clause-away c =
     subst (λ (o : Option Bitmap). HoldsBut 1 c.args.self.now.modes.items (slice_set c.args.self.now.images.items 0 o))
-        (sym c.take.ensures.after) (first_taken c.args.self.now.modes.items c.args.self.now.images.items c.requires.there c.requires.some)
+    (sym c.take.ensures.after) (first_taken c.args.self.now.modes.items c.args.self.now.images.items c.requires.there c.requires.some)

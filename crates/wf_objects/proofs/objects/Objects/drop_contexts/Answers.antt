@@ -21,7 +21,7 @@ found c is =
     let less : c.in-Some.place < length cs = rw (← c.self.view_is) (rw (← c.deref.ensures.value) c.in-Some.ensures.within) in
     sym (get_position (λ (x : Context). x.device == c.args.device) cs) ∙ ap (option_and_then (slice_get cs)) (sym is ∙ c.in-Some.is)
     ∙ standing _ c.loop-place.self c.in-Some.place _ (context_of c.behind-self.inside) c.self.view_is less c.index.ensures
-        c.behind-self.view_is
+    c.behind-self.view_is
 
 pub loop-place-smaller : goal.loop-place-smaller
 loop-place-smaller c =

@@ -32,7 +32,7 @@ drop_element-requires-clause-lives c =
 -- what is left of the objects
 left : (c : After-drop_element) (there : slice_get c.loop-element.self.contexts c.args.place ≡ Some (context_of c.behind-self.inside))
     → c.drop_element.new.self ≡ change_context (context_of c.behind-self.inside).handle
-        (with_cached (forget c.in-Some.element (context_of c.behind-self.inside).cached))
+    (with_cached (forget c.in-Some.element (context_of c.behind-self.inside).cached))
     c.loop-element.self
 left c there = rw there at c.drop_element.ensures.dropped
 
@@ -41,7 +41,7 @@ loop-element-smaller c =
     let l = c.loop-element in
     let k = (goal.at.loop-element-smaller c).After-first in
     fewer_elements l.self l.store l.invariant.fits c.args.context c.args.place (context_of c.behind-self.inside) (at k) (handle k)
-        c.in-Some.element
+    c.in-Some.element
     c.drop_element.new.self (left (goal.at.loop-element-smaller c).After-drop_element (at k))
     (sym c.in-Some.is ∙ c.first.ensures.first)
 

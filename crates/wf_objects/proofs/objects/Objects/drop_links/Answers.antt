@@ -4,19 +4,8 @@ use Rattle.wf_model.specs.Objects.{CoreState}
 use Rattle.wf_model.specs.Core.{without_source, without_those_of}
 use Rattle.wf_objects.specs.Links.{links, with_links}
 use Rattle.wf_objects.proofs.Dropped.{then_lost}
-use Rattle.wf_objects.proofs.Remainders.{
-  IsFirst,
-  fewer,
-  first_is,
-  first_leaves,
-  first_lives,
-  first_of,
-  links_with,
-  none_is,
-  rises_links,
-  with_own,
-  with_twice,
-}
+use Rattle.wf_objects.proofs.Remainders.{IsFirst, fewer, first_is, first_leaves, first_lives, first_of, links_with, none_is, rises_links}
+use Rattle.wf_objects.proofs.Remainders.{with_own, with_twice}
 use Rattle.wf_objects.proofs.objects.Objects.drop_links.Goals as goal
 use Rattle.wf_objects.proofs.objects.Objects.drop_links.Goals.{After-first_of, In-Some}
 

@@ -18,5 +18,5 @@ returns c =
     (record k { contexts = set k.contexts a.place (record x { cached = c.set_context.new.self }) }) a.store.now a.store.now c.edited.result)
     (sym c.self.view_is)
     (edits a.self.now a.store.now c.requires.fits a.place x at call c.set_context.result c.set_context.new.self c.edited.result
-        c.set_context.ensures.case
+    c.set_context.ensures.case
     c.set_context.ensures.refused (context_keeps a.attr a.value x.cached) c.edited.ensures)

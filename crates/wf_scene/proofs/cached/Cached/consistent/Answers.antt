@@ -6,4 +6,4 @@ returns-clause-placed g c =
     let sight = g.L.Look.sight c.args.look.now in
     let inside = c.self.inside in
     rw (c.in_ok-layers.ensures.layers, c.as_slice.ensures.value, c.deref.ensures.value)
-        (layers_placed sight inside.order.items inside.elements.items c.self.invariant.orderly.placed)
+    (layers_placed sight inside.order.items inside.elements.items c.self.invariant.orderly.placed)

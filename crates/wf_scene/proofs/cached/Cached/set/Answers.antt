@@ -17,7 +17,7 @@ written c =
     let place = rw c.deref.ensures.value at c.place_in-place.ensures.place in
     let within = rw c.deref.ensures.value at c.place_in-place.ensures.within in
     changed_at c.self.inside.elements.items c.args.element c.place_in-place.result c.index.result.now c.in-Some.changed
-        (change_of c.args.attr c.args.value) c.self.invariant.orderly.apart place within c.index.ensures (sym c.with.ensures ∙ c.in-Some.is)
+    (change_of c.args.attr c.args.value) c.self.invariant.orderly.apart place within c.index.ensures (sym c.with.ensures ∙ c.in-Some.is)
 
 pub invariant_of-self : goal.invariant_of-self
 invariant_of-self c =

@@ -17,7 +17,7 @@ returns c = λ other word small.
     let clients = c.clients_with-clients in
     let extra = c.args.in_setup || (c.args.client == other) in
     ap (is_among other) (btree_map_updates_str name seen.clients c.insert.new.self (Some clients.result) c.in_ok-insert.ensures.updates
-        word)
+    word)
     ∙ among_more other (bytes_eq name word) extra (get_by (λ key. slice_cmp nat_cmp word key.now) seen.clients) clients.result
     (λ hit. clients.ensures.seen other small ∙ ap (λ w. sees seen other w || extra) ((bytes_eq-Decides name word).0 hit))
     ∙ ap (λ (o : Option (Bor (List ℕ))). sees seen other word || (is_name_in word (option_map (λ w. w.now) o) && extra)) (sym c.in-Some.is)

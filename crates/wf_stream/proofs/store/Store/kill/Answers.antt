@@ -2,8 +2,8 @@ use Rattle.std.proofs.Common.{◌≡◌, List, map, refl, sym, ap, ◌∙◌}
 use Rattle.std.specs.Result.{result_ok}
 use Rattle.wf_stream.specs.Streams.{KeptStream, unnamed}
 use Rattle.wf_stream.specs.Joined.{live_streams}
-use Rattle.wf_stream.proofs.Joined.{number_found, live_found, rising_streams, rising_without, unnamed_found, unnamed_none,
-    numbered_unnamed, killed_tied, killed_others}
+use Rattle.wf_stream.proofs.Joined.{number_found, live_found, rising_streams, rising_without, unnamed_found, unnamed_none, numbered_unnamed}
+use Rattle.wf_stream.proofs.Joined.{killed_tied, killed_others}
 use Rattle.wf_stream.proofs.Apart.{other_kept, stream_kept}
 use Rattle.wf_stream.proofs.store.Store.kill.Goals as goal
 
@@ -21,9 +21,9 @@ invariant_of-self c =
     let found = sym (number_found c.args.handle live streams sound.tied) ∙ sym c.in-Ok.ensures.found in
     let under = rising_streams c.self.inside.handles.made live streams sound.orderly sound.tied in
     let view : c.hand_over.new.self ≡ record shelf { streams = map (unnamed c.args.handle) streams } = c.hand_over.ensures
-        ∙ ap (λ (ss : List KeptStream). record shelf { streams = ss })
-        (unnamed_found 0 c.self.inside.numbered 0 c.self.inside.handles.made c.args.handle c.in-Ok.number streams sound.rising under
-        found) in
+    ∙ ap (λ (ss : List KeptStream). record shelf { streams = ss })
+    (unnamed_found 0 c.self.inside.numbered 0 c.self.inside.handles.made c.args.handle c.in-Ok.number streams sound.rising under
+    found) in
     rw (c.kill.ensures.killed, view) (record {
       limit = sound.limit;
       room = sound.room;
@@ -57,9 +57,9 @@ returns-in-Ok-clause-killed c =
     let found = sym (number_found c.args.handle live streams sound.tied) ∙ sym c.in-Ok.ensures.found in
     let under = rising_streams c.self.inside.handles.made live streams sound.orderly sound.tied in
     let view : c.hand_over.new.self ≡ record shelf { streams = map (unnamed c.args.handle) streams } = c.hand_over.ensures
-        ∙ ap (λ (ss : List KeptStream). record shelf { streams = ss })
-        (unnamed_found 0 c.self.inside.numbered 0 c.self.inside.handles.made c.args.handle c.in-Ok.number streams sound.rising under
-        found) in
+    ∙ ap (λ (ss : List KeptStream). record shelf { streams = ss })
+    (unnamed_found 0 c.self.inside.numbered 0 c.self.inside.handles.made c.args.handle c.in-Ok.number streams sound.rising under
+    found) in
     rw (← c.self.view_is, c.kill.ensures.killed, view, killed_others c.args.handle live) refl
 
 pub returns-in_default-clause-killed : goal.returns-in_default-clause-killed
@@ -81,11 +81,11 @@ returns-in-Ok-clause-other c =
     let found = sym (number_found c.args.handle live streams sound.tied) ∙ sym c.in-Ok.ensures.found in
     let under = rising_streams c.self.inside.handles.made live streams sound.orderly sound.tied in
     let view : c.hand_over.new.self ≡ record shelf { streams = map (unnamed c.args.handle) streams } = c.hand_over.ensures
-        ∙ ap (λ (ss : List KeptStream). record shelf { streams = ss })
-        (unnamed_found 0 c.self.inside.numbered 0 c.self.inside.handles.made c.args.handle c.in-Ok.number streams sound.rising under
-        found) in
+    ∙ ap (λ (ss : List KeptStream). record shelf { streams = ss })
+    (unnamed_found 0 c.self.inside.numbered 0 c.self.inside.handles.made c.args.handle c.in-Ok.number streams sound.rising under
+    found) in
     rw (← c.self.view_is, c.kill.ensures.killed, view, killed_others c.args.handle live)
-        (λ other. rw (other_kept c.self.inside.handles.made c.args.handle live streams sound.orderly sound.tied other) refl)
+    (λ other. rw (other_kept c.self.inside.handles.made c.args.handle live streams sound.orderly sound.tied other) refl)
 
 pub returns-in-Ok-clause-stream : goal.returns-in-Ok-clause-stream
 returns-in-Ok-clause-stream c =
@@ -96,11 +96,11 @@ returns-in-Ok-clause-stream c =
     let found = sym (number_found c.args.handle live streams sound.tied) ∙ sym c.in-Ok.ensures.found in
     let under = rising_streams c.self.inside.handles.made live streams sound.orderly sound.tied in
     let view : c.hand_over.new.self ≡ record shelf { streams = map (unnamed c.args.handle) streams } = c.hand_over.ensures
-        ∙ ap (λ (ss : List KeptStream). record shelf { streams = ss })
-        (unnamed_found 0 c.self.inside.numbered 0 c.self.inside.handles.made c.args.handle c.in-Ok.number streams sound.rising under
-        found) in
+    ∙ ap (λ (ss : List KeptStream). record shelf { streams = ss })
+    (unnamed_found 0 c.self.inside.numbered 0 c.self.inside.handles.made c.args.handle c.in-Ok.number streams sound.rising under
+    found) in
     rw (← c.self.view_is, c.kill.ensures.killed, view, killed_others c.args.handle live)
-        (λ some. rw (stream_kept c.self.inside.handles.made c.args.handle live streams sound.orderly sound.tied some) refl)
+    (λ some. rw (stream_kept c.self.inside.handles.made c.args.handle live streams sound.orderly sound.tied some) refl)
 
 pub returns-in_default-clause-other : goal.returns-in_default-clause-other
 returns-in_default-clause-other c =
@@ -115,4 +115,4 @@ returns-in_default-clause-stream c =
     let none = sym (number_found c.args.handle live streams sound.tied) ∙ (sym c.find-found.ensures.found ∙ ap result_ok c.in_default.is) in
     let view : map (unnamed c.args.handle) streams ≡ streams = unnamed_none c.args.handle streams none in
     rw (← c.self.view_is, c.kill.ensures.killed, killed_others c.args.handle live)
-        (λ some. rw (view, stream_kept c.self.inside.handles.made c.args.handle live streams sound.orderly sound.tied some) refl)
+    (λ some. rw (view, stream_kept c.self.inside.handles.made c.args.handle live streams sound.orderly sound.tied some) refl)

@@ -20,7 +20,7 @@ invariant_of-self-in_default-make c =
     let back : c.remove.new.self ≡ shelf =
     c.remove.ensures ∙ ap (λ (x : Shelf). record x { streams = without_number n x.streams }) c.in-Ok-push.ensures.pushed
     ∙ ap (λ (ss : List KeptStream). record shelf { streams = ss })
-        (without_last 0 c.self.inside.numbered streams _ sound.rising (omega arith)) in
+    (without_last 0 c.self.inside.numbered streams _ sound.rising (omega arith)) in
     rw (c.in_default-make.ensures.refused, back) sound
 
 pub returns-in_default-make-clause-refused : goal.returns-in_default-make-clause-refused
@@ -32,7 +32,7 @@ returns-in_default-make-clause-refused c =
     let back : c.remove.new.self ≡ shelf =
     c.remove.ensures ∙ ap (λ (x : Shelf). record x { streams = without_number n x.streams }) c.in-Ok-push.ensures.pushed
     ∙ ap (λ (ss : List KeptStream). record shelf { streams = ss })
-        (without_last 0 c.self.inside.numbered streams _ sound.rising (omega arith)) in
+    (without_last 0 c.self.inside.numbered streams _ sound.rising (omega arith)) in
     rw (c.in_default-make.ensures.refused, back) c.self.view_is
 
 pub invariant_of-self-2 : goal.invariant_of-self-2
@@ -45,7 +45,7 @@ invariant_of-self-2 c =
     let last : c.hand_over.new.self ≡ record shelf { streams = streams ++ s ∷ [] } =
     c.hand_over.ensures ∙ ap (λ (x : Shelf). record x { streams = hand_over n c.in-Ok-make.handle x.streams }) c.in-Ok-push.ensures.pushed
     ∙ ap (λ (ss : List KeptStream). record shelf { streams = ss })
-        (handed_last 0 c.self.inside.numbered c.in-Ok-make.handle streams _ sound.rising (omega arith))
+    (handed_last 0 c.self.inside.numbered c.in-Ok-make.handle streams _ sound.rising (omega arith))
     ∙ ap (λ (h : ℕ). record shelf { streams = streams ++ record s { handle = h } ∷ [] }) c.in-Ok-make.ensures.handle in
     let left : is_full c.self.inside.handles.made ≡ false = sym c.full.ensures ∙ c.if-full.false in
     let some : c.self.inside.handles.made < 4294967291 = grind (arith, nat_tests, left) in
@@ -68,6 +68,6 @@ returns-clause-made c =
     let last : c.hand_over.new.self ≡ record shelf { streams = streams ++ s ∷ [] } =
     c.hand_over.ensures ∙ ap (λ (x : Shelf). record x { streams = hand_over n c.in-Ok-make.handle x.streams }) c.in-Ok-push.ensures.pushed
     ∙ ap (λ (ss : List KeptStream). record shelf { streams = ss })
-        (handed_last 0 c.self.inside.numbered c.in-Ok-make.handle streams _ sound.rising (omega arith))
+    (handed_last 0 c.self.inside.numbered c.in-Ok-make.handle streams _ sound.rising (omega arith))
     ∙ ap (λ (h : ℕ). record shelf { streams = streams ++ record s { handle = h } ∷ [] }) c.in-Ok-make.ensures.handle in
     rw (← c.self.view_is, c.in-Ok-make.ensures.made, last, c.in-Ok.ensures, made_others c.self.inside.handles.live s) refl

@@ -7,28 +7,28 @@ pub drop_stream-requires-clause-kept : goal.drop_stream-requires-clause-kept
 drop_stream-requires-clause-kept c =
     let v = c.loop-number.self in
     (first_kept 0 v.numbered c.in-Some.number c.in-Some.handle v.marked v.streams c.in-Some.ensures.numbered
-        (sym c.in-Some.ensures.first)).kept
+    (sym c.in-Some.ensures.first)).kept
 
 pub drop_stream-requires-clause-unmarked : goal.drop_stream-requires-clause-unmarked
 drop_stream-requires-clause-unmarked c =
     let v = c.loop-number.self in
     (first_kept 0 v.numbered c.in-Some.number c.in-Some.handle v.marked v.streams c.in-Some.ensures.numbered
-        (sym c.in-Some.ensures.first)).unmarked
+    (sym c.in-Some.ensures.first)).unmarked
 
 pub loop-number-smaller : goal.loop-number-smaller
 loop-number-smaller c =
     let v = c.loop-number.self in
     let first = first_kept 0 v.numbered c.in-Some.number c.in-Some.handle v.marked v.streams c.in-Some.ensures.numbered
-        (sym c.in-Some.ensures.first) in
+    (sym c.in-Some.ensures.first) in
     rw c.drop_stream.ensures (without_shorter c.in-Some.number c.in-Some.handle v.streams first.kept)
 
 pub loop-number-preserved : goal.loop-number-preserved
 loop-number-preserved c =
     let v = c.loop-number.self in
     let first = first_kept 0 v.numbered c.in-Some.number c.in-Some.handle v.marked v.streams c.in-Some.ensures.numbered
-        (sym c.in-Some.ensures.first) in
+    (sym c.in-Some.ensures.first) in
     let same = ap (λ (ss : List KeptStream). record v { streams = ss })
-        (marked_without v.marked c.in-Some.number v.streams first.unmarked) in
+    (marked_without v.marked c.in-Some.number v.streams first.unmarked) in
     ap swept c.drop_stream.ensures ∙ same ∙ c.loop-number.invariant
 
 pub returns : goal.returns

@@ -25,5 +25,9 @@ pub returns : goal.returns
 returns c =
     let n = c.args.number in
     let es = c.self.inside.places.entries in
-    rw (← c.self.view_is, c.set_handle.ensures, handed_view 0 4294967295 n c.args.handle c.self.inside.pool es c.self.invariant.rising,
-        marks_handed n c.args.handle es) refl
+    rw (
+      ← c.self.view_is,
+      c.set_handle.ensures,
+      handed_view 0 4294967295 n c.args.handle c.self.inside.pool es c.self.invariant.rising,
+      marks_handed n c.args.handle es,
+    ) refl

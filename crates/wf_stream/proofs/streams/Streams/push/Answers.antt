@@ -13,13 +13,13 @@ invariant_of-self-in-Ok-insert c =
     let fits : c.args.number ≤ 4294967295 = omega (arith, c.ranges.number.fits) in
     let new : IsKept c.in-Ok.key c.put.new.self = rw c.in-Ok.ensures.kept.changed refl in
     let all = shelf_push c.args.number _ c.self.inside.pool c.put.new.self c.self.inside.places.entries c.insert.new.self.entries
-        c.requires.counted above fits c.self.invariant.kept c.self.invariant.apart c.in-Ok.ensures.free c.in-Ok.ensures.kept.others new
-        c.in-Ok-insert.ensures.entries in
+    c.requires.counted above fits c.self.invariant.kept c.self.invariant.apart c.in-Ok.ensures.free c.in-Ok.ensures.kept.others new
+    c.in-Ok-insert.ensures.entries in
     let p = c.self.inside.pool in
     let es = c.self.inside.places.entries in
     let e : ℕ × Place = (c.args.number, record { key = c.in-Ok.key; handle = c.args.handle; marked = false }) in
     let last : c.insert.new.self.entries ≡ es ++ e ∷ [] = c.in-Ok-insert.ensures.entries
-        ∙ insert_last 0 (c.args.number - 1) c.args.number e.1 p es above (omega (arith, c.requires.counted)) in
+    ∙ insert_last 0 (c.args.number - 1) c.args.number e.1 p es above (omega (arith, c.requires.counted)) in
     let agree = c.in-Ok.ensures.kept.others in
     let none = none_free c.in-Ok.key p es c.in-Ok.ensures.free c.self.invariant.kept in
     let one : count_at c.in-Ok.key c.put.new.self ≡ 1 = ap count_of c.in-Ok.ensures.kept.changed in
@@ -37,27 +37,27 @@ returns-clause-pushed c =
     let fits : c.args.number ≤ 4294967295 = omega (arith, c.ranges.number.fits) in
     let new : IsKept c.in-Ok.key c.put.new.self = rw c.in-Ok.ensures.kept.changed refl in
     let all = shelf_push c.args.number _ c.self.inside.pool c.put.new.self c.self.inside.places.entries c.insert.new.self.entries
-        c.requires.counted above fits c.self.invariant.kept c.self.invariant.apart c.in-Ok.ensures.free c.in-Ok.ensures.kept.others new
-        c.in-Ok-insert.ensures.entries in
+    c.requires.counted above fits c.self.invariant.kept c.self.invariant.apart c.in-Ok.ensures.free c.in-Ok.ensures.kept.others new
+    c.in-Ok-insert.ensures.entries in
     let es = c.self.inside.places.entries in
     let e : ℕ × Place = (c.args.number, record { key = c.in-Ok.key; handle = c.args.handle; marked = false }) in
     let last : c.insert.new.self.entries ≡ es ++ e ∷ [] = c.in-Ok-insert.ensures.entries
-        ∙ insert_last 0 (c.args.number - 1) c.args.number e.1 c.self.inside.pool es above (omega (arith, c.requires.counted)) in
+    ∙ insert_last 0 (c.args.number - 1) c.args.number e.1 c.self.inside.pool es above (omega (arith, c.requires.counted)) in
     let marks = ap marks_of last ∙ marks_push es e refl in
     rw (← c.self.view_is, all.0, c.in-Ok.ensures.kept.changed, marks) refl
 
 pub invariant_of-self-in_default-insert : goal.invariant_of-self-in_default-insert
 invariant_of-self-in_default-insert c =
     let agree = agree_twice c.in-Ok.key c.self.inside.pool c.put.new.self c.release.new.self _ c.in-Ok.ensures.kept.others
-        c.release.ensures.left in
+    c.release.ensures.left in
     let all = shelf_same c.in-Ok.key c.self.inside.pool c.release.new.self c.self.inside.places.entries c.in-Ok.ensures.free
-        c.self.invariant.kept agree in
+    c.self.invariant.kept agree in
     let p = c.self.inside.pool in
     let es = c.self.inside.places.entries in
     let none = none_free c.in-Ok.key p es c.in-Ok.ensures.free c.self.invariant.kept in
     let kept : IsKept c.in-Ok.key c.put.new.self = rw c.in-Ok.ensures.kept.changed refl in
     let gone : kept_at c.in-Ok.key c.release.new.self ≡ None = ap (kept_at c.in-Ok.key) c.release.ensures.left
-        ∙ let_go c.in-Ok.key c.put.new.self kept (ap count_of c.in-Ok.ensures.kept.changed) in
+    ∙ let_go c.in-Ok.key c.put.new.self kept (ap count_of c.in-Ok.ensures.kept.changed) in
     rw c.in_default-insert.ensures.err (record {
       rising = rw all.0 c.self.invariant.rising;
       kept = all.1;
@@ -69,13 +69,13 @@ invariant_of-self-in_default-insert c =
 pub returns-in_default-insert-clause-refused : goal.returns-in_default-insert-clause-refused
 returns-in_default-insert-clause-refused c =
     let agree = agree_twice c.in-Ok.key c.self.inside.pool c.put.new.self c.release.new.self _ c.in-Ok.ensures.kept.others
-        c.release.ensures.left in
+    c.release.ensures.left in
     let all = shelf_same c.in-Ok.key c.self.inside.pool c.release.new.self c.self.inside.places.entries c.in-Ok.ensures.free
-        c.self.invariant.kept agree in
+    c.self.invariant.kept agree in
     rw (← c.self.view_is, c.in_default-insert.ensures.err, all.0) refl
 
 pub returns-clause-unmarked : goal.returns-clause-unmarked
 returns-clause-unmarked c =
     let above = rw (← c.self.view_is) at c.requires.above in
     rw (← c.self.view_is) (marks_above 0 (c.args.number - 1) c.args.number c.self.inside.pool c.self.inside.places.entries above
-        (omega (arith, c.requires.counted)))
+    (omega (arith, c.requires.counted)))

@@ -9,22 +9,22 @@ use Rattle.wf_stream.proofs.streams.Streams.remove.Goals as goal
 pub release-requires : goal.release-requires
 release-requires c =
     found_kept c.args.number c.in-Some.place c.self.inside.pool c.self.inside.places.entries (sym c.in-Some.ensures.value)
-        c.self.invariant.kept
+    c.self.invariant.kept
 
 pub invariant_of-self : goal.invariant_of-self
 invariant_of-self c =
     let found = sym c.in-Some.ensures.value in
     let agree = agree_once c.in-Some.place.key c.self.inside.pool c.release.new.self _ c.release.ensures.left in
     let all = shelf_remove c.args.number c.in-Some.place c.self.inside.pool c.release.new.self c.self.inside.places.entries
-        c.remove.new.self.entries c.self.invariant.rising c.self.invariant.kept c.self.invariant.apart found agree
-        c.remove.ensures.entries in
+    c.remove.new.self.entries c.self.invariant.rising c.self.invariant.kept c.self.invariant.apart found agree
+    c.remove.ensures.entries in
     let o = c.in-Some.place in
     let p = c.self.inside.pool in
     let es = c.self.inside.places.entries in
     let sound = c.self.invariant in
     let kept = found_kept c.args.number o p es found sound.kept in
     let gone : kept_at o.key c.release.new.self ≡ None = ap (kept_at o.key) c.release.ensures.left
-        ∙ let_go o.key p kept (found_sole c.args.number o p es found sound.sole) in
+    ∙ let_go o.key p kept (found_sole c.args.number o p es found sound.sole) in
     let none = found_none c.args.number o es found sound.apart in
     record {
       rising = all.1;
@@ -39,8 +39,8 @@ returns-in-Some c =
     let found = sym c.in-Some.ensures.value in
     let agree = agree_once c.in-Some.place.key c.self.inside.pool c.release.new.self _ c.release.ensures.left in
     let all = shelf_remove c.args.number c.in-Some.place c.self.inside.pool c.release.new.self c.self.inside.places.entries
-        c.remove.new.self.entries c.self.invariant.rising c.self.invariant.kept c.self.invariant.apart found agree
-        c.remove.ensures.entries in
+    c.remove.new.self.entries c.self.invariant.rising c.self.invariant.kept c.self.invariant.apart found agree
+    c.remove.ensures.entries in
     let unmarked = rw (← c.self.view_is) at c.requires in
     let marks = ap marks_of c.remove.ensures.entries ∙ marks_removed c.args.number c.self.inside.places.entries unmarked in
     rw (← c.self.view_is, all.0, marks) refl
@@ -49,5 +49,9 @@ pub returns-in_default : goal.returns-in_default
 returns-in_default c =
     let es = c.self.inside.places.entries in
     let unmarked = rw (← c.self.view_is) at c.requires in
-    rw (← c.self.view_is, c.remove.ensures.entries, remove_without 0 4294967295 c.args.number c.self.inside.pool es c.self.invariant.rising,
-        marks_removed c.args.number es unmarked) refl
+    rw (
+      ← c.self.view_is,
+      c.remove.ensures.entries,
+      remove_without 0 4294967295 c.args.number c.self.inside.pool es c.self.invariant.rising,
+      marks_removed c.args.number es unmarked,
+    ) refl

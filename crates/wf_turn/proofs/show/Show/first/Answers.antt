@@ -16,9 +16,9 @@ module _ (c : goal.In-Some) where
   known : (c.in-Some.client < 8) × IsTrue (may_turn (show_of c.self.inside).programs c.in-Some.client)
   known =
       found_may (show_of c.self.inside) (cast_painted (show_of c.self.inside)
-          (subst (λ (v : Show). ArePainted v.programs) (sym c.self.view_is) c.requires.painted) c.self.invariant) client
+      (subst (λ (v : Show). ArePainted v.programs) (sym c.self.view_is) c.requires.painted) c.self.invariant) client
       (sym (subst (λ (ps : List Program). Some client ≡ first_client (map place_of (c.self.inside.clock ∷ ps))) c.deref.ensures.value
-          c.in-Some.ensures.first))
+      c.in-Some.ensures.first))
       (subst (λ (ps : List Program). StandsOwn (c.self.inside.clock ∷ ps) client) c.deref.ensures.value c.in-Some.ensures.own)
 
 pub returns-in-Some-clause-allowed : goal.returns-in-Some-clause-allowed

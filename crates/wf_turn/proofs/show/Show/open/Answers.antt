@@ -37,16 +37,16 @@ module _ (c : goal.After-loop-behind) where
       let show : State → List Program → Show = λ h ps. record { state = h; programs = ps; frames = [] } in
       let made = program c.args.script.now in
       ap (λ (h : State). show h (c.in_ok-clock.clock ∷ c.loop-behind.others.items)) (c.in_ok-machine.ensures
-          ∙ ap opening c.ports.ensures.ports)
+      ∙ ap opening c.ports.ensures.ports)
       ∙ ap (λ (p : Program). show (opening c.args.script.now.ports) (p ∷ c.loop-behind.others.items)) c.in_ok-clock.ensures
       ∙ ap (λ (ps : List Program). show (opening c.args.script.now.ports) (made 0 ∷ ps)) (c.loop-behind.invariant.0
-          ∙ ap (λ (n : ℕ). map made (range_with_len 1 n)) seven)
+      ∙ ap (λ (n : ℕ). map made (range_with_len 1 n)) seven)
 
 pub invariant_of-result : goal.invariant_of-result
 invariant_of-result c = subst (λ (v : Show). IsCast (all_painted v)) (sym (show_is c))
     (cast_still (opening_show c.args.script.now) (opening_painted c.args.script.now)
-        (opening_cast c.args.script.now (subst (λ (ports : Ports). IsTrue (may_declare ports)) c.ports.ensures.ports
-        c.ports.ensures.declared)))
+    (opening_cast c.args.script.now (subst (λ (ports : Ports). IsTrue (may_declare ports)) c.ports.ensures.ports
+    c.ports.ensures.declared)))
 
 pub returns : goal.returns
 returns c = show_is c

@@ -16,11 +16,13 @@ module _ (c : goal.After-self-1) where
   done =
       let d = c.index_mut.result.now in
       let both = other_painted c.self.inside.clock c.self.inside.others.items c.args.client d c.if-client-eq0.false
-          c.index_mut.ensures.value
-          (eight_at s c.self.invariant c.args.client c.requires.within) in
-      (ap (λ (q : Program). c.self.inside.clock ∷ set c.self.inside.others.items (c.args.client - 1) q)
-          c.paint-else-client-eq0.ensures.painted
-          ∙ both.0, c.paint-else-client-eq0.ensures.was ∙ both.1)
+      c.index_mut.ensures.value
+      (eight_at s c.self.invariant c.args.client c.requires.within) in (
+        ap (λ (q : Program). c.self.inside.clock ∷ set c.self.inside.others.items (c.args.client - 1) q)
+            c.paint-else-client-eq0.ensures.painted
+            ∙ both.0,
+        c.paint-else-client-eq0.ensures.was ∙ both.1,
+      )
 
 pub invariant_of-self-else-client-eq0 : goal.invariant_of-self-else-client-eq0
 invariant_of-self-else-client-eq0 c =
