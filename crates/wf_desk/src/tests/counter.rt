@@ -13,6 +13,9 @@ struct Counter {
     sum: u64,
 }
 
+// What each of two clients adds, so that a replay tells them apart.
+const NUMBERS: [u64; 2] = [3, 5];
+
 #[derive(Clone, Copy, Debug, PartialEq)]
 struct Added {
     client: u8,
@@ -52,16 +55,17 @@ impl Object for Counter {
     }
 }
 
-// Adds 3 as often as calls are left.
-fn add_often<R: Wait>(rt: &R, desk: &Desk<Counter>, pass: &mut Pass<Counter>)
+// Adds a number as often as calls are left.
+fn add_often<R: Wait>(rt: &R, desk: &Desk<Counter>, pass: &mut Pass<Counter>, number: u64)
     requires { pass.old.desk ≡ desk.now.id }
     ensures { (pass.new.desk ≡ pass.old.desk) × (pass.new.client ≡ pass.old.client) }
 {
     while pass.left() > 0 {
-        desk.call(rt, pass, 3);
+        desk.call(rt, pass, number);
     }
 }
 
+// Each client adds its own number.
 fn add_both<R: Threads + Wait + Sync>(
     rt: &R,
     desk: &Desk<Counter>,
@@ -78,14 +82,14 @@ fn add_both<R: Threads + Wait + Sync>(
             requires { one.desk ≡ desk.now.id }
             ensures { (result.desk ≡ one.desk) × (result.client ≡ one.client) }
         {
-            add_often(rt, desk, &mut one);
+            add_often(rt, desk, &mut one, NUMBERS[0]);
             one
         },
         || -> Pass<Counter>
             requires { two.desk ≡ desk.now.id }
             ensures { (result.desk ≡ two.desk) × (result.client ≡ two.client) }
         {
-            add_often(rt, desk, &mut two);
+            add_often(rt, desk, &mut two, NUMBERS[1]);
             two
         },
     )
@@ -129,19 +133,17 @@ fn two_threads_count(rt: HostRuntime) -> Result<(), Fail> {
     passes.push_reserved(one);
     passes.push_reserved(two);
     let (object, journal) = desk.close(passes);
-    assert_eq!(rt; object.sum, 6000);
-    // The replay of the journal gives each answer, and each client has its calls.
-    let mut sum = 0;
-    let mut calls = [0; 2];
+    // The replay of the journal, in which each client adds its own number, gives each answer, and in the end the object.
     let entries = journal.into_entries();
-    assert_eq!(rt; entries.len(), 2000);
+    let mut sum = 0u64;
+    let mut calls = [0u32; 2];
     for added in entries {
-        assert_eq!(rt; added.old, sum);
-        sum = added.old.wrapping_add(3);
-        assert!(rt; added.client < 2 && calls[added.client as usize] < 1000);
-        calls[added.client as usize] += 1;
+        let client = usize::from(added.client).min(1);
+        assert_eq!(rt; added.old, sum, "of client {client}");
+        sum = sum.wrapping_add(NUMBERS[client]);
+        calls[client] = calls[client].wrapping_add(1);
     }
-    assert_eq!(rt; calls, [1000, 1000]);
+    assert_eq!(rt; (calls, object.sum), ([1000, 1000], sum));
     Ok(())
 }
 
