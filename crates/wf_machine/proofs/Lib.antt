@@ -25,3 +25,4 @@ pub mod Dropping
 pub mod Markings
 pub mod Stepping
 pub mod LeftAlone
+pub mod TakenOnce

@@ -5,4 +5,5 @@ pub mod Ports
 pub mod Fitting
 pub mod Inside
 pub mod LeftAlone
+pub mod Begun
 pub mod Starting

@@ -17,6 +17,6 @@ mod streams;
 #[cfg(test)]
 mod tests;
 
-pub use laws::frames_are_left_alone;
+pub use laws::{frames_are_left_alone, frames_take_each_image_once};
 pub use machine::Machine;
 pub use wf_words::NoMemory;

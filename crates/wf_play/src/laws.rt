@@ -6,11 +6,7 @@ ghost use Rattle.wf_script.specs.Script.{PlainScript};
 ghost use Rattle.wf_script.specs.Grammar.{Stands};
 ghost use Rattle.wf_turn.specs.Play.{film};
 
-use wf_script::one_script;
-
 /// The bytes of a script and the order in a journal fix the bytes of the film.
 pub fn one_film()
     ensures { (bytes : List ℕ) (s t : PlainScript) (order : List Turn) → Stands bytes s → Stands bytes t → film s order ≡ film t order }
-{
-    one_script();
-}
+{}

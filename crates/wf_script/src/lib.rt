@@ -28,7 +28,7 @@ mod words;
 pub use fault::ScriptFault;
 pub use line::{Line, Value, Verb};
 pub use name::Name;
-pub use reading::{one_script, parse};
+pub use reading::parse;
 pub use script::Script;
 
 #[cfg(test)]

@@ -1,7 +1,7 @@
 //! Reads a script.
 
-ghost use Rattle.std.specs.Prelude.{◌≡◌, ℕ, List};
-ghost use Rattle.wf_script.specs.Grammar.{Answers, Stands, is_header, nothing_read, read_lines, read_script};
+ghost use Rattle.std.specs.Prelude.{◌≡◌};
+ghost use Rattle.wf_script.specs.Grammar.{Answers, is_header, nothing_read, read_lines, read_script};
 ghost use Rattle.wf_script.specs.Reader.{fault_at, reading};
 ghost use Rattle.wf_script.specs.Script.{PlainScript};
 ghost use Rattle.wf_script.specs.Words.{lines_of};
@@ -81,8 +81,3 @@ fn read_lines(alloc: Global, bytes: &[u8]) -> Result<Reader<'_>, ScriptFault>
     }
     Ok(reader)
 }
-
-/// No bytes stand for two scripts.
-pub fn one_script()
-    ensures { (bytes : List ℕ) (s t : PlainScript) → Stands bytes s → Stands bytes t → s ≡ t }
-{}

@@ -1,8 +1,11 @@
-use Rattle.std.proofs.Common.{ap}
+use Rattle.std.proofs.Common.{◌≡◌, ◌∙◌, Ok, Result, ap, sym}
+use Rattle.wf_script.specs.declared.fault.ScriptFault.{ScriptFault}
 use Rattle.wf_script.specs.Script.{PlainScript}
 use Rattle.wf_turn.specs.Play.{film}
 use Rattle.wf_play.proofs.laws.one_film.Goals as goal
 
 pub returns : goal.returns
 returns c bytes s t order first second =
-    ap (λ (script : PlainScript). film script order) (c.one_script.ensures bytes s t first second)
+    let same : Ok s ≡ Ok t = sym first ∙ second in
+    let is : s ≡ t = cc in
+    ap (λ (script : PlainScript). film script order) is

@@ -1,0 +1,92 @@
+-- The images that a frame takes are of streams that stand once each.
+use Rattle.std.proofs.Common.{◌≡◌, ◌∙◌, ℕ, Bool, true, false, cond, ◌==◌, ◌||◌, List, [], ◌∷◌, map, Option, Some, None, option_map}
+use Rattle.std.proofs.Common.{refl, sym, ap, subst}
+use Rattle.wf_words.specs.Keyed.{is_in}
+use Rattle.wf_words.specs.Once.{NoneTwice, once_none_twice}
+use Rattle.wf_image.specs.Bitmap.{Bitmap}
+use Rattle.wf_stream.specs.Streams.{KeptStream, stream_at}
+use Rattle.wf_calls.specs.declared.call.Call.{Call}
+use Rattle.wf_calls.specs.declared.code.Code.{Code}
+use Rattle.wf_calls.specs.declared.reply.Reply.{Reply}
+use Rattle.wf_calls.specs.Codes.{is_ok_code}
+use Rattle.wf_calls.specs.Parts.{Register, no_register, of_device, register_of}
+use Rattle.wf_machine.specs.Begun.{TakesOnce}
+use Rattle.wf_model.specs.Effects.{Effect, effect}
+use Rattle.wf_model.specs.Effects.{acquires, begins, composes, ends, makes, refuses, returns, tells, unnames}
+use Rattle.wf_model.specs.Frames.{Beginning, content_shape, job_of, layer_names, newest_images, newest_of, running_of, scene_streams}
+use Rattle.wf_model.specs.Names.{settle_if}
+use Rattle.wf_model.specs.Registers.{offered}
+use Rattle.wf_model.specs.State.{Running, State}
+use Rattle.wf_model.specs.Step.{act, step}
+
+-- the numbers of the images that streams of these numbers have
+abbrev taken : List ℕ → List KeptStream → List ℕ
+taken ns ss = map (λ c. c.stream) (map content_shape (newest_images ns ss))
+
+-- a number that is not among them has none
+not_taken : (n : ℕ) (ns : List ℕ) (ss : List KeptStream) → is_in n ns ≡ false → is_in n (taken ns ss) ≡ false
+not_taken n [] ss out = refl
+not_taken n (m ∷ ns) ss out = of_image (newest_of (stream_at m ss))
+  where
+    apart : (b c : Bool) → (b || c) ≡ false → (b ≡ false) × (c ≡ false)
+    apart false c is = (refl, is)
+    apart true c is = absurd cc
+
+    both : ((m == n) ≡ false) × (is_in n ns ≡ false)
+    both = apart (m == n) (is_in n ns) out
+
+    At : Option Bitmap → Type 0
+    At o = is_in n (map (λ c. c.stream) (map content_shape
+        (elim (option_map (λ (image : Bitmap). (m, image)) o) as (λ _. List (ℕ × Bitmap)) [
+          | None ↦ newest_images ns ss
+          | Some pair ↦ pair ∷ newest_images ns ss
+        ]))) ≡ false
+
+    of_image : (o : Option Bitmap) → At o
+    unfolding At
+    of_image None = not_taken n ns ss both.1
+    of_image (Some image) = rw both.0 (not_taken n ns ss both.1)
+
+taken_once : (ns : List ℕ) (ss : List KeptStream) → NoneTwice ns → NoneTwice (taken ns ss)
+taken_once [] ss none = tt
+taken_once (n ∷ ns) ss none =
+    elim (newest_of (stream_at n ss)) as (λ o. NoneTwice (map (λ c. c.stream) (map content_shape
+        (elim (option_map (λ (image : Bitmap). (n, image)) o) as (λ _. List (ℕ × Bitmap)) [
+          | None ↦ newest_images ns ss
+          | Some pair ↦ pair ∷ newest_images ns ss
+        ])))) [
+      | None ↦ taken_once ns ss none.1
+      | Some image ↦ (not_taken n ns ss none.0, taken_once ns ss none.1)
+    ]
+
+-- a frame that begins
+begun_once : (b : Beginning) (h : State) → TakesOnce (running_of (job_of b h))
+begun_once b h = taken_once (scene_streams b.scene) h.streams (once_none_twice (flat_map layer_names b.scene.layers.items))
+
+-- what a call leaves running that was not running before it
+module _ (h : State) (c : Call) (x : State × Reply) (free : h.frame ≡ None) (f : Running) (runs : x.0.frame ≡ Some f) where
+  offered_frame : (register : Register) (refused : Code) → (offered register refused h).frame ≡ h.frame
+  offered_frame (of_device d) refused = refl
+  offered_frame no_register refused = refl
+
+  not_so : x.0.frame ≡ h.frame → TakesOnce f
+  not_so same = absurd (let no : None ≡ Some f = sym free ∙ sym same ∙ runs in cc)
+
+  by_effect : Effect h c x → TakesOnce f
+  by_effect (refuses honest left) = not_so (ap (λ (s : State). s.frame) left ∙ offered_frame (register_of c) x.1.code)
+  by_effect (composes made core value is) = not_so (ap (λ (y : State × Reply). y.0.frame) is)
+  by_effect (makes new is) = not_so (ap (λ (y : State × Reply). y.0.frame) is)
+  by_effect (unnames handle is) = not_so (ap (λ (y : State × Reply). y.0.frame) is)
+  by_effect (acquires handle s at is) = not_so (ap (λ (y : State × Reply). y.0.frame) is)
+  by_effect (returns canvas g way out is) = not_so (ap (λ (y : State × Reply). y.0.frame) is)
+  by_effect (begins b free' begun is) =
+      let same : Some (running_of (job_of b h)) ≡ Some f = sym (ap (λ (y : State × Reply). y.0.frame) is) ∙ runs in
+      let this : running_of (job_of b h) ≡ f = cc in
+      subst TakesOnce this (begun_once b h)
+  by_effect (ends job g call_is at own is) = absurd (let no : None ≡ Some g = sym free ∙ at in cc)
+  by_effect (tells value is) = not_so (ap (λ (y : State × Reply). y.0.frame) is)
+
+pub takes_once : (h : State) (client : ℕ) (c : Call) (m : Bool) (f : Running) → h.frame ≡ None → (step h client c m).0.frame ≡ Some f
+    → TakesOnce f
+unfolding step
+takes_once h client c m f free runs = by_effect h c (act h c m) free f runs (effect h c m)
