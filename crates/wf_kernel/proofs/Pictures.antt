@@ -24,7 +24,7 @@ stored_four A8 color four = absurd (omega (arith, four))
 pub length-bound_row : (scene : Scene) (layers : List Bound) (y : ℕ) → length (bound_row scene layers y) ≡ 4 * scene.size.w
 length-bound_row scene layers y = length-pieces (λ x. stored Rgba8Pre (bound_pixel scene layers x y)) 4 0 scene.size.w (λ x. refl)
 
-length-bound_rows : (scene : Scene) (layers : List Bound) → length (bound_rows scene layers) ≡ 4 * scene.size.w * scene.size.h
+pub length-bound_rows : (scene : Scene) (layers : List Bound) → length (bound_rows scene layers) ≡ 4 * scene.size.w * scene.size.h
 length-bound_rows scene layers =
     length-pieces (λ y. bound_row scene layers y) (4 * scene.size.w) 0 scene.size.h (length-bound_row scene layers)
 
