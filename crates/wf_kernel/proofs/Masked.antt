@@ -4,6 +4,7 @@ use Rattle.std.specs.Prelude.{◌≢◌, flat_map, Option, None, Some, nat_abs, 
 use Rattle.std.specs.List.{range_with_len}
 use Rattle.std.specs.Simd.Lanes.{chunk}
 use Rattle.std.proofs.lemmas.Simd.{get_or-chunk, length-chunk}
+use Rattle.wf_words.specs.Options.{◌>>=◌}
 use Rattle.wf_pixel.specs.declared.Rgba.{Rgba}
 use Rattle.wf_pixel.specs.declared.Format.{Format}
 use Rattle.wf_pixel.specs.declared.Format.TheVariants.{Rgba8, Rgba8Pre, Rgbx8, A8}
@@ -13,7 +14,7 @@ use Rattle.wf_pixel.specs.Along.{along}
 use Rattle.wf_pixel.specs.Arithmetic.{lift, over, scaled}
 use Rattle.wf_image.specs.Bitmap.{Bitmap, stored, read_at, pixel, pixel_bytes, drawn_row}
 use Rattle.wf_scene.specs.declared.Layer.{Layer}
-use Rattle.wf_model.specs.Picture.{◌>>=◌, mask_of, texel_of}
+use Rattle.wf_model.specs.Picture.{mask_of, texel_of}
 use Rattle.wf_row.specs.declared.Own.{Own}
 use Rattle.wf_row.specs.Bytes.{over_bytes, masked_bytes, masked}
 use Rattle.wf_kernel.specs.declared.laying.Span.{Span}

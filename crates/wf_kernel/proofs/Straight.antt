@@ -7,6 +7,7 @@ use Rattle.std.proofs.lemmas.List.{take_all}
 use Rattle.std.proofs.lemmas.Nat.{div-mul-add}
 use Rattle.std.proofs.lemmas.Int.{ints}
 use Rattle.std.proofs.lemmas.Bool.Decides.{nat_tests}
+use Rattle.wf_words.specs.Options.{◌>>=◌}
 use Rattle.wf_pixel.specs.declared.Rgba.{Rgba}
 use Rattle.wf_pixel.specs.declared.Size.{Size}
 use Rattle.wf_pixel.specs.declared.Rect.{Rect}
@@ -21,7 +22,7 @@ use Rattle.wf_pixel.specs.Place.{source_pixel}
 use Rattle.wf_image.specs.Bitmap.{Bitmap, stored, read_at, pixel, pixel_bytes, drawn_row}
 use Rattle.wf_scene.specs.declared.Layer.{Layer}
 use Rattle.wf_scene.specs.Layers.{holds_rect}
-use Rattle.wf_model.specs.Picture.{◌>>=◌, on_top, mask_of, texel_of}
+use Rattle.wf_model.specs.Picture.{on_top, mask_of, texel_of}
 use Rattle.wf_kernel.specs.Bound.{Bound, bound_texel}
 use Rattle.wf_row.specs.Bytes.{blended}
 use Rattle.wf_kernel.specs.declared.laying.Span.{Span}
