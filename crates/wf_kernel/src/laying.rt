@@ -16,9 +16,9 @@ ghost use Rattle.wf_kernel.specs.Laid.{laid, own_of, straight_row};
 use crate::bound::BoundLayer;
 use crate::texels::texel_at;
 use crate::walks::fill_columns;
-use wf_row::{Own, blend_row, gather_at, mask_row};
 use wf_image::Image;
 use wf_pixel::{Format, Rgba, Rotation, along, over, samp};
+use wf_row::{Own, blend_row, gather_at, mask_row};
 use wf_scene::Layer;
 
 /// Lays a layer over `width` pixels of row `y`, from column `first` on.

@@ -9,6 +9,8 @@ mod hiding;
 mod laying;
 mod painting;
 #[cfg(test)]
+mod plain;
+#[cfg(test)]
 mod tests;
 mod texels;
 mod walks;
