@@ -2,8 +2,8 @@
 use Rattle.std.proofs.Common.{◌≡◌, ℕ, zero, suc, ◌+◌, ◌-◌, ◌*◌, ◌<◌, List, [], ◌∷◌, length, replicate, map, min, refl, arith}
 use Rattle.std.specs.Simd.Lanes.{zip2, Each1}
 use Rattle.wf_pixel.specs.Arithmetic.{mul, channel_over}
-use Rattle.wf_row.specs.declared.Own.TheVariants.{Straight, Solid}
-use Rattle.wf_row.specs.Bytes.{lows, highs, joined, seconds, twice, solid, own_bytes, faded_bytes, masked_bytes, over_bytes}
+use Rattle.wf_row.specs.declared.AlphaMode.TheVariants.{Straight, Opaque}
+use Rattle.wf_row.specs.Bytes.{lows, highs, joined, seconds, twice, solid, premultiplied_bytes, faded_bytes, masked_bytes, over_bytes}
 
 abbrev byte : ℕ → Type 0
 byte x = x < 256
@@ -15,7 +15,7 @@ joined_halves zero (a ∷ xs) len = absurd (omega arith)
 joined_halves (suc n) (a ∷ []) len = absurd (omega arith)
 joined_halves (suc n) (a ∷ b ∷ xs) len = λ i. a ∷ b ∷ joined_halves n xs (omega arith) i
 
-pub solid_joined : (n : ℕ) (low high : List ℕ) → length low ≡ 2 * n → length high ≡ 2 * n → joined low (solid high) ≡ own_bytes Solid (joined low high)
+pub solid_joined : (n : ℕ) (low high : List ℕ) → length low ≡ 2 * n → length high ≡ 2 * n → joined low (solid high) ≡ premultiplied_bytes Opaque (joined low high)
 solid_joined zero [] high l h = refl
 solid_joined zero (r ∷ low) high l h = absurd (omega arith)
 solid_joined (suc n) [] high l h = absurd (omega arith)
@@ -29,7 +29,7 @@ whole : (a : ℕ) → a < 256 → mul 255 a ≡ a
 whole a x = omega arith
 
 pub straight_joined : (n : ℕ) (low high : List ℕ) → length low ≡ 2 * n → length high ≡ 2 * n → Each1 byte high
-    → joined (zip2 mul low (seconds high)) (zip2 mul (solid high) (seconds high)) ≡ own_bytes Straight (joined low high)
+    → joined (zip2 mul low (seconds high)) (zip2 mul (solid high) (seconds high)) ≡ premultiplied_bytes Straight (joined low high)
 straight_joined zero [] high l h x = refl
 straight_joined zero (r ∷ low) high l h x = absurd (omega arith)
 straight_joined (suc n) [] high l h x = absurd (omega arith)

@@ -4,17 +4,17 @@ use Rattle.std.specs.Simd.Lanes.{zip2, Each1, chunk, put_chunk}
 use Rattle.std.proofs.lemmas.Simd.{length-chunk, put_chunk_is, Each1-from_get_or}
 use Rattle.std.proofs.lemmas.List.{drop-drop}
 use Rattle.wf_pixel.specs.Arithmetic.{channel_over}
-use Rattle.wf_row.specs.declared.Own.TheVariants.{Solid}
-use Rattle.wf_row.specs.Bytes.{own_bytes, over_bytes}
+use Rattle.wf_row.specs.declared.AlphaMode.TheVariants.{Opaque}
+use Rattle.wf_row.specs.Bytes.{premultiplied_bytes, over_bytes}
 use Rattle.wf_row.proofs.Words.{or_zero, or_full}
-use Rattle.wf_row.proofs.Rows.{Pixelwise, written, written_more, own_append, own_count}
+use Rattle.wf_row.proofs.Rows.{Pixelwise, written, written_more, premultiplied_append, premultiplied_count}
 
 -- the alpha bytes of n pixels
 abbrev alphas : ℕ → List ℕ
 alphas zero = []
 alphas (suc n) = 0 ∷ 0 ∷ 0 ∷ 255 ∷ alphas n
 
-pub opaque_are : (n : ℕ) (xs : List ℕ) → length xs ≡ 4 * n → Each1 (λ x. x < 256) xs → zip2 bit_or xs (alphas n) ≡ own_bytes Solid xs
+pub opaque_are : (n : ℕ) (xs : List ℕ) → length xs ≡ 4 * n → Each1 (λ x. x < 256) xs → zip2 bit_or xs (alphas n) ≡ premultiplied_bytes Opaque xs
 opaque_are zero [] len x = refl
 opaque_are zero (r ∷ xs) len x = absurd (omega arith)
 opaque_are (suc n) [] len x = absurd (omega arith)
@@ -26,12 +26,12 @@ opaque_are (suc n) (r ∷ g ∷ b ∷ a ∷ xs) len x =
 
 -- an opaque row, whatever is below it
 abbrev pub copied : List ℕ → List ℕ → List ℕ
-copied xs ys = own_bytes Solid xs
+copied xs ys = premultiplied_bytes Opaque xs
 
 pub copied-Pixelwise : Pixelwise copied
 copied-Pixelwise = record {
-  append = λ m xs ys us vs x y. own_append Solid m xs us x;
-  count = λ m xs ys x y. own_count Solid m xs x;
+  append = λ m xs ys us vs x y. premultiplied_append Opaque m xs us x;
+  count = λ m xs ys x y. premultiplied_count Opaque m xs x;
 }
 
 -- k bytes written at n
@@ -51,7 +51,7 @@ lanes_written f p m j n k next src old row piece n_is k_is next_is room same row
 channel_is : (p d : ℕ) → p < 256 → channel_over 255 p d ≡ p
 channel_is p d x = omega arith
 
-over_opaque : (m : ℕ) (xs ys : List ℕ) → length xs ≡ 4 * m → length ys ≡ 4 * m → Each1 (λ x. x < 256) xs → own_bytes Solid xs ≡ over_bytes (own_bytes Solid xs) ys
+over_opaque : (m : ℕ) (xs ys : List ℕ) → length xs ≡ 4 * m → length ys ≡ 4 * m → Each1 (λ x. x < 256) xs → premultiplied_bytes Opaque xs ≡ over_bytes (premultiplied_bytes Opaque xs) ys
 over_opaque zero [] ys l d x = refl
 over_opaque zero (r ∷ xs) ys l d x = absurd (omega arith)
 over_opaque (suc m) [] ys l d x = absurd (omega arith)
@@ -65,5 +65,5 @@ over_opaque (suc m) (r ∷ g ∷ b ∷ a ∷ xs) (u ∷ v ∷ w ∷ []) l d x = 
 over_opaque (suc m) (r ∷ g ∷ b ∷ a ∷ xs) (u ∷ v ∷ w ∷ z ∷ ys) l d x =
     λ i. sym (channel_is r u x.0) i ∷ sym (channel_is g v x.1.0) i ∷ sym (channel_is b w x.1.1.0) i ∷ sym (channel_is 255 z (omega arith)) i ∷ over_opaque m xs ys (omega arith) (omega arith) x.1.1.1.1 i
 
-pub copied_over : (m : ℕ) (xs ys : List ℕ) → length xs ≡ 4 * m → length ys ≡ 4 * m → ((i : ℕ) → Fits w8 (get_or xs i 0)) → own_bytes Solid xs ≡ over_bytes (own_bytes Solid xs) ys
+pub copied_over : (m : ℕ) (xs ys : List ℕ) → length xs ≡ 4 * m → length ys ≡ 4 * m → ((i : ℕ) → Fits w8 (get_or xs i 0)) → premultiplied_bytes Opaque xs ≡ over_bytes (premultiplied_bytes Opaque xs) ys
 copied_over m xs ys l d fits = over_opaque m xs ys l d (Each1-from_get_or (λ x. x < 256) xs 0 (λ i _. (fits i).fits))

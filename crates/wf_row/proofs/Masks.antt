@@ -1,13 +1,13 @@
 -- A row that is written piece by piece, with a mask of one byte a pixel beside it.
-use Rattle.std.proofs.Common.{◌≡◌, ℕ, zero, suc, ◌+◌, ◌*◌, ◌≤◌, List, [], ◌∷◌, ◌++◌, length, take, drop, Bool, refl, sym, ap, ◌∙◌, append_assoc, arith}
+use Rattle.std.proofs.Common.{◌≡◌, ℕ, zero, suc, ◌+◌, ◌*◌, ◌≤◌, List, [], ◌∷◌, ◌++◌, length, take, drop, Option, refl, sym, ap, ◌∙◌, append_assoc, arith}
 use Rattle.std.specs.Simd.Lanes.{chunk, put_chunk}
 use Rattle.std.proofs.Math.Seq.{take-add, drop-append_seam}
 use Rattle.std.proofs.lemmas.List.{take_at, take_all, drop_all, drop-drop, length-take-le, append-nil}
 use Rattle.std.proofs.lemmas.Simd.{length-chunk, put_chunk_is}
 use borrow.Rule.Slice.PartMut.{put_mid}
 use Rattle.wf_pixel.specs.Arithmetic.{mul}
-use Rattle.wf_row.specs.declared.Own.{Own}
-use Rattle.wf_row.specs.Bytes.{masked_bytes, over_bytes, lifted, masked}
+use Rattle.wf_row.specs.declared.AlphaMode.{AlphaMode}
+use Rattle.wf_row.specs.Bytes.{masked_bytes, over_bytes, lifted, blended_masked}
 use Rattle.wf_row.proofs.Rows.{lifted_append, lifted_count, over_append, over_count}
 
 -- a function of a mask and of the pixels of two rows that takes each pixel alone
@@ -74,7 +74,7 @@ pub rest_masked : (f : List ℕ → List ℕ → List ℕ → List ℕ) → Mask
 rest_masked f p m n ms xs ys ns us vs n_is s x y =
     ap (take n) (p.append m ms xs ys ns us vs s (x ∙ n_is) (y ∙ n_is)) ∙ take_at (f ms xs ys) (f ns us vs) n (p.count m ms xs ys s (x ∙ n_is) (y ∙ n_is) ∙ sym n_is)
 
--- ---- masked blending is such a function
+-- ---- blending through a mask is such a function
 masked_append : (m : ℕ) (ms xs ns us : List ℕ) → length ms ≡ m → length xs ≡ 4 * m → masked_bytes (ms ++ ns) (xs ++ us) ≡ masked_bytes ms xs ++ masked_bytes ns us
 masked_append zero [] [] ns us s x = refl
 masked_append zero [] (r ∷ xs) ns us s x = absurd (omega arith)
@@ -97,11 +97,11 @@ masked_count (suc m) (k ∷ ms) (r ∷ g ∷ []) s x = absurd (omega arith)
 masked_count (suc m) (k ∷ ms) (r ∷ g ∷ b ∷ []) s x = absurd (omega arith)
 masked_count (suc m) (k ∷ ms) (r ∷ g ∷ b ∷ a ∷ xs) s x = let rest : length (masked_bytes ms xs) ≡ 4 * m = masked_count m ms xs (omega arith) (omega arith) in omega arith
 
-pub masked-Maskwise : (own : Own) (f : Bool) (k : ℕ) → Maskwise (masked own f k)
-masked-Maskwise own f k = record {
+pub blended_masked-Maskwise : (mode : AlphaMode) (fade : Option ℕ) → Maskwise (blended_masked mode fade)
+blended_masked-Maskwise mode fade = record {
   append = λ m ms xs ys ns us vs s x y.
-      ap (λ (l : List ℕ). over_bytes (masked_bytes (ms ++ ns) l) (ys ++ vs)) (lifted_append own f k m xs us x)
-      ∙ ap (λ (l : List ℕ). over_bytes l (ys ++ vs)) (masked_append m ms (lifted own f k xs) ns (lifted own f k us) s (lifted_count own f k m xs x))
-      ∙ over_append m (masked_bytes ms (lifted own f k xs)) ys (masked_bytes ns (lifted own f k us)) vs (masked_count m ms (lifted own f k xs) s (lifted_count own f k m xs x)) y;
-  count = λ m ms xs ys s x y. over_count m (masked_bytes ms (lifted own f k xs)) ys (masked_count m ms (lifted own f k xs) s (lifted_count own f k m xs x)) y;
+      ap (λ (l : List ℕ). over_bytes (masked_bytes (ms ++ ns) l) (ys ++ vs)) (lifted_append mode fade m xs us x)
+      ∙ ap (λ (l : List ℕ). over_bytes l (ys ++ vs)) (masked_append m ms (lifted mode fade xs) ns (lifted mode fade us) s (lifted_count mode fade m xs x))
+      ∙ over_append m (masked_bytes ms (lifted mode fade xs)) ys (masked_bytes ns (lifted mode fade us)) vs (masked_count m ms (lifted mode fade xs) s (lifted_count mode fade m xs x)) y;
+  count = λ m ms xs ys s x y. over_count m (masked_bytes ms (lifted mode fade xs)) ys (masked_count m ms (lifted mode fade xs) s (lifted_count mode fade m xs x)) y;
 }

@@ -1,14 +1,14 @@
 -- A row that is written piece by piece.
-use Rattle.std.proofs.Common.{◌≡◌, ℕ, zero, suc, ◌+◌, ◌-◌, ◌*◌, ◌≤◌, List, [], ◌∷◌, ◌++◌, length, take, drop, get_or, replicate, Fits, w8, ◌<◌, length-append, length-drop, Bool, true, false, refl, sym, ap, ◌∙◌, append_assoc, arith}
+use Rattle.std.proofs.Common.{◌≡◌, ℕ, zero, suc, ◌+◌, ◌-◌, ◌*◌, ◌≤◌, List, [], ◌∷◌, ◌++◌, length, take, drop, get_or, replicate, Fits, w8, ◌<◌, length-append, length-drop, Option, Some, None, refl, sym, ap, ◌∙◌, append_assoc, arith}
 use Rattle.std.specs.Simd.Lanes.{chunk, put_chunk, Each1}
 use Rattle.std.proofs.Math.Seq.{take-add, drop-append_seam}
 use Rattle.std.proofs.lemmas.List.{take_at, take_all, drop_all, drop-drop, length-take-le, map-append, length-map, append-nil}
 use Rattle.std.proofs.lemmas.Simd.{length-replicate, length-chunk, put_chunk_is, Each1-from_get_or}
 use borrow.Rule.Slice.PartMut.{put_mid}
 use Rattle.wf_pixel.specs.Arithmetic.{mul, channel_over}
-use Rattle.wf_row.specs.declared.Own.{Own}
-use Rattle.wf_row.specs.declared.Own.TheVariants.{Stored, Straight, Solid}
-use Rattle.wf_row.specs.Bytes.{AreBytes, own_bytes, faded_bytes, over_bytes, lifted, blended}
+use Rattle.wf_row.specs.declared.AlphaMode.{AlphaMode}
+use Rattle.wf_row.specs.declared.AlphaMode.TheVariants.{Premultiplied, Straight, Opaque}
+use Rattle.wf_row.specs.Bytes.{AreBytes, premultiplied_bytes, faded_bytes, over_bytes, lifted, blended}
 
 -- a function of the pixels of two rows that takes each pixel alone
 pub record Pixelwise (f : List ℕ → List ℕ → List ℕ) : Type 0 where
@@ -42,47 +42,47 @@ written_more f p m n k next src old row new piece n_is next_is room same before 
     ∙ (λ i. f (all_src i) (all_old i) ++ drop next old)
 
 -- ---- blending is such a function
-pub own_append : (own : Own) (m : ℕ) (xs us : List ℕ) → length xs ≡ 4 * m → own_bytes own (xs ++ us) ≡ own_bytes own xs ++ own_bytes own us
-own_append Stored m xs us len = refl
-own_append Straight zero [] us len = refl
-own_append Straight (suc m) [] us len = absurd (omega arith)
-own_append Straight zero (r ∷ xs) us len = absurd (omega arith)
-own_append Straight (suc m) (r ∷ []) us len = absurd (omega arith)
-own_append Straight (suc m) (r ∷ g ∷ []) us len = absurd (omega arith)
-own_append Straight (suc m) (r ∷ g ∷ b ∷ []) us len = absurd (omega arith)
-own_append Straight (suc m) (r ∷ g ∷ b ∷ a ∷ xs) us len = λ i. mul r a ∷ mul g a ∷ mul b a ∷ a ∷ own_append Straight m xs us (omega arith) i
-own_append Solid zero [] us len = refl
-own_append Solid (suc m) [] us len = absurd (omega arith)
-own_append Solid zero (r ∷ xs) us len = absurd (omega arith)
-own_append Solid (suc m) (r ∷ []) us len = absurd (omega arith)
-own_append Solid (suc m) (r ∷ g ∷ []) us len = absurd (omega arith)
-own_append Solid (suc m) (r ∷ g ∷ b ∷ []) us len = absurd (omega arith)
-own_append Solid (suc m) (r ∷ g ∷ b ∷ a ∷ xs) us len = λ i. r ∷ g ∷ b ∷ 255 ∷ own_append Solid m xs us (omega arith) i
+pub premultiplied_append : (mode : AlphaMode) (m : ℕ) (xs us : List ℕ) → length xs ≡ 4 * m → premultiplied_bytes mode (xs ++ us) ≡ premultiplied_bytes mode xs ++ premultiplied_bytes mode us
+premultiplied_append Premultiplied m xs us len = refl
+premultiplied_append Straight zero [] us len = refl
+premultiplied_append Straight (suc m) [] us len = absurd (omega arith)
+premultiplied_append Straight zero (r ∷ xs) us len = absurd (omega arith)
+premultiplied_append Straight (suc m) (r ∷ []) us len = absurd (omega arith)
+premultiplied_append Straight (suc m) (r ∷ g ∷ []) us len = absurd (omega arith)
+premultiplied_append Straight (suc m) (r ∷ g ∷ b ∷ []) us len = absurd (omega arith)
+premultiplied_append Straight (suc m) (r ∷ g ∷ b ∷ a ∷ xs) us len = λ i. mul r a ∷ mul g a ∷ mul b a ∷ a ∷ premultiplied_append Straight m xs us (omega arith) i
+premultiplied_append Opaque zero [] us len = refl
+premultiplied_append Opaque (suc m) [] us len = absurd (omega arith)
+premultiplied_append Opaque zero (r ∷ xs) us len = absurd (omega arith)
+premultiplied_append Opaque (suc m) (r ∷ []) us len = absurd (omega arith)
+premultiplied_append Opaque (suc m) (r ∷ g ∷ []) us len = absurd (omega arith)
+premultiplied_append Opaque (suc m) (r ∷ g ∷ b ∷ []) us len = absurd (omega arith)
+premultiplied_append Opaque (suc m) (r ∷ g ∷ b ∷ a ∷ xs) us len = λ i. r ∷ g ∷ b ∷ 255 ∷ premultiplied_append Opaque m xs us (omega arith) i
 
-pub own_count : (own : Own) (m : ℕ) (xs : List ℕ) → length xs ≡ 4 * m → length (own_bytes own xs) ≡ 4 * m
-own_count Stored m xs len = len
-own_count Straight zero [] len = len
-own_count Straight (suc m) [] len = absurd (omega arith)
-own_count Straight zero (r ∷ xs) len = absurd (omega arith)
-own_count Straight (suc m) (r ∷ []) len = absurd (omega arith)
-own_count Straight (suc m) (r ∷ g ∷ []) len = absurd (omega arith)
-own_count Straight (suc m) (r ∷ g ∷ b ∷ []) len = absurd (omega arith)
-own_count Straight (suc m) (r ∷ g ∷ b ∷ a ∷ xs) len = let rest = own_count Straight m xs (omega arith) in omega arith
-own_count Solid zero [] len = len
-own_count Solid (suc m) [] len = absurd (omega arith)
-own_count Solid zero (r ∷ xs) len = absurd (omega arith)
-own_count Solid (suc m) (r ∷ []) len = absurd (omega arith)
-own_count Solid (suc m) (r ∷ g ∷ []) len = absurd (omega arith)
-own_count Solid (suc m) (r ∷ g ∷ b ∷ []) len = absurd (omega arith)
-own_count Solid (suc m) (r ∷ g ∷ b ∷ a ∷ xs) len = let rest = own_count Solid m xs (omega arith) in omega arith
+pub premultiplied_count : (mode : AlphaMode) (m : ℕ) (xs : List ℕ) → length xs ≡ 4 * m → length (premultiplied_bytes mode xs) ≡ 4 * m
+premultiplied_count Premultiplied m xs len = len
+premultiplied_count Straight zero [] len = len
+premultiplied_count Straight (suc m) [] len = absurd (omega arith)
+premultiplied_count Straight zero (r ∷ xs) len = absurd (omega arith)
+premultiplied_count Straight (suc m) (r ∷ []) len = absurd (omega arith)
+premultiplied_count Straight (suc m) (r ∷ g ∷ []) len = absurd (omega arith)
+premultiplied_count Straight (suc m) (r ∷ g ∷ b ∷ []) len = absurd (omega arith)
+premultiplied_count Straight (suc m) (r ∷ g ∷ b ∷ a ∷ xs) len = let rest = premultiplied_count Straight m xs (omega arith) in omega arith
+premultiplied_count Opaque zero [] len = len
+premultiplied_count Opaque (suc m) [] len = absurd (omega arith)
+premultiplied_count Opaque zero (r ∷ xs) len = absurd (omega arith)
+premultiplied_count Opaque (suc m) (r ∷ []) len = absurd (omega arith)
+premultiplied_count Opaque (suc m) (r ∷ g ∷ []) len = absurd (omega arith)
+premultiplied_count Opaque (suc m) (r ∷ g ∷ b ∷ []) len = absurd (omega arith)
+premultiplied_count Opaque (suc m) (r ∷ g ∷ b ∷ a ∷ xs) len = let rest = premultiplied_count Opaque m xs (omega arith) in omega arith
 
-pub lifted_append : (own : Own) (f : Bool) (k m : ℕ) (xs us : List ℕ) → length xs ≡ 4 * m → lifted own f k (xs ++ us) ≡ lifted own f k xs ++ lifted own f k us
-lifted_append own true k m xs us len = ap (faded_bytes k) (own_append own m xs us len) ∙ map-append (λ x. mul x k) (own_bytes own xs) (own_bytes own us)
-lifted_append own false k m xs us len = own_append own m xs us len
+pub lifted_append : (mode : AlphaMode) (fade : Option ℕ) (m : ℕ) (xs us : List ℕ) → length xs ≡ 4 * m → lifted mode fade (xs ++ us) ≡ lifted mode fade xs ++ lifted mode fade us
+lifted_append mode (Some k) m xs us len = ap (faded_bytes k) (premultiplied_append mode m xs us len) ∙ map-append (λ x. mul x k) (premultiplied_bytes mode xs) (premultiplied_bytes mode us)
+lifted_append mode None m xs us len = premultiplied_append mode m xs us len
 
-pub lifted_count : (own : Own) (f : Bool) (k m : ℕ) (xs : List ℕ) → length xs ≡ 4 * m → length (lifted own f k xs) ≡ 4 * m
-lifted_count own true k m xs len = length-map (own_bytes own xs) (λ x. mul x k) ∙ own_count own m xs len
-lifted_count own false k m xs len = own_count own m xs len
+pub lifted_count : (mode : AlphaMode) (fade : Option ℕ) (m : ℕ) (xs : List ℕ) → length xs ≡ 4 * m → length (lifted mode fade xs) ≡ 4 * m
+lifted_count mode (Some k) m xs len = length-map (premultiplied_bytes mode xs) (λ x. mul x k) ∙ premultiplied_count mode m xs len
+lifted_count mode None m xs len = premultiplied_count mode m xs len
 
 -- two lists of four bytes a pixel
 pub over_append : (m : ℕ) (ps ds us vs : List ℕ) → length ps ≡ 4 * m → length ds ≡ 4 * m → over_bytes (ps ++ us) (ds ++ vs) ≡ over_bytes ps ds ++ over_bytes us vs
@@ -113,12 +113,12 @@ over_count (suc m) (r ∷ g ∷ b ∷ a ∷ ps) (x ∷ y ∷ []) l d = absurd (o
 over_count (suc m) (r ∷ g ∷ b ∷ a ∷ ps) (x ∷ y ∷ z ∷ []) l d = absurd (omega arith)
 over_count (suc m) (r ∷ g ∷ b ∷ a ∷ ps) (x ∷ y ∷ z ∷ w ∷ ds) l d = let rest = over_count m ps ds (omega arith) (omega arith) in omega arith
 
-pub blended-Pixelwise : (own : Own) (f : Bool) (k : ℕ) → Pixelwise (blended own f k)
-blended-Pixelwise own f k = record {
+pub blended-Pixelwise : (mode : AlphaMode) (fade : Option ℕ) → Pixelwise (blended mode fade)
+blended-Pixelwise mode fade = record {
   append = λ m xs ys us vs x y.
-      ap (λ (l : List ℕ). over_bytes l (ys ++ vs)) (lifted_append own f k m xs us x)
-      ∙ over_append m (lifted own f k xs) ys (lifted own f k us) vs (lifted_count own f k m xs x) y;
-  count = λ m xs ys x y. over_count m (lifted own f k xs) ys (lifted_count own f k m xs x) y;
+      ap (λ (l : List ℕ). over_bytes l (ys ++ vs)) (lifted_append mode fade m xs us x)
+      ∙ over_append m (lifted mode fade xs) ys (lifted mode fade us) vs (lifted_count mode fade m xs x) y;
+  count = λ m xs ys x y. over_count m (lifted mode fade xs) ys (lifted_count mode fade m xs x) y;
 }
 
 -- a vector's bytes written at n

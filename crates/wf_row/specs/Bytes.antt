@@ -1,9 +1,9 @@
 -- Rows of bytes, four for each pixel, and their lanes.
-use Rattle.std.specs.Prelude.{◌≡◌, ℕ, ◌<◌, List, [], ◌∷◌, length, map, Bool, true, false}
+use Rattle.std.specs.Prelude.{◌≡◌, ℕ, ◌<◌, List, [], ◌∷◌, length, map, Option, Some, None}
 use Rattle.std.specs.Simd.Lanes.{Each1}
 use Rattle.wf_pixel.specs.Arithmetic.{mul, channel_over}
-use Rattle.wf_row.specs.declared.Own.{Own}
-use Rattle.wf_row.specs.declared.Own.TheVariants.{Stored, Straight, Solid}
+use Rattle.wf_row.specs.declared.AlphaMode.{AlphaMode}
+use Rattle.wf_row.specs.declared.AlphaMode.TheVariants.{Premultiplied, Straight, Opaque}
 
 -- n lanes, each of a byte
 pub record AreBytes (n : ℕ) (xs : List ℕ) : Type 0 where
@@ -45,11 +45,11 @@ twice (a ∷ xs) = a ∷ a ∷ twice xs
 twice [] = []
 
 -- the pixels of a source as premultiplied ones, by the alpha that each stores, or opaque
-abbrev pub own_bytes : Own → List ℕ → List ℕ
-own_bytes Stored xs = xs
-own_bytes Straight (r ∷ g ∷ b ∷ a ∷ xs) = mul r a ∷ mul g a ∷ mul b a ∷ a ∷ own_bytes Straight xs
-own_bytes Solid (r ∷ g ∷ b ∷ a ∷ xs) = r ∷ g ∷ b ∷ 255 ∷ own_bytes Solid xs
-own_bytes _ _ = []
+abbrev pub premultiplied_bytes : AlphaMode → List ℕ → List ℕ
+premultiplied_bytes Premultiplied xs = xs
+premultiplied_bytes Straight (r ∷ g ∷ b ∷ a ∷ xs) = mul r a ∷ mul g a ∷ mul b a ∷ a ∷ premultiplied_bytes Straight xs
+premultiplied_bytes Opaque (r ∷ g ∷ b ∷ a ∷ xs) = r ∷ g ∷ b ∷ 255 ∷ premultiplied_bytes Opaque xs
+premultiplied_bytes _ _ = []
 
 -- each channel times k
 abbrev pub faded_bytes : ℕ → List ℕ → List ℕ
@@ -67,14 +67,14 @@ over_bytes (r ∷ g ∷ b ∷ a ∷ ps) (u ∷ v ∷ w ∷ z ∷ ds) =
 over_bytes _ _ = []
 
 -- the pixels of a source as premultiplied ones, times k where they are faded
-abbrev pub lifted : Own → Bool → ℕ → List ℕ → List ℕ
-lifted own true k xs = faded_bytes k (own_bytes own xs)
-lifted own false k xs = own_bytes own xs
+abbrev pub lifted : AlphaMode → Option ℕ → List ℕ → List ℕ
+lifted mode (Some k) xs = faded_bytes k (premultiplied_bytes mode xs)
+lifted mode None xs = premultiplied_bytes mode xs
 
 -- the pixels of a source, lifted, over those of a row
-abbrev pub blended : Own → Bool → ℕ → List ℕ → List ℕ → List ℕ
-blended own f k xs ys = over_bytes (lifted own f k xs) ys
+abbrev pub blended : AlphaMode → Option ℕ → List ℕ → List ℕ → List ℕ
+blended mode fade xs ys = over_bytes (lifted mode fade xs) ys
 
 -- the same, each pixel of the source times its mask before it is laid over the row's
-abbrev pub masked : Own → Bool → ℕ → List ℕ → List ℕ → List ℕ → List ℕ
-masked own f k ms xs ys = over_bytes (masked_bytes ms (lifted own f k xs)) ys
+abbrev pub blended_masked : AlphaMode → Option ℕ → List ℕ → List ℕ → List ℕ → List ℕ
+blended_masked mode fade ms xs ys = over_bytes (masked_bytes ms (lifted mode fade xs)) ys

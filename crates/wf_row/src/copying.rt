@@ -1,11 +1,11 @@
 //! A row of opaque pixels. Four at a time: a vector of eight would be stored by its upper half first, which is slow where
 //! the row is not yet in the first cache.
 
-ghost use Rattle.std.specs.Prelude.{◌≡◌, ◌<◌, ◌≤◌, ◌+◌, ◌%◌, ◌++◌, length, drop, replicate};
-ghost use Rattle.std.specs.Simd.Lanes.{chunk};
-ghost use Rattle.wf_row.specs.Bytes.{AreBytes, own_bytes, over_bytes};
+ghost use Rattle.std.specs.Prelude.{◌≡◌, ◌<◌, ◌%◌, length};
+ghost use Rattle.wf_row.specs.Bytes.{AreBytes, premultiplied_bytes, over_bytes};
 
-use crate::Own;
+use crate::AlphaMode;
+use crate::loading::{load_four, padded_four};
 use std::simd::prelude::*;
 
 /// Lays the pixels of a source, made opaque, over those of a row.
@@ -13,7 +13,7 @@ use std::simd::prelude::*;
 pub(crate) fn copy_pixels(row: &mut [u8], src: &[u8])
     requires whole { length src.now % 4 ≡ 0 }
     requires same { length row.old ≡ length src.now }
-    ensures { row.new ≡ over_bytes (own_bytes Own.Solid src.now) row.old }
+    ensures { row.new ≡ over_bytes (premultiplied_bytes AlphaMode.Opaque src.now) row.old }
 {
     let blocks = src.len() / 16;
     for block in 0..blocks {
@@ -28,31 +28,10 @@ pub(crate) fn copy_pixels(row: &mut [u8], src: &[u8])
 #[inline(always)]
 fn opaque_lanes(x: u8x16) -> u8x16
     requires { AreBytes 16 x }
-    ensures { result ≡ own_bytes Own.Solid x }
+    ensures { result ≡ premultiplied_bytes AlphaMode.Opaque x }
 {
     let alpha = u8x16::from_array([0, 0, 0, 255, 0, 0, 0, 255, 0, 0, 0, 255, 0, 0, 0, 255]);
     x | alpha
-}
-
-/// The 16 bytes from a place on.
-#[inline(always)]
-pub(crate) fn load_four(bytes: &[u8], at: usize) -> u8x16
-    requires { at + 16 ≤ length bytes.now }
-    ensures value { result ≡ chunk at 16 bytes.now }
-    ensures bytes { AreBytes 16 result }
-{
-    u8x16::from_slice(&bytes[at..])
-}
-
-/// Bytes, followed by zeros.
-pub(crate) fn padded_four(bytes: &[u8]) -> u8x16
-    requires { length bytes.now ≤ 16 }
-    ensures value { result ≡ bytes.now ++ drop (length bytes.now) (replicate 16 0) }
-    ensures bytes { AreBytes 16 result }
-{
-    let mut all = [0; 16];
-    all[..bytes.len()].copy_from_slice(bytes);
-    u8x16::from_array(all)
 }
 
 /// Writes fewer than four pixels of a source, made opaque.
@@ -60,7 +39,7 @@ fn copy_rest(row: &mut [u8], src: &[u8])
     requires whole { length src.now % 4 ≡ 0 }
     requires same { length row.old ≡ length src.now }
     requires few { length src.now < 16 }
-    ensures { row.new ≡ own_bytes Own.Solid src.now }
+    ensures { row.new ≡ premultiplied_bytes AlphaMode.Opaque src.now }
 {
     if src.is_empty() {
         return;

@@ -1,7 +1,0 @@
-use Rattle.std.proofs.Common.{◌≡◌, ◌*◌}
-use Rattle.wf_row.proofs.Turns.{turned_to}
-use Rattle.wf_row.proofs.turning.turn_row.Given as goal
-
--- the blocks so far are written, and the others are as they were
-abbrev pub invariant-loop-block : goal.invariant-loop-block
-invariant-loop-block l = l.out ≡ turned_to (16 * l.block) l.src l.fn.out
