@@ -1,6 +1,6 @@
 -- Pieces of rows in which the same layers count.
 use Rattle.std.specs.Prelude.{◌≡◌, ℕ, ◌+◌, ◌<◌, ◌≤◌, List, length, slice_index_or, IfSome}
-use Rattle.wf_kernel.specs.declared.hiding.Strip.{Strip}
+use Rattle.wf_kernel.specs.declared.strips.Strip.{Strip}
 use Rattle.wf_kernel.specs.Bound.{Bound}
 use Rattle.wf_kernel.specs.Hiding.{IsCover, IsBeside}
 

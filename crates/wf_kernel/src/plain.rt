@@ -1,16 +1,17 @@
 //! The plain painter, which asks all layers at each pixel: the measure of right for the painter by rows.
 
-ghost use Rattle.std.specs.Prelude.{◌≡◌, ◌+◌, ◌*◌, ◌<◌, All, length, IsTrue};
+ghost use Rattle.std.specs.Prelude.{◌≡◌, ◌+◌, ◌*◌, ◌<◌, ◌≤◌, length, IsTrue};
 ghost use Rattle.wf_pixel.specs.Choice.{has_sides};
 ghost use Rattle.wf_image.specs.Bitmap.{pixel_bytes};
 ghost use Rattle.wf_model.specs.Picture.{picture, Fits};
-ghost use Rattle.wf_kernel.specs.Bound.{IsShowable, bound_colour, bound_pixel, bound_row, bound_rows};
+ghost use Rattle.wf_kernel.specs.Bound.{bound_colour, bound_row, bound_rows, point_of};
 
 use crate::bound::{BoundLayer, bind_layers};
-use crate::laying::put_pixel;
+use crate::painting::put_pixel;
+use crate::tables::fill_tables;
 use crate::texels::texel_at;
 use wf_image::{Contents, Image};
-use wf_pixel::{Rgba, over, turned, turned_back};
+use wf_pixel::{Rgba, Rotation, Size, over};
 use wf_scene::Scene;
 
 /// Writes what `picture` of this crate writes.
@@ -19,63 +20,73 @@ pub(crate) fn picture(scene: &Scene, contents: &Contents, target: &mut Image)
     requires pixels { pixel_bytes target.old.format ≡ 4 }
     requires fits { Fits scene.now contents.now }
     ensures picture { target.new ≡ picture scene.now contents.now target.old.format }
-    ensures same_size { target.new.size ≡ target.old.size }
-    ensures same_format { target.new.format ≡ target.old.format }
 {
-    let layers = bind_layers(scene.layers.as_slice(), contents);
-    paint_rows(target.bytes_mut(), scene, layers.as_slice());
+    let mut tables = [[0; 1024]; 32];
+    fill_tables(&mut tables, scene, contents);
+    let layers = bind_layers(scene, contents, &tables);
+    let size = scene.size;
+    paint_rows(
+        target.bytes_mut(),
+        size,
+        layers.as_slice(),
+        scene.background,
+    );
 }
 
 /// Writes all rows.
-fn paint_rows(bytes: &mut [u8], scene: &Scene, layers: &[BoundLayer])
-    requires sides { IsTrue (has_sides scene.now.size) }
-    requires count { length bytes.old ≡ scene.now.size.w * scene.now.size.h * 4 }
-    requires showable { All IsShowable layers.now }
-    ensures { bytes.new ≡ bound_rows scene.now layers.now }
+fn paint_rows(bytes: &mut [u8], size: Size, layers: &[BoundLayer], background: Rgba)
+    requires sides { IsTrue (has_sides size) }
+    requires count { length bytes.old ≡ size.w * size.h * 4 }
+    ensures { bytes.new ≡ bound_rows size.w layers.now background 0 size.h }
 {
-    let stride = 4 * scene.size.w as usize;
-    for y in 0..scene.size.h {
+    let stride = 4 * size.w as usize;
+    for y in 0..size.h {
         let at = y as usize * stride;
-        paint_row(&mut bytes[at..at + stride], scene, layers, y);
+        paint_row(&mut bytes[at..at + stride], size.w, layers, background, y);
     }
 }
 
 /// Writes row `y`.
-fn paint_row(row: &mut [u8], scene: &Scene, layers: &[BoundLayer], y: u32)
-    requires sides { IsTrue (has_sides scene.now.size) }
-    requires y { y < scene.now.size.h }
-    requires count { length row.old ≡ scene.now.size.w * 4 }
-    requires showable { All IsShowable layers.now }
-    ensures { row.new ≡ bound_row scene.now layers.now y }
+fn paint_row(row: &mut [u8], width: u32, layers: &[BoundLayer], background: Rgba, y: u32)
+    requires few { width ≤ 1024 }
+    requires y { y < 1024 }
+    requires count { length row.old ≡ 4 * width }
+    ensures { row.new ≡ bound_row width layers.now background y }
 {
-    for x in 0..scene.size.w {
-        put_pixel(row, 4 * x as usize, pixel_of(scene, layers, x, y));
+    for x in 0..width {
+        put_pixel(row, 4 * x as usize, color_of(layers, background, x, y));
     }
 }
 
-/// The pixel at a place of the target, which the scene's turn brings from the space where the layers are composed.
-fn pixel_of(scene: &Scene, layers: &[BoundLayer], x: u32, y: u32) -> Rgba
-    requires sides { IsTrue (has_sides scene.now.size) }
-    requires x { x < scene.now.size.w }
-    requires y { y < scene.now.size.h }
-    requires showable { All IsShowable layers.now }
-    ensures { result ≡ bound_pixel scene.now layers.now x y }
-{
-    let space = turned(scene.turn, scene.size);
-    let (u, v) = turned_back(scene.turn, space, x, y);
-    color_of(layers, scene.background, u as i32, v as i32)
-}
-
-/// The colour of layers from the bottom up, over a background, at a point.
-fn color_of(layers: &[BoundLayer], background: Rgba, x: i32, y: i32) -> Rgba
-    requires { All IsShowable layers.now }
+/// The colour of layers from the bottom up, over a background, at a pixel of the target.
+fn color_of(layers: &[BoundLayer], background: Rgba, x: u32, y: u32) -> Rgba
+    requires x { x < 1024 }
+    requires y { y < 1024 }
     ensures { result ≡ bound_colour layers.now background x y }
 {
     let mut color = background;
     for layer in layers {
-        if let Some(texel) = texel_at(layer, x, y) {
+        let (u, v) = point_of(layer.turn, layer.space, x, y);
+        if let Some(texel) = texel_at(layer, u, v) {
             color = over(texel, color);
         }
     }
     color
+}
+
+/// The point of a space that the turn brings to (x, y) of the target.
+fn point_of(turn: Rotation, space: Size, x: u32, y: u32) -> (i32, i32)
+    requires sides { IsTrue (has_sides space) }
+    requires x { x < 1024 }
+    requires y { y < 1024 }
+    ensures { result ≡ point_of turn space x y }
+{
+    let (x, y) = (x as i32, y as i32);
+    let (w, h) = (space.w as i32, space.h as i32);
+    match turn {
+        Rotation::R0 => (x, y),
+        Rotation::R90 => (y, h - (x + 1)),
+        Rotation::R180 => (w - (x + 1), h - (y + 1)),
+        Rotation::R270 => (w - (y + 1), x),
+    }
 }
