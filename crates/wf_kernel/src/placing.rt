@@ -135,7 +135,7 @@ fn flipped(flip: bool, h: u32, v: u32) -> u32
 }
 
 /// The place in `s` pixels at which the middle of pixel `i` of `w` lies: no division where nothing is scaled.
-#[tactic(auto, using(crate::proofs::Placing::samp_same))]
+#[tactic(auto, using(crate::proofs::Placed::samp_same))]
 fn place_in(i: u32, w: u32, s: u32) -> u32
     requires i { i < w }
     requires w { w ≤ 1024 }
