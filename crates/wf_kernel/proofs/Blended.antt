@@ -1,5 +1,5 @@
 -- Pixels blended as bytes are the pixels of a layer that is laid.
-use Rattle.std.proofs.Common.{◌≡◌, ℕ, zero, suc, ◌+◌, ◌*◌, List, [], ◌∷◌, ◌++◌, length, get_or, refl, sym, ap, ◌∙◌, arith}
+use Rattle.std.proofs.Common.{◌≡◌, ℕ, zero, suc, ◌+◌, ◌*◌, ◌<◌, List, [], ◌∷◌, ◌++◌, length, get_or, refl, sym, ap, ◌∙◌, arith}
 use Rattle.std.specs.Prelude.{flat_map, Option, None, Some}
 use Rattle.std.specs.List.{range_with_len}
 use Rattle.wf_pixel.specs.declared.Rgba.{Rgba}
@@ -10,7 +10,9 @@ use Rattle.wf_row.specs.declared.AlphaMode.TheVariants.{Premultiplied, Straight,
 use Rattle.wf_row.specs.Bytes.{over_bytes, masked_bytes, lifted, blended, blended_masked}
 use Rattle.wf_image.specs.Bitmap.{stored, read_at, drawn_row}
 use Rattle.wf_kernel.specs.Laid.{laid, lifted_pixel}
-use Rattle.wf_kernel.proofs.Pixels.{pieces_same, pieces_shift, read_ahead}
+use Rattle.wf_kernel.proofs.Pieces.{length-pieces}
+use Rattle.wf_kernel.proofs.Pixels.{pieces_same, pieces_shift, read_ahead, read_drawn}
+use Rattle.wf_kernel.proofs.Laid.{laid_same}
 
 -- ---- blending by pixels
 pub lifted_cell : (mode : AlphaMode) (fade : Option ℕ) (r g b a : ℕ) (ps : List ℕ)
@@ -91,3 +93,21 @@ masked_drawn mode fade (suc n) (m ∷ ms) (r ∷ g ∷ b ∷ a ∷ ps) (u ∷ w 
     ∙ sym (pieces_shift cells_of 1 0 n) in
     ap (λ (l : List ℕ). over_bytes (masked_bytes all l) old) (lifted_cell mode fade r g b a ps)
     ∙ ap (λ (l : List ℕ). stored Rgba8Pre (over p d) ++ l) (masked_drawn mode fade n ms ps ds (omega arith) (omega arith) (omega arith) ∙ tail)
+
+-- ---- as a layer that is laid
+pub blended_laid : (mode : AlphaMode) (fade : Option ℕ) (n : ℕ) (colour : ℕ → Rgba) (line old : List ℕ) → line ≡ drawn_row n Rgba8Pre colour → length old ≡ 4 * n
+    → blended mode fade line old ≡ laid n (λ i. Some (lifted_pixel mode fade (colour i))) old
+blended_laid mode fade n colour line old line_is count =
+    let len : length line ≡ 4 * n = ap length line_is ∙ length-pieces (λ i. stored Rgba8Pre (colour i)) 4 0 n (λ i. refl) in
+    blended_drawn mode fade n line old len count
+    ∙ laid_same n (λ i. Some (lifted_pixel mode fade (read_at Rgba8Pre line (4 * i)))) (λ i. Some (lifted_pixel mode fade (colour i))) old
+    (λ i low. ap (λ (c : Rgba). Some (lifted_pixel mode fade c)) (ap (λ (bytes : List ℕ). read_at Rgba8Pre bytes (4 * i)) line_is ∙ read_drawn n colour i low))
+
+pub masked_laid : (mode : AlphaMode) (fade : Option ℕ) (n : ℕ) (value : ℕ → ℕ) (line old ms : List ℕ) → length line ≡ 4 * n → length old ≡ 4 * n → length ms ≡ n
+    → ((i : ℕ) → i < n → get_or ms i 0 ≡ value i)
+    → blended_masked mode fade ms line old ≡ laid n (λ i. Some (scaled (lifted_pixel mode fade (read_at Rgba8Pre line (4 * i))) (value i))) old
+masked_laid mode fade n value line old ms len count values is =
+    masked_drawn mode fade n ms line old values len count
+    ∙ laid_same n (λ i. Some (scaled (lifted_pixel mode fade (read_at Rgba8Pre line (4 * i))) (get_or ms i 0)))
+    (λ i. Some (scaled (lifted_pixel mode fade (read_at Rgba8Pre line (4 * i))) (value i))) old
+    (λ i low. ap (λ (m : ℕ). Some (scaled (lifted_pixel mode fade (read_at Rgba8Pre line (4 * i))) m)) (is i low))

@@ -10,6 +10,7 @@ use Rattle.wf_pixel.specs.declared.Rotation.{Rotation}
 use Rattle.wf_pixel.specs.declared.Rotation.TheVariants.{R0, R90, R180, R270}
 use Rattle.wf_pixel.specs.declared.Size.{Size}
 use Rattle.wf_pixel.specs.Along.{along}
+use Rattle.wf_pixel.specs.Choice.{has_sides}
 use Rattle.wf_pixel.specs.Arithmetic.{samp}
 use Rattle.wf_pixel.specs.Place.{turned, turned_back, size_of, source_pixel}
 use Rattle.wf_scene.specs.declared.Layer.{Layer}
@@ -148,3 +149,10 @@ holds_x size r holds low = grind (arith, ints, nat_tests)
 
 pub holds_y : (size : Size) (r : Rect) → IsTrue (holds_rect size r) → pos 0 ≤ℤ r.y → nat_abs r.y + r.h ≤ size.h
 holds_y size r holds low = grind (arith, ints, nat_tests)
+
+-- ---- a turned size
+pub turned_sides : (t : Rotation) (s : Size) → IsTrue (has_sides s) → IsTrue (has_sides (turned t s))
+turned_sides R0 s sides = sides
+turned_sides R90 s sides = grind (arith, nat_tests)
+turned_sides R180 s sides = sides
+turned_sides R270 s sides = grind (arith, nat_tests)

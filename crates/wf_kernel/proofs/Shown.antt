@@ -59,7 +59,7 @@ bound_above b x y e =
 pub bound_nothing : (b : Bound) (x y : ℕ) → b.source ≡ None → bound_texel b x y ≡ None
 bound_nothing b x y none =
     let p : ℤ × ℤ = point_of b.turn b.space x y in
-    ap (λ (s : Option Bitmap). texel_of b.layer s (mask_of b.layer b.mask p.0 p.1) p.0 p.1) none 
+    ap (λ (s : Option Bitmap). texel_of b.layer s (mask_of b.layer b.mask p.0 p.1) p.0 p.1) none
     ∙ no_image (option_and_then (λ d. option_map (source_pixel b.layer.src b.layer.flip b.layer.turn b.layer.dest d) (along b.layer.dest.y b.layer.dest.h p.1)) (along b.layer.dest.x b.layer.dest.w p.0))
   where
     no_image : (place : Option (ℕ × ℕ)) → (place >>= (λ p. let empty : Option Rgba = None in empty)) ≡ None
@@ -108,7 +108,7 @@ texel_at_place : (b : Bound) (set : Bool) (image : Bitmap) (mask : Option Bitmap
     → along b.layer.dest.x b.layer.dest.w p.0 ≡ Some dx → along b.layer.dest.y b.layer.dest.h p.1 ≡ Some dy
     → texel_of (by_mask b set).layer (Some image) (mask_of (by_mask b set).layer mask p.0 p.1) p.0 p.1
     ≡ (if set then mask >>= (λ m. Some (scaled (lifted_pixel (mode_of image.format b.layer.transparency.source) (fade_of b.layer.transparency.alpha b.layer.alpha) (pixel image (source_pixel b.layer.src b.layer.flip b.layer.turn b.layer.dest dx dy).0 (source_pixel b.layer.src b.layer.flip b.layer.turn b.layer.dest dx dy).1)) (pixel m dx dy).a))
-        else Some (lifted_pixel (mode_of image.format b.layer.transparency.source) (fade_of b.layer.transparency.alpha b.layer.alpha) (pixel image (source_pixel b.layer.src b.layer.flip b.layer.turn b.layer.dest dx dy).0 (source_pixel b.layer.src b.layer.flip b.layer.turn b.layer.dest dx dy).1)))
+    else Some (lifted_pixel (mode_of image.format b.layer.transparency.source) (fade_of b.layer.transparency.alpha b.layer.alpha) (pixel image (source_pixel b.layer.src b.layer.flip b.layer.turn b.layer.dest dx dy).0 (source_pixel b.layer.src b.layer.flip b.layer.turn b.layer.dest dx dy).1)))
 texel_at_place b false image mask p dx dy colours ex ey =
     let l : Layer = (by_mask b false).layer in
     let place : ℕ × ℕ = source_pixel l.src l.flip l.turn l.dest dx dy in
@@ -134,12 +134,16 @@ texel_is b image x y a d source colours ex ey =
     ap (λ (s : Option Bitmap). texel_of l s (mask_of l b.mask p.0 p.1) p.0 p.1) source
     ∙ texel_at_place b l.transparency.mask image b.mask p q.0 q.1 colours both.0 both.1
     ∙ ap (λ (place : ℕ × ℕ). if l.transparency.mask then b.mask >>= (λ m. Some (scaled (lifted_pixel (mode_of image.format l.transparency.source) (fade_of l.transparency.alpha l.alpha) (pixel image place.0 place.1)) (mask_value b m a d)))
-        else Some (lifted_pixel (mode_of image.format l.transparency.source) (fade_of l.transparency.alpha l.alpha) (pixel image place.0 place.1)))
+    else Some (lifted_pixel (mode_of image.format l.transparency.source) (fade_of l.transparency.alpha l.alpha) (pixel image place.0 place.1)))
     (place_is b.turn l.turn l b.source b.mask b.space a d)
 
 -- ---- the pixel lies in the image
 abbrev Holds : Layer → Option Bitmap → Type 0
 Holds l s = IfSome s (λ i. (i.format ≢ A8) × IsTrue (holds_rect i.size l.src))
+
+-- an image of a layer's stream is no mask
+pub has_colours : (b : Bound) (image : Bitmap) → IsShowable b → b.source ≡ Some image → image.format ≢ A8
+has_colours b image showable source = (subst (Holds b.layer) source showable.has_source).0
 
 pub place_low : (b : Bound) (image : Bitmap) (a d : ℕ) → IsShowable b → b.source ≡ Some image → a < (placed b).w → d < (placed b).h
     → ((source_place b a d).0 < image.size.w) × ((source_place b a d).1 < image.size.h)
@@ -157,3 +161,20 @@ place_low b image a d showable source low high =
     let u = in_source.0 in
     let v = in_source.1 in
     (omega arith, omega arith)
+
+-- ---- the texel by its mask
+pub unmasked : (b : Bound) (image : Bitmap) (a d : ℕ) → b.layer.transparency.mask ≡ false → Some (lifted_texel b image a d) ≡ placed_texel b image a d
+unmasked b image a d set =
+    ap (λ (m : Bool). if m then b.mask >>= (λ i. Some (scaled (lifted_texel b image a d) (mask_value b i a d))) else Some (lifted_texel b image a d)) (sym set)
+
+pub without_mask : (b : Bound) (image : Bitmap) (a d : ℕ) → b.layer.transparency.mask ≡ true → b.mask ≡ None → placed_texel b image a d ≡ None
+without_mask b image a d set none =
+    ap (λ (m : Bool). if m then b.mask >>= (λ i. Some (scaled (lifted_texel b image a d) (mask_value b i a d))) else Some (lifted_texel b image a d)) set
+    ∙ ap (λ (mask : Option Bitmap). mask >>= (λ i. Some (scaled (lifted_texel b image a d) (mask_value b i a d)))) none
+
+pub with_mask : (b : Bound) (image mask : Bitmap) (a d : ℕ) → b.layer.transparency.mask ≡ true → b.mask ≡ Some mask
+    → Some (scaled (lifted_texel b image a d) (mask_value b mask a d)) ≡ placed_texel b image a d
+with_mask b image mask a d set some =
+    sym
+    (ap (λ (m : Bool). if m then b.mask >>= (λ i. Some (scaled (lifted_texel b image a d) (mask_value b i a d))) else Some (lifted_texel b image a d)) set
+    ∙ ap (λ (mask : Option Bitmap). mask >>= (λ i. Some (scaled (lifted_texel b image a d) (mask_value b i a d)))) some)

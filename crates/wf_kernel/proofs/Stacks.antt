@@ -69,4 +69,3 @@ strip_more colour a n at k old piece first at_is k_is old_is piece_is =
     let end : at + k ≡ 4 * (a + n) = omega arith in
     step done piece old (put_mid at k old piece) first at k (at + k) len refl before (part_written old piece at k (at + k) refl)
     ∙ (λ i. both i ++ drop (end i) first)
-

@@ -11,7 +11,7 @@ use Rattle.wf_row.specs.declared.AlphaMode.TheVariants.{Premultiplied, Straight,
 use Rattle.wf_image.specs.Bitmap.{Bitmap, read_at, drawn_row}
 use Rattle.wf_model.specs.Picture.{on_top}
 use Rattle.wf_kernel.specs.declared.stretch.Stretch.{Stretch}
-use Rattle.wf_kernel.specs.Bound.{Bound}
+use Rattle.wf_kernel.specs.Bound.{Bound, bound_texel}
 use Rattle.wf_kernel.specs.Placed.{placed, source_colour, mask_value}
 
 -- w pixels of a row, each with the texel at its place over it where there is one
@@ -20,11 +20,21 @@ laid w texel row = drawn_row w Rgba8Pre (λ x. on_top (texel x) (read_at Rgba8Pr
 
 -- pixels of a row of the target that a layer covers: where they lie on the target, and how far from the layer's corner
 pub record IsStretch (b : Bound) (s : Stretch) : Type 0 where
+  pub some : 1 ≤ s.len
   pub high : s.x + s.len ≤ 1024
   pub inside : s.across + s.len ≤ (placed b).w
   pub below : s.down < (placed b).h
   pub columns : (i : ℕ) → i < s.len → along (placed b).x (placed b).w (pos (s.x + i)) ≡ Some (s.across + i)
   pub row : along (placed b).y (placed b).h (pos s.y) ≡ Some s.down
+
+-- the pixels of a piece of row y that a layer covers, of which the piece has `width` from column `first` on
+pub record IsStretchIn (b : Bound) (first width y : ℕ) (s : Stretch) : Type 0 where
+  pub stretch : IsStretch b s
+  pub row : s.y ≡ y
+  pub start : first ≤ s.x
+  pub end : s.x + s.len ≤ first + width
+  pub before : (j : ℕ) → first + j < s.x → bound_texel b (first + j) y ≡ None
+  pub behind : (j : ℕ) → s.x + s.len ≤ first + j → j < width → bound_texel b (first + j) y ≡ None
 
 -- a pixel as a premultiplied one, by the alpha that it stores, or opaque
 abbrev pub mode_pixel : AlphaMode → Rgba → Rgba

@@ -1,5 +1,6 @@
 -- What is worked out of a layer once for all rows of its target.
 use Rattle.std.specs.Prelude.{◌≡◌, ℕ, ◌+◌, ◌-◌, ◌<◌, ◌==◌, Bool, true, false, if◌then◌else◌, pos, Some, List, length, slice_index, slice_index_or, nat_abs, IsTrue}
+use Rattle.std.proofs.Common.{subst}
 use Rattle.wf_pixel.specs.declared.Rotation.{Rotation}
 use Rattle.wf_pixel.specs.declared.Size.{Size}
 use Rattle.wf_pixel.specs.Choice.{has_sides}
@@ -57,3 +58,9 @@ pub record IsPrepared (b : Bound) (columns rows : Span) (hides crossed : Bool) (
   pub crossed_is : crossed ≡ is_crossed b.turn b.layer
   pub walk_is : IsWalk b.turn b.layer walk
   pub table_is : walk ≡ Table → IsTable b.turn b.space b.layer table
+
+-- what is known of a layer by its fields is known of it by its value
+pub prepared_as : {b c : Bound} {columns rows : Span} {hides crossed : Bool} {walk : Walk} {table : List ℕ}
+    → b ≡ c → IsPrepared b columns rows hides crossed walk table → IsPrepared c columns rows hides crossed walk table
+prepared_as {columns = columns} {rows = rows} {hides = hides} {crossed = crossed} {walk = walk} {table = table} same prepared =
+    subst (λ (b : Bound). IsPrepared b columns rows hides crossed walk table) same prepared

@@ -1,4 +1,4 @@
--- The pixels that a side covers, and the part of them in a piece of a row.
+-- The pixels that a side covers.
 use Rattle.std.specs.Prelude.{◌≡◌, ℕ, ◌+◌, ◌<◌, ◌≤◌, ℤ, pos, None, Some}
 use Rattle.wf_pixel.specs.Along.{along}
 use Rattle.wf_kernel.specs.declared.spans.Span.{Span}
@@ -11,11 +11,3 @@ pub record IsReach (x : ℤ) (w : ℕ) (s : Span) : Type 0 where
   pub before : (j : ℕ) → j < s.start → along x w (pos j) ≡ None
   pub behind : (j : ℕ) → s.start + s.len ≤ j → along x w (pos j) ≡ None
   pub covered : (i : ℕ) → i < s.len → along x w (pos (s.start + i)) ≡ Some (s.skip + i)
-
--- the part of `width` pixels of a row, from column `first` on, that a side of w pixels from x on covers
-pub record IsSpan (x : ℤ) (w first width : ℕ) (s : Span) : Type 0 where
-  pub within : s.start + s.len ≤ width
-  pub inside : s.skip + s.len ≤ w
-  pub before : (j : ℕ) → j < s.start → along x w (pos (first + j)) ≡ None
-  pub behind : (j : ℕ) → s.start + s.len ≤ j → j < width → along x w (pos (first + j)) ≡ None
-  pub covered : (i : ℕ) → i < s.len → along x w (pos (first + (s.start + i))) ≡ Some (s.skip + i)

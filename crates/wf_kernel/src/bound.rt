@@ -1,6 +1,6 @@
 //! Layers with their images at hand, and with what is worked out of each once for all rows.
 
-ghost use Rattle.std.specs.Prelude.{◌≡◌, ◌+◌, ◌<◌, ◌≤◌, ◌≤ℤ◌, ℕ, true, All, IsTrue, length, map, pos, slice_index, slice_index_or};
+ghost use Rattle.std.specs.Prelude.{◌≡◌, ◌+◌, ◌<◌, ◌≤◌, ◌≤ℤ◌, ℕ, List, true, All, IsTrue, length, map, pos, slice_index, slice_index_or};
 ghost use Rattle.wf_pixel.specs.Place.{IsDrawn, turned, size_of};
 ghost use Rattle.wf_pixel.specs.Choice.{has_sides};
 ghost use Rattle.wf_model.specs.Picture.{Fits, LayerFits};
@@ -9,7 +9,7 @@ ghost use Rattle.wf_kernel.specs.Prepared.{AreTables, IsTable, needs_table};
 
 use crate::hiding::hides_below;
 use crate::placing::{Walk, is_crossed, turned_rect, walk_of};
-use crate::spans::{Span, reach_of};
+use crate::spans::{Span, columns_of, rows_of};
 use arrayvec::ArrayVec;
 use std::marker::Model;
 use wf_image::{Contents, Image};
@@ -70,8 +70,8 @@ impl<'a> Default for BoundLayer<'a> {
             mask: None,
             turn: Rotation::R0,
             space: Size { w: 1, h: 1 },
-            columns: reach_of(0, 1),
-            rows: reach_of(0, 1),
+            columns: columns_of(PIXEL),
+            rows: rows_of(PIXEL),
             hides: false,
             crossed: false,
             walk: Walk::Forward,
@@ -93,10 +93,16 @@ pub(crate) fn bind_layers<'a>(
     let mut bound = ArrayVec::new();
     let layers = scene.layers.as_slice();
     for i in 0..layers.len() {
-        let table: &[u16] = if i < tables.len() { &tables[i] } else { &[] };
-        bound.push(bind_layer(scene, contents, layers[i], table));
+        bound.push(bind_layer(scene, contents, layers[i], table_at(tables, i)));
     }
     bound
+}
+
+/// The table of a layer by its place, or nothing where there are no tables.
+fn table_at<'a>(tables: &'a [[u16; 1024]], i: usize) -> &'a [u16]
+    ensures { i < length tables.now → (e : List ℕ) → result.now ≡ slice_index_or tables.now i e }
+{
+    if i < tables.len() { &tables[i] } else { &[] }
 }
 
 /// One layer.
@@ -120,8 +126,8 @@ fn bind_layer<'a>(
         mask: contents.find(layer.mask),
         turn: scene.turn,
         space,
-        columns: reach_of(place.x, place.w),
-        rows: reach_of(place.y, place.h),
+        columns: columns_of(place),
+        rows: rows_of(place),
         hides: hides_below(&layer, source),
         crossed: is_crossed(scene.turn, &layer),
         walk: walk_of(scene.turn, &layer),

@@ -33,6 +33,7 @@ pub(crate) fn fill_values(values: &mut [u8], layer: &BoundLayer, mask: &Image, s
     requires values { mask.now.format ≡ Format.A8 }
     requires size { mask.now.size ≡ size_of layer.now.layer.dest }
     requires stretch { IsStretch layer.now stretch }
+    ensures len { length values.new ≡ stretch.len }
     ensures value { (i : ℕ) → i < stretch.len → slice_index values.new i ≡ mask_value layer.now mask.now (stretch.across + i) stretch.down }
 {
     let turn = layer.turn;

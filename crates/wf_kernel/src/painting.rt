@@ -9,7 +9,7 @@ ghost use Rattle.wf_kernel.specs.Prepared.{AreTables};
 ghost use Rattle.wf_kernel.specs.Strips.{IsStrip};
 
 use crate::bound::{BoundLayer, bind_layers};
-use crate::laying::{Buffers, lay_row};
+use crate::laying::lay_row;
 use crate::strips::{Strip, no_strip, strip_for};
 use crate::tables::{fill_tables, needs_tables};
 use wf_image::{Contents, Image};
@@ -79,12 +79,12 @@ pub(crate) fn paint(
 {
     let stride = 4 * width as usize;
     let mut strips = [no_strip(); 66];
-    let mut buffers = Buffers::new();
+    let mut line = [0; 4096];
     for i in 0..bytes.len() / stride {
         let at = i * stride;
         let row = &mut bytes[at..at + stride];
         let y = first + i as u32;
-        paint_row(row, width, layers, background, &mut strips, &mut buffers, y);
+        paint_row(row, width, layers, background, &mut strips, &mut line, y);
     }
 }
 
@@ -95,7 +95,7 @@ fn paint_row(
     layers: &[BoundLayer],
     background: Rgba,
     strips: &mut [Strip],
-    buffers: &mut Buffers,
+    line: &mut [u8; 4096],
     y: u32,
 )
     requires few { width ≤ 1024 }
@@ -111,7 +111,7 @@ fn paint_row(
         let strip = strip_for(strips, k, layers, width, first, y);
         let at = 4 * first as usize;
         let piece = &mut row[at..at + 4 * strip.width as usize];
-        paint_strip(piece, width, layers, background, strip, buffers, y);
+        paint_strip(piece, width, layers, background, strip, line, y);
         first += strip.width;
         k += 1;
     }
@@ -124,7 +124,7 @@ fn paint_strip(
     layers: &[BoundLayer],
     background: Rgba,
     strip: Strip,
-    buffers: &mut Buffers,
+    line: &mut [u8; 4096],
     y: u32,
 )
     requires few { width ≤ 1024 }
@@ -135,9 +135,9 @@ fn paint_strip(
     requires bottom { y < strip.bottom }
     ensures { row.new ≡ drawn_row strip.width Format.Rgba8Pre (λ x. bound_colour layers.now background (strip.first + x) y) }
 {
-    let base = begin_strip(row, width, layers, background, strip, buffers, y);
+    let base = begin_strip(row, width, layers, background, strip, line, y);
     for i in base..strip.top {
-        lay_row(row, strip.first, strip.width, &layers[i], buffers, y);
+        lay_row(row, strip.first, strip.width, &layers[i], line, y);
     }
 }
 
@@ -148,7 +148,7 @@ fn begin_strip(
     layers: &[BoundLayer],
     background: Rgba,
     strip: Strip,
-    buffers: &mut Buffers,
+    line: &mut [u8; 4096],
     y: u32,
 ) -> usize
     requires few { width ≤ 1024 }
@@ -162,7 +162,7 @@ fn begin_strip(
 {
     match strip.base {
         Some(base) => {
-            lay_row(row, strip.first, strip.width, &layers[base], buffers, y);
+            lay_row(row, strip.first, strip.width, &layers[base], line, y);
             base + 1
         }
         None => {

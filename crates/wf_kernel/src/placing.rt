@@ -94,7 +94,8 @@ fn left_of(layer: &Layer, dx: u32) -> u32
     requires x { pos 0 ≤ℤ layer.now.src.x }
     requires y { pos 0 ≤ℤ layer.now.src.y }
     requires dx { dx < layer.now.dest.w }
-    ensures { result ≡ left_of layer.now dx }
+    ensures value { result ≡ left_of layer.now dx }
+    ensures below { result < 65536 }
 {
     let (src, w) = (layer.src, layer.dest.w);
     match layer.turn {
@@ -113,7 +114,8 @@ fn top_of(layer: &Layer, dy: u32) -> u32
     requires x { pos 0 ≤ℤ layer.now.src.x }
     requires y { pos 0 ≤ℤ layer.now.src.y }
     requires dy { dy < layer.now.dest.h }
-    ensures { result ≡ top_of layer.now dy }
+    ensures value { result ≡ top_of layer.now dy }
+    ensures below { result < 65536 }
 {
     let (src, h) = (layer.src, layer.dest.h);
     match layer.turn {
@@ -157,7 +159,8 @@ pub(crate) fn across(turn: Rotation, layer: &Layer, a: u32) -> u32
     requires x { pos 0 ≤ℤ layer.now.src.x }
     requires y { pos 0 ≤ℤ layer.now.src.y }
     requires a { a < (turned turn (size_of layer.now.dest)).w }
-    ensures { result ≡ across turn layer.now a }
+    ensures value { result ≡ across turn layer.now a }
+    ensures below { result < 65536 }
 {
     match turn {
         Rotation::R0 => left_of(layer, a),
@@ -174,7 +177,8 @@ pub(crate) fn down(turn: Rotation, layer: &Layer, d: u32) -> u32
     requires x { pos 0 ≤ℤ layer.now.src.x }
     requires y { pos 0 ≤ℤ layer.now.src.y }
     requires d { d < (turned turn (size_of layer.now.dest)).h }
-    ensures { result ≡ down turn layer.now d }
+    ensures value { result ≡ down turn layer.now d }
+    ensures below { result < 65536 }
 {
     match turn {
         Rotation::R0 => top_of(layer, d),

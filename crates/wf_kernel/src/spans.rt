@@ -1,9 +1,11 @@
 //! The pixels that the side of a destination covers.
 
-ghost use Rattle.std.specs.Prelude.{◌+◌, ◌-◌, ◌<◌, ◌≤◌, ◌≤ℤ◌, ℕ, ℤ, pos, negsuc};
-ghost use Rattle.wf_kernel.specs.Spans.{IsReach, IsSpan};
+ghost use Rattle.std.specs.Prelude.{◌-◌, ◌<◌, ◌≤◌, ◌≤ℤ◌, pos, negsuc};
+ghost use Rattle.wf_kernel.specs.Spans.{IsReach};
 
-/// The pixels of a row or a column of the target, or of a piece of a row, that the side of a destination covers.
+use wf_pixel::Rect;
+
+/// The pixels of a row or a column of the target that the side of a destination covers.
 #[derive(Clone, Copy, Debug, PartialEq, Eq)]
 pub(crate) struct Span {
     pub(crate) start: u32,
@@ -19,28 +21,28 @@ pub(crate) const NONE: Span = Span {
     len: 0,
 };
 
-/// The part of these columns in `width` columns from `first` on.
-#[inline(always)]
-pub(crate) fn span_in(reach: Span, first: u32, width: u32) -> Span
-    requires start { reach.start ≤ 17408 }
-    requires len { reach.skip + reach.len ≤ 1024 }
-    requires few { first + width ≤ 1024 }
-    ensures { (x : ℤ) (w : ℕ) → IsReach x w reach → IsSpan x w first width result }
+/// The columns that a rectangle on the target covers, however long the rows are.
+pub(crate) fn columns_of(r: Rect) -> Span
+    requires low { negsuc 17407 ≤ℤ r.x }
+    requires high { r.x ≤ℤ pos 17408 }
+    requires w { r.w ≤ 1024 }
+    ensures { IsReach r.x r.w result }
 {
-    let start = reach.start.max(first);
-    let end = (reach.start + reach.len).min(first + width);
-    if end <= start {
-        return NONE;
-    }
-    Span {
-        start: start - first,
-        skip: reach.skip + (start - reach.start),
-        len: end - start,
-    }
+    reach_of(r.x, r.w)
 }
 
-/// The pixels that a side of `w` pixels from `x` on covers, however long the row or the column is.
-pub(crate) fn reach_of(x: i32, w: u32) -> Span
+/// The rows that it covers.
+pub(crate) fn rows_of(r: Rect) -> Span
+    requires low { negsuc 17407 ≤ℤ r.y }
+    requires high { r.y ≤ℤ pos 17408 }
+    requires h { r.h ≤ 1024 }
+    ensures { IsReach r.y r.h result }
+{
+    reach_of(r.y, r.h)
+}
+
+/// The pixels that a side of `w` pixels from `x` on covers.
+fn reach_of(x: i32, w: u32) -> Span
     requires low { negsuc 17407 ≤ℤ x }
     requires high { x ≤ℤ pos 17408 }
     requires w { w ≤ 1024 }
