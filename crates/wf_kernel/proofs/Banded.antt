@@ -1,13 +1,23 @@
 -- Bands of whole rows.
-use Rattle.std.proofs.Common.{◌≡◌, ℕ, ◌+◌, ◌-◌, ◌*◌, ◌/◌, ◌%◌, ◌<◌, ◌≤◌, List, ◌++◌, length, get_or, min, sym, ap, ◌∙◌, arith, inl, inr, zero-add, add-zero}
-use Rattle.std.specs.Prelude.{flat_map}
+use Rattle.std.proofs.Common.{◌≡◌, ℕ, ◌+◌, ◌-◌, ◌*◌, ◌/◌, ◌%◌, ◌<◌, ◌≤◌, List, ◌++◌, length, drop, get_or, min, sym, ap, ◌∙◌, arith, inl, inr, zero-add, add-zero}
+use Rattle.std.specs.Prelude.{flat_map, IsTrue}
 use Rattle.std.specs.List.{range_with_len}
 use Rattle.std.proofs.lemmas.Nat.{div-add-mod', div-mul-add}
 use Rattle.std.proofs.Math.Nat.{le_of_mul-le-mul_right, mul-le-mul_right, mul-sub, mul_comm}
 use Rattle.std.proofs.lemmas.Bool.{cases_lt}
-use Rattle.std.proofs.lemmas.List.{get_or-append-add, get_or_append_left}
+use Rattle.std.proofs.lemmas.Bool.Decides.{nat_tests}
+use Rattle.std.proofs.lemmas.List.{get_or-append-add, get_or_append_left, drop_all, append-nil}
+use Rattle.wf_pixel.specs.declared.Size.{Size}
+use Rattle.wf_pixel.specs.Choice.{has_sides, is_side}
 use Rattle.wf_kernel.proofs.Pieces.{length-pieces}
-use Rattle.wf_kernel.proofs.Pixels.{pieces_split}
+use Rattle.wf_kernel.proofs.Pixels.{pieces_split, pieces_shift}
+
+-- what the test of sizes says of them
+pub side_low : (size : Size) → IsTrue (has_sides size) → 1 ≤ size.w
+side_low size sides = grind (arith, nat_tests)
+
+pub side_high : (size : Size) → IsTrue (has_sides size) → size.h ≤ 1024
+side_high size sides = grind (arith, nat_tests)
 
 -- a band begins with a row
 pub start_is : (start rows s : ℕ) → start % (rows * s) ≡ 0 → start ≡ start / (rows * s) * rows * s
@@ -78,3 +88,22 @@ band_is w h rows start len some whole len_is room =
 -- whole rows divide without a rest
 pub rows_of : (n w : ℕ) → 1 ≤ w → n * (4 * w) / (4 * w) ≡ n
 rows_of n w some = ap (λ (j : ℕ). j / (4 * w)) (sym (add-zero (n * (4 * w)))) ∙ div-mul-add n (4 * w) 0 (omega arith)
+
+-- all rows are written, and nothing is behind them
+pub all_rows : (row : ℕ → List ℕ) (first n i s : ℕ) (bytes old : List ℕ) → length old % s ≡ 0 → n ≡ length old / s → i ≡ n
+    → bytes ≡ flat_map (λ i. row (first + i)) (range_with_len 0 i) ++ drop (i * s) old → bytes ≡ flat_map row (range_with_len first n)
+all_rows row first n i s bytes old whole n_is all written =
+    let count : length old / s * s + length old % s ≡ length old = div-add-mod' (length old) s in
+    let room : n * s ≡ length old / s * s = ap (λ (k : ℕ). k * s) n_is in
+    written
+    ∙ (λ j. flat_map (λ i. row (first + i)) (range_with_len 0 (all j)) ++ drop (all j * s) old)
+    ∙ ap (λ (l : List ℕ). flat_map (λ i. row (first + i)) (range_with_len 0 n) ++ l) (drop_all (n * s) old (omega arith))
+    ∙ append-nil (flat_map (λ i. row (first + i)) (range_with_len 0 n))
+    ∙ sym (pieces_shift row first 0 n)
+    ∙ ap (λ (j : ℕ). flat_map row (range_with_len j n)) (add-zero first)
+
+-- how many rows a target has
+pub row_count : (w h n : ℕ) → IsTrue (is_side w) → n ≡ w * h * 4 → n / (4 * w) ≡ h
+row_count w h n side count =
+    let some : 1 ≤ w = grind (arith, nat_tests) in
+    ap (λ (k : ℕ). k / (4 * w)) (count ∙ turned_end w h) ∙ rows_of h w some

@@ -1,6 +1,6 @@
 -- Layers bound to their images and to the target show the pixels of the picture.
-use Rattle.std.proofs.Common.{◌≡◌, ℕ, ◌+◌, ◌-◌, ◌<◌, List, [], ◌∷◌, ◌++◌, length, take, get_or, ℤ, pos, true, refl, sym, ap, subst, ◌∙◌, arith}
-use Rattle.std.specs.Prelude.{◌-ℤ◌, map, reverse, Option}
+use Rattle.std.proofs.Common.{◌≡◌, ℕ, ◌+◌, ◌-◌, ◌<◌, List, [], ◌∷◌, ◌++◌, length, take, get_or, ℤ, pos, true, false, refl, sym, ap, subst, ◌∙◌, arith}
+use Rattle.std.specs.Prelude.{◌-ℤ◌, map, reverse, All, Option}
 use Rattle.std.proofs.lemmas.Int.{ints}
 use Rattle.std.proofs.lemmas.Simd.{map-map}
 use Rattle.std.proofs.lemmas.List.{take_more, map-append}
@@ -64,3 +64,7 @@ table_for scene tables layers i d table are layers_are low table_is needs =
     let found = are i d none less need in
     subst (λ (t : List ℕ). IsTable scene.turn (turned scene.turn scene.size) (get_or scene.layers.items i d) t) (sym (table_is found.0 none)) found.1)
     low needs
+
+-- no table is needed
+pub no_tables : (scene : Scene) → All (λ l. needs_table scene.turn l ≡ false) scene.layers.items → AreTables scene []
+no_tables scene none i d e low needs = absurd (let wrong : true ≡ false = sym needs ∙ none i d low in cc)

@@ -1,5 +1,5 @@
 -- An image whose bytes are the pixels of the bound layers is the picture.
-use Rattle.std.proofs.Common.{◌≡◌, ℕ, ◌+◌, ◌*◌, ◌<◌, ◌≤◌, List, ◌++◌, length, take, drop, refl, ap, ◌∙◌, arith}
+use Rattle.std.proofs.Common.{◌≡◌, ℕ, ◌*◌, List, ◌++◌, length, take, drop, refl, ap, ◌∙◌, arith}
 use Rattle.std.specs.Prelude.{map}
 use Rattle.std.proofs.lemmas.List.{take_at}
 use Rattle.wf_pixel.specs.declared.Rgba.{Rgba}
@@ -9,7 +9,7 @@ use Rattle.wf_image.specs.Bitmap.{Bitmap, pixel_bytes, image_bytes, stored, draw
 use Rattle.wf_image.specs.Lending.{with_bytes}
 use Rattle.wf_scene.specs.declared.Scene.{Scene}
 use Rattle.wf_model.specs.Picture.{Images, picture_pixel, picture}
-use Rattle.wf_kernel.specs.Bound.{Bound, bound, bound_colour, bound_row, bound_rows}
+use Rattle.wf_kernel.specs.Bound.{Bound, bound, bound_colour, bound_row, bound_rows, bound_picture}
 use Rattle.wf_kernel.proofs.Pieces.{length-pieces}
 use Rattle.wf_kernel.proofs.Pixels.{pieces_same}
 use Rattle.wf_kernel.proofs.Bindings.{bound_colour_is}
@@ -31,7 +31,7 @@ length-bound_rows w layers background first h =
 
 -- the rows are the bytes of the picture in every format of four bytes
 picture_bytes : (scene : Scene) (contents : Images) (format : Format) → pixel_bytes format ≡ 4
-    → bound_rows scene.size.w (map (bound scene contents) scene.layers.items) scene.background 0 scene.size.h ≡ (picture scene contents format).bytes
+    → bound_picture scene contents ≡ (picture scene contents format).bytes
 unfolding drawn
 picture_bytes scene contents format four =
     let layers = map (bound scene contents) scene.layers.items in
@@ -40,16 +40,13 @@ picture_bytes scene contents format four =
     (λ x start within. ap (stored Rgba8Pre) (bound_colour_is scene contents x y (omega arith) (omega arith)) ∙ stored_four format (picture_pixel scene contents x y) four))
 
 -- an image that gets these bytes is the picture
-pub picture_is : (scene : Scene) (contents : Images) (layers : List Bound) (image : Bitmap) (bytes : List ℕ) (h : ℕ)
-    → image.size ≡ scene.size → pixel_bytes image.format ≡ 4 → length image.bytes ≡ image_bytes image.size image.format → h ≡ scene.size.h
-    → layers ≡ map (bound scene contents) scene.layers.items → bytes ≡ bound_rows scene.size.w layers scene.background 0 h
-    → with_bytes image bytes ≡ picture scene contents image.format
+pub picture_is : (scene : Scene) (contents : Images) (image : Bitmap) (bytes : List ℕ) → image.size ≡ scene.size → pixel_bytes image.format ≡ 4 → length image.bytes ≡ image_bytes image.size image.format
+    → bytes ≡ bound_picture scene contents → with_bytes image bytes ≡ picture scene contents image.format
 unfolding drawn
-picture_is scene contents layers image bytes h size_is four count h_is layers_are bytes_are =
+picture_is scene contents image bytes size_is four count bytes_are =
     let count_is : length image.bytes ≡ scene.size.w * scene.size.h * 4 = count ∙ rw (size_is, four) refl in
-    let rows : bytes ≡ bound_rows scene.size.w layers scene.background 0 scene.size.h = bytes_are ∙ ap (λ (n : ℕ). bound_rows scene.size.w layers scene.background 0 n) h_is in
-    let len : length bytes ≡ length image.bytes = ap length rows ∙ length-bound_rows scene.size.w layers scene.background 0 scene.size.h ∙ omega (arith, count_is) in
+    let len : length bytes ≡ length image.bytes =
+    ap length bytes_are ∙ length-bound_rows scene.size.w (map (bound scene contents) scene.layers.items) scene.background 0 scene.size.h ∙ omega (arith, count_is) in
     let all : take (length image.bytes) (bytes ++ drop (length bytes) image.bytes) ≡ bytes = take_at bytes (drop (length bytes) image.bytes) (length image.bytes) len in
-    let same : bytes ≡ (picture scene contents image.format).bytes =
-    rows ∙ ap (λ (ls : List Bound). bound_rows scene.size.w ls scene.background 0 scene.size.h) layers_are ∙ picture_bytes scene contents image.format four in
+    let same : bytes ≡ (picture scene contents image.format).bytes = bytes_are ∙ picture_bytes scene contents image.format four in
     rw (all, same, size_is) refl

@@ -4,13 +4,13 @@ use Rattle.std.specs.Prelude.{flat_map}
 use Rattle.std.specs.List.{range_with_len}
 use Rattle.std.specs.Simd.Lanes.{chunk}
 use Rattle.std.proofs.Math.Seq.{drop-append_seam, take-add}
-use Rattle.std.proofs.lemmas.List.{get_or-drop, drop-drop, append-nil}
+use Rattle.std.proofs.lemmas.List.{get_or-drop, drop-drop}
 use Rattle.std.proofs.lemmas.Simd.{pick_l-range_with_len, get_or-chunk}
 use Rattle.wf_pixel.specs.declared.Rgba.{Rgba}
 use Rattle.wf_pixel.specs.declared.Format.TheVariants.{Rgba8Pre}
 use Rattle.wf_image.specs.Bitmap.{stored, read_at, drawn_row}
 use Rattle.wf_row.specs.Gather.{reversed}
-use Rattle.wf_kernel.proofs.Pieces.{length-pieces, pieces-more}
+use Rattle.wf_kernel.proofs.Pieces.{pieces-more}
 
 -- the same pieces, at the places that count
 pub pieces_same : (f g : ℕ → List ℕ) (from n : ℕ) → ((x : ℕ) → from ≤ x → x < from + n → f x ≡ g x) → flat_map f (range_with_len from n) ≡ flat_map g (range_with_len from n)

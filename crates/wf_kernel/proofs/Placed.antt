@@ -1,6 +1,6 @@
 -- Where the pixels of a layer lie.
-use Rattle.std.proofs.Common.{◌≡◌, ℕ, suc, ◌+◌, ◌-◌, ◌*◌, ◌/◌, ◌<◌, ◌≤◌, Bool, true, false, ℤ, pos, negsuc, refl, sym, ap, subst, ◌∙◌, arith}
-use Rattle.std.specs.Prelude.{◌≤ℤ◌, ◌+ℤ◌, ◌-ℤ◌, Option, None, Some, nat_abs, IsTrue, if◌then◌else◌}
+use Rattle.std.proofs.Common.{◌≡◌, ℕ, ◌+◌, ◌-◌, ◌*◌, ◌/◌, ◌<◌, ◌≤◌, Bool, true, false, ℤ, pos, refl, sym, ap, ◌∙◌, arith}
+use Rattle.std.specs.Prelude.{◌≤ℤ◌, ◌+ℤ◌, ◌-ℤ◌, Option, None, Some, nat_abs, IsTrue}
 use Rattle.std.proofs.lemmas.Nat.{div-mul-add}
 use Rattle.std.proofs.Math.Nat.{div-lt_iff_lt-mul, mul-le-mul_right}
 use Rattle.std.proofs.lemmas.Int.{ints}
@@ -15,8 +15,8 @@ use Rattle.wf_pixel.specs.Arithmetic.{samp}
 use Rattle.wf_pixel.specs.Place.{turned, turned_back, size_of, source_pixel}
 use Rattle.wf_scene.specs.declared.Layer.{Layer}
 use Rattle.wf_scene.specs.Layers.{holds_rect}
-use Rattle.wf_kernel.specs.Bound.{Bound, point_of}
-use Rattle.wf_kernel.specs.Placed.{mirrored, left_on, top_on, is_crossed, across, down, source_place}
+use Rattle.wf_kernel.specs.Bound.{point_of}
+use Rattle.wf_kernel.specs.Placed.{mirrored, left_on, top_on, source_place}
 
 -- ---- the sampled place
 -- nothing is scaled

@@ -1,22 +1,21 @@
 -- What a layer shows at a pixel of the target.
-use Rattle.std.proofs.Common.{◌≡◌, ℕ, ◌+◌, ◌*◌, ◌<◌, ◌≤◌, Bool, true, false, ℤ, pos, refl, sym, ap, subst, ◌∙◌, arith}
+use Rattle.std.proofs.Common.{◌≡◌, ℕ, ◌<◌, Bool, true, false, ℤ, pos, refl, sym, ap, subst, ◌∙◌, arith}
 use Rattle.std.specs.Prelude.{◌≢◌, Option, None, Some, IfSome, IsTrue, option_and_then, option_map, if◌then◌else◌}
 use Rattle.wf_words.specs.Options.{◌>>=◌}
 use Rattle.wf_pixel.specs.declared.Rgba.{Rgba}
 use Rattle.wf_pixel.specs.declared.Format.{Format}
 use Rattle.wf_pixel.specs.declared.Format.TheVariants.{Rgba8, Rgba8Pre, Rgbx8, A8}
-use Rattle.wf_pixel.specs.declared.Transparency.{Transparency}
 use Rattle.wf_pixel.specs.Along.{along}
 use Rattle.wf_pixel.specs.Arithmetic.{lift, scaled}
-use Rattle.wf_pixel.specs.Place.{turned, turned_back, size_of, source_pixel}
+use Rattle.wf_pixel.specs.Place.{turned_back, size_of, source_pixel}
 use Rattle.wf_image.specs.Bitmap.{Bitmap, pixel}
 use Rattle.wf_scene.specs.declared.Layer.{Layer}
 use Rattle.wf_scene.specs.Layers.{holds_rect}
 use Rattle.wf_model.specs.Picture.{mask_of, texel_of}
-use Rattle.wf_kernel.specs.Bound.{Bound, IsShowable, point_of, texel_in, bound_texel}
-use Rattle.wf_kernel.specs.Placed.{placed, is_crossed, across, down, source_place, source_colour, mask_value}
+use Rattle.wf_kernel.specs.Bound.{Bound, IsShowable, point_of, bound_texel}
+use Rattle.wf_kernel.specs.Placed.{placed, source_place, mask_value}
 use Rattle.wf_kernel.specs.Laid.{mode_of, fade_of, lifted_pixel, lifted_texel, placed_texel}
-use Rattle.wf_kernel.proofs.Placed.{IsOutside, beside, above, place_is, placed_along, along_low, back_low, source_low, holds_x, holds_y, beside_target, above_target}
+use Rattle.wf_kernel.proofs.Placed.{IsOutside, beside, above, place_is, placed_along, back_low, source_low, holds_x, holds_y, beside_target, above_target}
 
 -- the texel by the distances from the destination's corner, where the mask has this value
 abbrev pub texel_by : Layer → Bitmap → Option ℕ → Option ℕ → Option ℕ → Option Rgba

@@ -8,7 +8,7 @@ use Rattle.wf_kernel.specs.declared.stretch.Stretch.{Stretch}
 use Rattle.wf_kernel.specs.Bound.{Bound, bound_texel}
 use Rattle.wf_kernel.specs.Placed.{placed}
 use Rattle.wf_kernel.specs.Spans.{IsReach}
-use Rattle.wf_kernel.specs.Laid.{IsStretch, IsStretchIn}
+use Rattle.wf_kernel.specs.Laid.{IsStretchIn}
 use Rattle.wf_kernel.proofs.Placed.{along_low}
 use Rattle.wf_kernel.proofs.Shown.{bound_beside, bound_above}
 

@@ -4,7 +4,8 @@ ghost use Rattle.std.specs.Prelude.{◌≡◌, ◌+◌, ◌-◌, ◌*◌, min, �
 ghost use Rattle.wf_pixel.specs.Choice.{has_sides};
 ghost use Rattle.wf_image.specs.Bitmap.{pixel_bytes};
 ghost use Rattle.wf_model.specs.Picture.{picture, Fits};
-ghost use Rattle.wf_kernel.specs.Bound.{bound_rows};
+ghost use Rattle.wf_kernel.specs.Bound.{bound_picture, bound_rows};
+ghost use Rattle.wf_kernel.specs.Prepared.{AreTables};
 
 use crate::bound::{BoundLayer, bind_layers};
 use crate::painting::paint;
@@ -33,48 +34,71 @@ pub fn picture_rows<R: Threads + Sync>(
     ensures same_size { target.new.size ≡ target.old.size }
     ensures same_format { target.new.format ≡ target.old.format }
 {
-    if needs_tables(scene) {
-        rows_by_tables(rt, workers, scene, contents, target);
-    } else {
-        let layers = bind_layers(scene, contents, &[]);
-        let size = scene.size;
-        let bytes = target.bytes_mut();
-        paint_bands(
-            rt,
-            workers,
-            bytes,
-            size,
-            layers.as_slice(),
-            scene.background,
-        );
-    }
+    rows_of_scene(rt, workers, target.bytes_mut(), scene, contents);
 }
 
-/// The same with a table for each layer.
-fn rows_by_tables<R: Threads + Sync>(
+/// Writes all rows of a scene.
+fn rows_of_scene<R: Threads + Sync>(
     rt: &R,
     workers: u32,
+    bytes: &mut [u8],
     scene: &Scene,
     contents: &Contents,
-    target: &mut Image,
 )
     requires some { 1 ≤ workers }
     requires few { workers ≤ 16 }
-    requires size { target.old.size ≡ scene.now.size }
-    requires pixels { pixel_bytes target.old.format ≡ 4 }
+    requires count { length bytes.old ≡ scene.now.size.w * scene.now.size.h * 4 }
     requires fits { Fits scene.now contents.now }
-    ensures { target.new ≡ picture scene.now contents.now target.old.format }
+    ensures { bytes.new ≡ bound_picture scene.now contents.now }
+{
+    if needs_tables(scene) {
+        rows_by_tables(rt, workers, bytes, scene, contents);
+    } else {
+        rows_of_bound(rt, workers, bytes, scene, contents, &[]);
+    }
+}
+
+/// The same with tables, which are worked out once for all threads.
+fn rows_by_tables<R: Threads + Sync>(
+    rt: &R,
+    workers: u32,
+    bytes: &mut [u8],
+    scene: &Scene,
+    contents: &Contents,
+)
+    requires some { 1 ≤ workers }
+    requires few { workers ≤ 16 }
+    requires count { length bytes.old ≡ scene.now.size.w * scene.now.size.h * 4 }
+    requires fits { Fits scene.now contents.now }
+    ensures { bytes.new ≡ bound_picture scene.now contents.now }
 {
     let mut tables = [[0; 1024]; 32];
     fill_tables(&mut tables, scene, contents);
-    let layers = bind_layers(scene, contents, &tables);
-    let size = scene.size;
-    let bytes = target.bytes_mut();
+    rows_of_bound(rt, workers, bytes, scene, contents, &tables);
+}
+
+/// The same, where each layer that needs a table has it.
+fn rows_of_bound<R: Threads + Sync>(
+    rt: &R,
+    workers: u32,
+    bytes: &mut [u8],
+    scene: &Scene,
+    contents: &Contents,
+    tables: &[[u16; 1024]],
+)
+    requires some { 1 ≤ workers }
+    requires few { workers ≤ 16 }
+    requires count { length bytes.old ≡ scene.now.size.w * scene.now.size.h * 4 }
+    requires fits { Fits scene.now contents.now }
+    requires tables { AreTables scene.now tables.now }
+    ensures { bytes.new ≡ bound_picture scene.now contents.now }
+{
+    let layers = bind_layers(scene, contents, tables);
     paint_bands(
         rt,
         workers,
         bytes,
-        size,
+        scene.size,
         layers.as_slice(),
         scene.background,
     );

@@ -30,7 +30,6 @@ pub(crate) fn lay_row(
 )
     requires count { length row.old ≡ 4 * width }
     requires few { first + width ≤ 1024 }
-    requires y { y ≤ 1024 }
     ensures { row.new ≡ laid width (λ x. bound_texel layer.now (first + x) y) row.old }
 {
     if let Some(stretch) = stretch_of(layer, first, width, y) {

@@ -1,10 +1,9 @@
 //! Writes the picture of a scene, row by row from the top.
 
-ghost use Rattle.std.specs.Prelude.{◌≡◌, ◌+◌, ◌*◌, ◌/◌, ◌%◌, ◌<◌, ◌≤◌, ◌++◌, All, length, take, drop, IsTrue};
-ghost use Rattle.wf_pixel.specs.Choice.{has_sides};
+ghost use Rattle.std.specs.Prelude.{◌≡◌, ◌+◌, ◌*◌, ◌/◌, ◌%◌, ◌<◌, ◌≤◌, ◌++◌, All, length, take, drop};
 ghost use Rattle.wf_image.specs.Bitmap.{pixel_bytes, drawn_row, stored};
 ghost use Rattle.wf_model.specs.Picture.{picture, Fits};
-ghost use Rattle.wf_kernel.specs.Bound.{bound_colour, bound_row, bound_rows};
+ghost use Rattle.wf_kernel.specs.Bound.{bound_colour, bound_picture, bound_row, bound_rows};
 ghost use Rattle.wf_kernel.specs.Prepared.{AreTables};
 ghost use Rattle.wf_kernel.specs.Strips.{IsStrip};
 
@@ -28,39 +27,42 @@ pub fn picture(scene: &Scene, contents: &Contents, target: &mut Image)
     ensures same_size { target.new.size ≡ target.old.size }
     ensures same_format { target.new.format ≡ target.old.format }
 {
+    paint_scene(target.bytes_mut(), scene, contents);
+}
+
+/// Writes all rows of a scene.
+fn paint_scene(bytes: &mut [u8], scene: &Scene, contents: &Contents)
+    requires count { length bytes.old ≡ scene.now.size.w * scene.now.size.h * 4 }
+    requires fits { Fits scene.now contents.now }
+    ensures { bytes.new ≡ bound_picture scene.now contents.now }
+{
     if needs_tables(scene) {
-        picture_by_tables(scene, contents, target);
+        paint_by_tables(bytes, scene, contents);
     } else {
-        let layers = bind_layers(scene, contents, &[]);
-        let width = scene.size.w;
-        paint(
-            target.bytes_mut(),
-            width,
-            layers.as_slice(),
-            scene.background,
-            0,
-        );
+        paint_bound(bytes, scene, contents, &[]);
     }
 }
 
-/// The same with a table for each layer: a function of its own, since its tables take half of the stack.
-fn picture_by_tables(scene: &Scene, contents: &Contents, target: &mut Image)
-    requires size { target.old.size ≡ scene.now.size }
-    requires pixels { pixel_bytes target.old.format ≡ 4 }
+/// The same with tables: a function of its own, since they take half of the stack.
+fn paint_by_tables(bytes: &mut [u8], scene: &Scene, contents: &Contents)
+    requires count { length bytes.old ≡ scene.now.size.w * scene.now.size.h * 4 }
     requires fits { Fits scene.now contents.now }
-    ensures { target.new ≡ picture scene.now contents.now target.old.format }
+    ensures { bytes.new ≡ bound_picture scene.now contents.now }
 {
     let mut tables = [[0; 1024]; 32];
     fill_tables(&mut tables, scene, contents);
-    let layers = bind_layers(scene, contents, &tables);
-    let width = scene.size.w;
-    paint(
-        target.bytes_mut(),
-        width,
-        layers.as_slice(),
-        scene.background,
-        0,
-    );
+    paint_bound(bytes, scene, contents, &tables);
+}
+
+/// The same, where each layer that needs a table has it.
+fn paint_bound(bytes: &mut [u8], scene: &Scene, contents: &Contents, tables: &[[u16; 1024]])
+    requires count { length bytes.old ≡ scene.now.size.w * scene.now.size.h * 4 }
+    requires fits { Fits scene.now contents.now }
+    requires tables { AreTables scene.now tables.now }
+    ensures { bytes.new ≡ bound_picture scene.now contents.now }
+{
+    let layers = bind_layers(scene, contents, tables);
+    paint(bytes, scene.size.w, layers.as_slice(), scene.background, 0);
 }
 
 /// Writes the rows of a target of this width from row `first` on.

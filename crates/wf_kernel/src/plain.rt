@@ -4,7 +4,7 @@ ghost use Rattle.std.specs.Prelude.{◌≡◌, ◌+◌, ◌*◌, ◌<◌, ◌≤
 ghost use Rattle.wf_pixel.specs.Choice.{has_sides};
 ghost use Rattle.wf_image.specs.Bitmap.{pixel_bytes};
 ghost use Rattle.wf_model.specs.Picture.{picture, Fits};
-ghost use Rattle.wf_kernel.specs.Bound.{bound_colour, bound_row, bound_rows, point_of};
+ghost use Rattle.wf_kernel.specs.Bound.{bound_colour, bound_picture, bound_row, bound_rows, point_of};
 
 use crate::bound::{BoundLayer, bind_layers};
 use crate::painting::put_pixel;
@@ -21,16 +21,19 @@ pub(crate) fn picture(scene: &Scene, contents: &Contents, target: &mut Image)
     requires fits { Fits scene.now contents.now }
     ensures picture { target.new ≡ picture scene.now contents.now target.old.format }
 {
+    paint_scene(target.bytes_mut(), scene, contents);
+}
+
+/// Writes all rows of a scene.
+fn paint_scene(bytes: &mut [u8], scene: &Scene, contents: &Contents)
+    requires count { length bytes.old ≡ scene.now.size.w * scene.now.size.h * 4 }
+    requires fits { Fits scene.now contents.now }
+    ensures { bytes.new ≡ bound_picture scene.now contents.now }
+{
     let mut tables = [[0; 1024]; 32];
     fill_tables(&mut tables, scene, contents);
     let layers = bind_layers(scene, contents, &tables);
-    let size = scene.size;
-    paint_rows(
-        target.bytes_mut(),
-        size,
-        layers.as_slice(),
-        scene.background,
-    );
+    paint_rows(bytes, scene.size, layers.as_slice(), scene.background);
 }
 
 /// Writes all rows.

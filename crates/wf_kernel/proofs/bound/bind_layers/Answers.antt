@@ -1,4 +1,3 @@
-use Rattle.std.proofs.Common.{◌+◌}
 use Rattle.wf_kernel.specs.Bound.{bound}
 use Rattle.wf_kernel.proofs.Bindings.{bound_more, table_for}
 use Rattle.wf_kernel.proofs.bound.bind_layers.Goals as goal

@@ -1,13 +1,13 @@
 use Rattle.std.proofs.Common.{◌≡◌, ℕ, ◌+◌, ◌*◌, List, true, false, sym, ap, ◌∙◌}
-use Rattle.std.specs.Prelude.{Some, Option}
+use Rattle.std.specs.Prelude.{Some}
 use Rattle.std.specs.Option.{option_copied}
 use Rattle.wf_pixel.specs.Arithmetic.{scaled}
 use Rattle.wf_pixel.specs.declared.Format.TheVariants.{Rgba8Pre}
-use Rattle.wf_image.specs.Bitmap.{Bitmap, read_at}
+use Rattle.wf_image.specs.Bitmap.{read_at}
 use Rattle.wf_row.specs.Bytes.{blended}
 use Rattle.wf_kernel.specs.Bound.{Bound}
 use Rattle.wf_kernel.specs.Placed.{source_colour, mask_value}
-use Rattle.wf_kernel.specs.Laid.{laid, mode_of, fade_of, lifted_pixel, lifted_texel, placed_texel}
+use Rattle.wf_kernel.specs.Laid.{mode_of, fade_of, lifted_pixel, lifted_texel, placed_texel}
 use Rattle.wf_kernel.proofs.Pixels.{read_drawn}
 use Rattle.wf_kernel.proofs.Shown.{unmasked, without_mask, with_mask}
 use Rattle.wf_kernel.proofs.Laid.{laid_same, nothing_laid}

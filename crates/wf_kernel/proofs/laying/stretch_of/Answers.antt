@@ -1,7 +1,4 @@
-use Rattle.std.proofs.Common.{◌≡◌, ℕ, ◌+◌, ◌-◌, ◌<◌, subst, refl, arith}
-use Rattle.std.specs.Prelude.{None}
-use Rattle.wf_kernel.specs.Bound.{Bound, bound_texel}
-use Rattle.wf_kernel.specs.Laid.{IsStretchIn}
+use Rattle.std.proofs.Common.{refl, arith}
 use Rattle.wf_kernel.proofs.Stretches.{columns_empty, rows_before, rows_behind, stretch_is}
 use Rattle.wf_kernel.specs.Prepared.{prepared_as}
 use Rattle.wf_kernel.proofs.laying.stretch_of.Goals as goal

@@ -1,10 +1,10 @@
-use Rattle.std.proofs.Common.{◌≡◌, ℕ, ◌+◌, ◌-◌, ◌<◌, ap, ◌∙◌, arith}
+use Rattle.std.proofs.Common.{◌≡◌, ℕ, ◌+◌, ◌-◌, ap, ◌∙◌, arith}
 use Rattle.std.specs.Prelude.{nat_abs}
 use Rattle.wf_pixel.specs.declared.Format.TheVariants.{Rgba8Pre}
 use Rattle.wf_image.specs.Bitmap.{pixel, drawn_row}
 use Rattle.wf_row.specs.Gather.{reversed}
 use Rattle.wf_kernel.specs.Bound.{Bound}
-use Rattle.wf_kernel.specs.Placed.{across, down}
+use Rattle.wf_kernel.specs.Placed.{down}
 use Rattle.wf_kernel.specs.Prepared.{prepared_as}
 use Rattle.wf_kernel.proofs.Gathered.{straight_low, backward_shown}
 use Rattle.wf_kernel.proofs.lines.fill_backward.Goals as goal

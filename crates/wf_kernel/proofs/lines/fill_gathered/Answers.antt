@@ -1,9 +1,9 @@
-use Rattle.std.proofs.Common.{◌≡◌, ℕ, ◌+◌, ◌*◌, ◌<◌, ◌≤◌, List, length, get_or, true, false, sym, ap, ◌∙◌, arith}
+use Rattle.std.proofs.Common.{◌≡◌, ℕ, ◌+◌, ◌*◌, ◌<◌, List, length, get_or, true, false, sym, ap, ◌∙◌, arith}
 use Rattle.std.proofs.lemmas.List.{get_or_default}
 use Rattle.wf_pixel.specs.declared.Size.{Size}
 use Rattle.wf_pixel.specs.declared.Format.TheVariants.{Rgba8Pre}
-use Rattle.wf_image.specs.Bitmap.{image_bytes, pixel, drawn_row}
-use Rattle.wf_row.specs.Gather.{gathered_row, gathered_column}
+use Rattle.wf_image.specs.Bitmap.{pixel, drawn_row}
+use Rattle.wf_row.specs.Gather.{gathered_column}
 use Rattle.wf_kernel.specs.Bound.{Bound}
 use Rattle.wf_kernel.specs.Placed.{across, down, is_crossed}
 use Rattle.wf_kernel.specs.Prepared.{prepared_as}

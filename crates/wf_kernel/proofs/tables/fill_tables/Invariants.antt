@@ -1,4 +1,4 @@
-use Rattle.std.proofs.Common.{◌≡◌, ℕ, ◌<◌, List, true, length}
+use Rattle.std.proofs.Common.{◌≡◌, ℕ, ◌<◌, List, true}
 use Rattle.std.specs.Prelude.{slice_index_or}
 use Rattle.wf_scene.specs.declared.Layer.{Layer}
 use Rattle.wf_kernel.specs.Prepared.{IsTable, needs_table}
