@@ -1,19 +1,40 @@
-//! Layers with their images at hand.
+//! Layers with their images at hand, and with what is worked out of each once for all rows.
 
-ghost use Rattle.std.specs.Prelude.{◌≡◌, ◌≤◌, length, map};
+ghost use Rattle.std.specs.Prelude.{◌≡◌, ◌+◌, ◌<◌, ◌≤◌, ◌≤ℤ◌, ℕ, List, true, All, IsTrue, length, map, pos, slice_index, slice_index_or};
+ghost use Rattle.wf_pixel.specs.Place.{IsDrawn, turned, size_of};
+ghost use Rattle.wf_pixel.specs.Choice.{has_sides};
+ghost use Rattle.wf_model.specs.Picture.{Fits, LayerFits};
 ghost use Rattle.wf_kernel.specs.Bound.{bound};
+ghost use Rattle.wf_kernel.specs.Prepared.{AreTables, IsTable, needs_table};
 
+use crate::hiding::hides_below;
+use crate::placing::{Walk, is_crossed, turned_rect, walk_of};
+use crate::spans::{Span, columns_of, rows_of};
 use arrayvec::ArrayVec;
 use std::marker::Model;
 use wf_image::{Contents, Image};
-use wf_scene::Layer;
+use wf_pixel::{Rect, Rotation, Size, turned};
+use wf_scene::{Layer, Scene};
 
-/// A layer with the image of its stream and that of its mask, where they are there.
-#[derive(Default, Drop)]
+/// A layer with the image of its stream and that of its mask, where they are there, and with the way in which the
+/// composed picture is turned from its space into the target.
+#[derive(Drop)]
 pub(crate) struct BoundLayer<'a> {
     pub(crate) layer: Layer,
     pub(crate) source: Option<&'a Image>,
     pub(crate) mask: Option<&'a Image>,
+    pub(crate) turn: Rotation,
+    pub(crate) space: Size,
+    /// The columns and the rows of the target that the destination covers.
+    pub(crate) columns: Span,
+    pub(crate) rows: Span,
+    /// The layer hides all that is below it at each point of its destination.
+    pub(crate) hides: bool,
+    /// The columns of the target go along the rows of the source.
+    pub(crate) crossed: bool,
+    pub(crate) walk: Walk,
+    /// The coordinate of the source for each column of the target, where the walk is by a table.
+    pub(crate) table: &'a [u16],
 }
 
 impl<'a> Model for BoundLayer<'a> {
@@ -22,24 +43,94 @@ impl<'a> Model for BoundLayer<'a> {
 
     ghost Value = { Bound };
 
-    ghost view = { λ b. record { layer = b.layer; source = option_copied b.source; mask = option_copied b.mask } };
+    ghost use Rattle.wf_kernel.specs.Prepared.{IsPrepared};
+
+    ghost view = { λ b. record { layer = b.layer; source = option_copied b.source; mask = option_copied b.mask; turn = b.turn; space = b.space } };
+
+    ghost invariant = { λ b. IsPrepared (record { layer = b.layer; source = option_copied b.source; mask = option_copied b.mask; turn = b.turn; space = b.space }) b.columns b.rows b.hides b.crossed b.walk b.table.now };
 }
 
-/// Each layer with its images among these.
+/// A rectangle of one pixel.
+const PIXEL: Rect = Rect {
+    x: 0,
+    y: 0,
+    w: 1,
+    h: 1,
+};
+
+impl<'a> Default for BoundLayer<'a> {
+    fn default() -> BoundLayer<'a> {
+        BoundLayer {
+            layer: Layer {
+                src: PIXEL,
+                dest: PIXEL,
+                ..Layer::default()
+            },
+            source: None,
+            mask: None,
+            turn: Rotation::R0,
+            space: Size { w: 1, h: 1 },
+            columns: columns_of(PIXEL),
+            rows: rows_of(PIXEL),
+            hides: false,
+            crossed: false,
+            walk: Walk::Forward,
+            table: &[],
+        }
+    }
+}
+
+/// The layers of a scene with their images among these. A layer that needs a table has it at its own place.
 pub(crate) fn bind_layers<'a>(
-    layers: &[Layer],
+    scene: &Scene,
     contents: &'a Contents,
+    tables: &'a [[u16; 1024]],
 ) -> ArrayVec<BoundLayer<'a>, 32>
-    requires { length layers.now ≤ 32 }
-    ensures { result.items ≡ map (bound contents.now) layers.now }
+    requires fits { Fits scene.now contents.now }
+    requires tables { AreTables scene.now tables.now }
+    ensures { result.items ≡ map (bound scene.now contents.now) scene.now.layers.items }
 {
     let mut bound = ArrayVec::new();
-    for layer in layers {
-        bound.push(BoundLayer {
-            layer: *layer,
-            source: contents.find(layer.stream),
-            mask: contents.find(layer.mask),
-        });
+    let layers = scene.layers.as_slice();
+    for i in 0..layers.len() {
+        bound.push(bind_layer(scene, contents, layers[i], table_at(tables, i)));
     }
     bound
+}
+
+/// The table of a layer by its place, or nothing where there are no tables.
+fn table_at<'a>(tables: &'a [[u16; 1024]], i: usize) -> &'a [u16]
+    ensures { i < length tables.now → (e : List ℕ) → result.now ≡ slice_index_or tables.now i e }
+{
+    if i < tables.len() { &tables[i] } else { &[] }
+}
+
+/// One layer.
+fn bind_layer<'a>(
+    scene: &Scene,
+    contents: &'a Contents,
+    layer: Layer,
+    table: &'a [u16],
+) -> BoundLayer<'a>
+    requires sides { IsTrue (has_sides scene.now.size) }
+    requires fits { LayerFits contents.now layer }
+    requires table { needs_table scene.now.turn layer ≡ true → IsTable scene.now.turn (turned scene.now.turn scene.now.size) layer table.now }
+    ensures { result ≡ bound scene.now contents.now layer }
+{
+    let space = turned(scene.turn, scene.size);
+    let place = turned_rect(scene.turn, space, layer.dest);
+    let source = contents.find(layer.stream);
+    BoundLayer {
+        layer,
+        source,
+        mask: contents.find(layer.mask),
+        turn: scene.turn,
+        space,
+        columns: columns_of(place),
+        rows: rows_of(place),
+        hides: hides_below(&layer, source),
+        crossed: is_crossed(scene.turn, &layer),
+        walk: walk_of(scene.turn, &layer),
+        table,
+    }
 }

@@ -1,15 +1,18 @@
 //! Writes the picture of a scene, row by row from the top.
 
-ghost use Rattle.std.specs.Prelude.{◌≡◌, ◌+◌, ◌*◌, ◌<◌, ◌≤◌, ◌++◌, All, length, take, drop, IsTrue};
-ghost use Rattle.wf_pixel.specs.Choice.{has_sides};
-ghost use Rattle.wf_image.specs.Bitmap.{pixel_bytes, stored};
+ghost use Rattle.std.specs.Prelude.{◌≡◌, ◌+◌, ◌*◌, ◌/◌, ◌%◌, ◌<◌, ◌≤◌, ◌++◌, All, length, take, drop};
+ghost use Rattle.wf_image.specs.Bitmap.{pixel_bytes, drawn_row, stored};
 ghost use Rattle.wf_model.specs.Picture.{picture, Fits};
-ghost use Rattle.wf_kernel.specs.Bound.{IsShowable, bound_colour, bound_pixel, bound_row, bound_rows};
+ghost use Rattle.wf_kernel.specs.Bound.{bound_colour, bound_picture, bound_row, bound_rows};
+ghost use Rattle.wf_kernel.specs.Prepared.{AreTables};
+ghost use Rattle.wf_kernel.specs.Strips.{IsStrip};
 
 use crate::bound::{BoundLayer, bind_layers};
-use crate::texels::texel_at;
+use crate::laying::lay_row;
+use crate::strips::{Strip, no_strip, strip_for};
+use crate::tables::{fill_tables, needs_tables};
 use wf_image::{Contents, Image};
-use wf_pixel::{Format, Rgba, over, turned, turned_back};
+use wf_pixel::{Format, Rgba};
 use wf_scene::Scene;
 
 /// Writes the picture of a scene with these images by stream. It takes no memory and refuses nothing. The target has
@@ -24,68 +27,168 @@ pub fn picture(scene: &Scene, contents: &Contents, target: &mut Image)
     ensures same_size { target.new.size ≡ target.old.size }
     ensures same_format { target.new.format ≡ target.old.format }
 {
-    let layers = bind_layers(scene.layers.as_slice(), contents);
-    paint_rows(target.bytes_mut(), scene, layers.as_slice());
+    paint_scene(target.bytes_mut(), scene, contents);
 }
 
-/// Writes all rows.
-fn paint_rows(bytes: &mut [u8], scene: &Scene, layers: &[BoundLayer])
-    requires sides { IsTrue (has_sides scene.now.size) }
+/// Writes all rows of a scene.
+fn paint_scene(bytes: &mut [u8], scene: &Scene, contents: &Contents)
     requires count { length bytes.old ≡ scene.now.size.w * scene.now.size.h * 4 }
-    requires showable { All IsShowable layers.now }
-    ensures { bytes.new ≡ bound_rows scene.now layers.now }
+    requires fits { Fits scene.now contents.now }
+    ensures { bytes.new ≡ bound_picture scene.now contents.now }
 {
-    let stride = 4 * scene.size.w as usize;
-    for y in 0..scene.size.h {
-        let at = y as usize * stride;
-        paint_row(&mut bytes[at..at + stride], scene, layers, y);
+    if needs_tables(scene) {
+        paint_by_tables(bytes, scene, contents);
+    } else {
+        paint_bound(bytes, scene, contents, &[]);
     }
 }
 
-/// Writes row `y`.
-fn paint_row(row: &mut [u8], scene: &Scene, layers: &[BoundLayer], y: u32)
-    requires sides { IsTrue (has_sides scene.now.size) }
-    requires y { y < scene.now.size.h }
-    requires count { length row.old ≡ scene.now.size.w * 4 }
-    requires showable { All IsShowable layers.now }
-    ensures { row.new ≡ bound_row scene.now layers.now y }
+/// The same with tables: a function of its own, since they take half of the stack.
+fn paint_by_tables(bytes: &mut [u8], scene: &Scene, contents: &Contents)
+    requires count { length bytes.old ≡ scene.now.size.w * scene.now.size.h * 4 }
+    requires fits { Fits scene.now contents.now }
+    ensures { bytes.new ≡ bound_picture scene.now contents.now }
 {
-    for x in 0..scene.size.w {
-        put_pixel(row, 4 * x as usize, pixel_of(scene, layers, x, y));
+    let mut tables = [[0; 1024]; 32];
+    fill_tables(&mut tables, scene, contents);
+    paint_bound(bytes, scene, contents, &tables);
+}
+
+/// The same, where each layer that needs a table has it.
+fn paint_bound(bytes: &mut [u8], scene: &Scene, contents: &Contents, tables: &[[u16; 1024]])
+    requires count { length bytes.old ≡ scene.now.size.w * scene.now.size.h * 4 }
+    requires fits { Fits scene.now contents.now }
+    requires tables { AreTables scene.now tables.now }
+    ensures { bytes.new ≡ bound_picture scene.now contents.now }
+{
+    let layers = bind_layers(scene, contents, tables);
+    paint(bytes, scene.size.w, layers.as_slice(), scene.background, 0);
+}
+
+/// Writes the rows of a target of this width from row `first` on.
+pub(crate) fn paint(
+    bytes: &mut [u8],
+    width: u32,
+    layers: &[BoundLayer],
+    background: Rgba,
+    first: u32,
+)
+    requires some { 1 ≤ width }
+    requires few { width ≤ 1024 }
+    requires count { length bytes.old % (4 * width) ≡ 0 }
+    requires within { first + length bytes.old / (4 * width) ≤ 1024 }
+    ensures { bytes.new ≡ bound_rows width layers.now background first (length bytes.old / (4 * width)) }
+{
+    let stride = 4 * width as usize;
+    let mut strips = [no_strip(); 66];
+    let mut line = [0; 4096];
+    for i in 0..bytes.len() / stride {
+        let at = i * stride;
+        let row = &mut bytes[at..at + stride];
+        let y = first + i as u32;
+        paint_row(row, width, layers, background, &mut strips, &mut line, y);
+    }
+}
+
+/// Writes row `y`, piece by piece, each from the layer that hides what is below it.
+fn paint_row(
+    row: &mut [u8],
+    width: u32,
+    layers: &[BoundLayer],
+    background: Rgba,
+    strips: &mut [Strip],
+    line: &mut [u8; 4096],
+    y: u32,
+)
+    requires few { width ≤ 1024 }
+    requires y { y < 1024 }
+    requires count { length row.old ≡ 4 * width }
+    requires strips { All (IsStrip layers.now width) strips.old }
+    ensures row { row.new ≡ bound_row width layers.now background y }
+    ensures strips { All (IsStrip layers.now width) strips.new }
+{
+    let mut first = 0;
+    let mut k = 0usize;
+    while first < width {
+        let strip = strip_for(strips, k, layers, width, first, y);
+        let at = 4 * first as usize;
+        let piece = &mut row[at..at + 4 * strip.width as usize];
+        paint_strip(piece, width, layers, background, strip, line, y);
+        first += strip.width;
+        k += 1;
+    }
+}
+
+/// Writes a piece of row `y`.
+fn paint_strip(
+    row: &mut [u8],
+    width: u32,
+    layers: &[BoundLayer],
+    background: Rgba,
+    strip: Strip,
+    line: &mut [u8; 4096],
+    y: u32,
+)
+    requires few { width ≤ 1024 }
+    requires y { y < 1024 }
+    requires count { length row.old ≡ 4 * strip.width }
+    requires strip { IsStrip layers.now width strip }
+    requires from { strip.from ≤ y }
+    requires bottom { y < strip.bottom }
+    ensures { row.new ≡ drawn_row strip.width Format.Rgba8Pre (λ x. bound_colour layers.now background (strip.first + x) y) }
+{
+    let base = begin_strip(row, width, layers, background, strip, line, y);
+    for i in base..strip.top {
+        lay_row(row, strip.first, strip.width, &layers[i], line, y);
+    }
+}
+
+/// Writes the layer that hides all that is below it, or else the background, and says how many layers are done.
+fn begin_strip(
+    row: &mut [u8],
+    width: u32,
+    layers: &[BoundLayer],
+    background: Rgba,
+    strip: Strip,
+    line: &mut [u8; 4096],
+    y: u32,
+) -> usize
+    requires few { width ≤ 1024 }
+    requires y { y < 1024 }
+    requires count { length row.old ≡ 4 * strip.width }
+    requires strip { IsStrip layers.now width strip }
+    requires from { strip.from ≤ y }
+    requires bottom { y < strip.bottom }
+    ensures colours { row.new ≡ drawn_row strip.width Format.Rgba8Pre (λ x. bound_colour (take result layers.now) background (strip.first + x) y) }
+    ensures within { result ≤ strip.top }
+{
+    match strip.base {
+        Some(base) => {
+            lay_row(row, strip.first, strip.width, &layers[base], line, y);
+            base + 1
+        }
+        None => {
+            fill(row, strip.width, background);
+            0
+        }
+    }
+}
+
+/// Writes one colour into each pixel of a row.
+fn fill(row: &mut [u8], width: u32, color: Rgba)
+    requires count { length row.old ≡ 4 * width }
+    requires few { width ≤ 1024 }
+    ensures { row.new ≡ drawn_row width Format.Rgba8Pre (λ _. color) }
+{
+    for x in 0..width {
+        put_pixel(row, 4 * x as usize, color);
     }
 }
 
 /// Writes the four bytes of a pixel.
-fn put_pixel(row: &mut [u8], at: usize, color: Rgba)
+pub(crate) fn put_pixel(row: &mut [u8], at: usize, color: Rgba)
     requires { at + 4 ≤ length row.old }
     ensures { row.new ≡ take at row.old ++ stored Format.Rgba8Pre color ++ drop (at + 4) row.old }
 {
     row[at..at + 4].copy_from_slice(&[color.r, color.g, color.b, color.a]);
-}
-
-/// The pixel at a place of the target, which the scene's turn brings from the space where the layers are composed.
-fn pixel_of(scene: &Scene, layers: &[BoundLayer], x: u32, y: u32) -> Rgba
-    requires sides { IsTrue (has_sides scene.now.size) }
-    requires x { x < scene.now.size.w }
-    requires y { y < scene.now.size.h }
-    requires showable { All IsShowable layers.now }
-    ensures { result ≡ bound_pixel scene.now layers.now x y }
-{
-    let space = turned(scene.turn, scene.size);
-    let (u, v) = turned_back(scene.turn, space, x, y);
-    color_of(layers, scene.background, u as i32, v as i32)
-}
-
-/// The colour of layers from the bottom up, over a background, at a point.
-fn color_of(layers: &[BoundLayer], background: Rgba, x: i32, y: i32) -> Rgba
-    requires { All IsShowable layers.now }
-    ensures { result ≡ bound_colour layers.now background x y }
-{
-    let mut color = background;
-    for layer in layers {
-        if let Some(texel) = texel_at(layer, x, y) {
-            color = over(texel, color);
-        }
-    }
-    color
 }

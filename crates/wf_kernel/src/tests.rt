@@ -1,5 +1,7 @@
 //! Small pictures that were worked out by hand: turned, scaled, blended, masked and clipped.
 
+mod beside;
+
 use crate::fitting::fits;
 use crate::picture;
 use arrayvec::ArrayVec;

@@ -1,19 +1,18 @@
-//! What a layer shows at a point.
+//! What a layer shows at a point, for the plain painter.
 
 ghost use Rattle.std.specs.Prelude.{◌≡◌, ◌≢◌, ◌<◌, IsTrue};
 ghost use Rattle.wf_pixel.specs.Place.{size_of};
 ghost use Rattle.wf_image.specs.Bitmap.{pixel};
-ghost use Rattle.wf_model.specs.Picture.{alpha_on};
-ghost use Rattle.wf_kernel.specs.Bound.{bound_mask, bound_texel, IsShowable};
+ghost use Rattle.wf_model.specs.Picture.{alpha_on, mask_of};
+ghost use Rattle.wf_kernel.specs.Bound.{texel_in};
 
 use crate::bound::BoundLayer;
 use wf_image::Image;
 use wf_pixel::{Format, Rect, Rgba, along, lift, source_place};
 
-/// The premultiplied pixel of a layer at a point, or None where it shows nothing there.
+/// The premultiplied pixel of a layer at a point of the space where the picture is composed, or None where it shows nothing there.
 pub(crate) fn texel_at(bound: &BoundLayer, x: i32, y: i32) -> Option<Rgba>
-    requires { IsShowable bound.now }
-    ensures { result ≡ bound_texel bound.now x y }
+    ensures { result ≡ texel_in bound.now (x, y) }
 {
     let layer = bound.layer;
     // The image is asked for first: that costs nothing, and a screen on which nothing was put has none.
@@ -25,9 +24,8 @@ pub(crate) fn texel_at(bound: &BoundLayer, x: i32, y: i32) -> Option<Rgba>
 }
 
 /// The mask's value for a layer at a point: 255 where no mask applies, and None where the mask has no image.
-pub(crate) fn mask_at(bound: &BoundLayer, x: i32, y: i32) -> Option<u8>
-    requires { IsShowable bound.now }
-    ensures { result ≡ bound_mask bound.now x y }
+fn mask_at(bound: &BoundLayer, x: i32, y: i32) -> Option<u8>
+    ensures { result ≡ mask_of bound.now.layer bound.now.mask x y }
 {
     let layer = bound.layer;
     if !layer.transparency.mask {

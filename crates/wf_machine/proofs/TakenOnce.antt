@@ -1,6 +1,6 @@
 -- The images that a frame takes are of streams that stand once each.
-use Rattle.std.proofs.Common.{◌≡◌, ◌∙◌, ℕ, Bool, true, false, cond, ◌==◌, ◌||◌, List, [], ◌∷◌, map, Option, Some, None, option_map}
-use Rattle.std.proofs.Common.{refl, sym, ap, subst}
+use Rattle.std.proofs.Common.{◌≡◌, ◌∙◌, ℕ, Bool, true, false, cond, ◌==◌, ◌||◌, List, [], ◌∷◌, map, Option, Some, None}
+use Rattle.std.proofs.Common.{flat_map, refl, sym, ap, subst}
 use Rattle.wf_words.specs.Keyed.{is_in}
 use Rattle.wf_words.specs.Once.{NoneTwice, once_none_twice}
 use Rattle.wf_image.specs.Bitmap.{Bitmap}
@@ -8,13 +8,12 @@ use Rattle.wf_stream.specs.Streams.{KeptStream, stream_at}
 use Rattle.wf_calls.specs.declared.call.Call.{Call}
 use Rattle.wf_calls.specs.declared.code.Code.{Code}
 use Rattle.wf_calls.specs.declared.reply.Reply.{Reply}
-use Rattle.wf_calls.specs.Codes.{is_ok_code}
 use Rattle.wf_calls.specs.Parts.{Register, no_register, of_device, register_of}
 use Rattle.wf_machine.specs.Begun.{TakesOnce}
 use Rattle.wf_model.specs.Effects.{Effect, effect}
 use Rattle.wf_model.specs.Effects.{acquires, begins, composes, ends, makes, refuses, returns, tells, unnames}
-use Rattle.wf_model.specs.Frames.{Beginning, content_shape, job_of, layer_names, newest_images, newest_of, running_of, scene_streams}
-use Rattle.wf_model.specs.Names.{settle_if}
+use Rattle.wf_model.specs.Frames.{Beginning, content_shape, job_of, newest_images, newest_of, running_of, scene_streams}
+use Rattle.wf_model.specs.Names.{layer_names}
 use Rattle.wf_model.specs.Registers.{offered}
 use Rattle.wf_model.specs.State.{Running, State}
 use Rattle.wf_model.specs.Step.{act, step}
@@ -26,7 +25,7 @@ taken ns ss = map (λ c. c.stream) (map content_shape (newest_images ns ss))
 -- a number that is not among them has none
 not_taken : (n : ℕ) (ns : List ℕ) (ss : List KeptStream) → is_in n ns ≡ false → is_in n (taken ns ss) ≡ false
 not_taken n [] ss out = refl
-not_taken n (m ∷ ns) ss out = of_image (newest_of (stream_at m ss))
+not_taken n (m ∷ ns) ss out = of_image (not_taken n ns ss both.1) (newest_of (stream_at m ss)) refl
   where
     apart : (b c : Bool) → (b || c) ≡ false → (b ≡ false) × (c ≡ false)
     apart false c is = (refl, is)
@@ -35,29 +34,18 @@ not_taken n (m ∷ ns) ss out = of_image (newest_of (stream_at m ss))
     both : ((m == n) ≡ false) × (is_in n ns ≡ false)
     both = apart (m == n) (is_in n ns) out
 
-    At : Option Bitmap → Type 0
-    At o = is_in n (map (λ c. c.stream) (map content_shape
-        (elim (option_map (λ (image : Bitmap). (m, image)) o) as (λ _. List (ℕ × Bitmap)) [
-          | None ↦ newest_images ns ss
-          | Some pair ↦ pair ∷ newest_images ns ss
-        ]))) ≡ false
-
-    of_image : (o : Option Bitmap) → At o
-    unfolding At
-    of_image None = not_taken n ns ss both.1
-    of_image (Some image) = rw both.0 (not_taken n ns ss both.1)
+    of_image : is_in n (taken ns ss) ≡ false → (o : Option Bitmap) → newest_of (stream_at m ss) ≡ o
+        → is_in n (taken (m ∷ ns) ss) ≡ false
+    of_image rest None is = rw is rest
+    of_image rest (Some image) is = rw (is, both.0) rest
 
 taken_once : (ns : List ℕ) (ss : List KeptStream) → NoneTwice ns → NoneTwice (taken ns ss)
 taken_once [] ss none = tt
-taken_once (n ∷ ns) ss none =
-    elim (newest_of (stream_at n ss)) as (λ o. NoneTwice (map (λ c. c.stream) (map content_shape
-        (elim (option_map (λ (image : Bitmap). (n, image)) o) as (λ _. List (ℕ × Bitmap)) [
-          | None ↦ newest_images ns ss
-          | Some pair ↦ pair ∷ newest_images ns ss
-        ])))) [
-      | None ↦ taken_once ns ss none.1
-      | Some image ↦ (not_taken n ns ss none.0, taken_once ns ss none.1)
-    ]
+taken_once (n ∷ ns) ss none = of_image (taken_once ns ss none.1) (newest_of (stream_at n ss)) refl
+  where
+    of_image : NoneTwice (taken ns ss) → (o : Option Bitmap) → newest_of (stream_at n ss) ≡ o → NoneTwice (taken (n ∷ ns) ss)
+    of_image rest None is = rw is rest
+    of_image rest (Some image) is = rw is (not_taken n ns ss none.0, rest)
 
 -- a frame that begins
 begun_once : (b : Beginning) (h : State) → TakesOnce (running_of (job_of b h))

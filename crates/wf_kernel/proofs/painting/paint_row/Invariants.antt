@@ -1,9 +1,19 @@
-use Rattle.std.proofs.Common.{◌≡◌, ◌*◌, ◌++◌, drop}
+use Rattle.std.proofs.Common.{◌≡◌, ◌-◌, ◌*◌, ◌≤◌, ◌++◌, drop}
+use Rattle.std.specs.Prelude.{All}
 use Rattle.wf_pixel.specs.declared.Format.TheVariants.{Rgba8Pre}
 use Rattle.wf_image.specs.Bitmap.{drawn_row}
-use Rattle.wf_kernel.specs.Bound.{bound_pixel}
+use Rattle.wf_kernel.specs.Bound.{bound_colour}
+use Rattle.wf_kernel.specs.Strips.{IsStrip}
 use Rattle.wf_kernel.proofs.painting.paint_row.Given as goal
 
--- the pixels so far are written, and the others are as they were
-abbrev pub invariant-loop-x : goal.invariant-loop-x
-invariant-loop-x l = l.row ≡ drawn_row l.x Rgba8Pre (λ x. bound_pixel l.scene l.layers x l.y) ++ drop (4 * l.x) l.fn.row
+-- the pieces so far are written, and the pixels behind them are as they were
+abbrev pub invariant-loop-first : goal.invariant-loop-first
+invariant-loop-first l = record {
+  strips : All (IsStrip l.layers l.width) l.strips;
+  few : l.k ≤ l.first;
+  within : l.first ≤ l.width;
+  written : l.row ≡ drawn_row l.first Rgba8Pre (λ x. bound_colour l.layers l.background x l.y) ++ drop (4 * l.first) l.fn.row;
+}
+
+abbrev pub decreases-loop-first : goal.decreases-loop-first
+decreases-loop-first l = l.width - l.first

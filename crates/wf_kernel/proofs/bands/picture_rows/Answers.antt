@@ -1,0 +1,8 @@
+use Rattle.std.proofs.Common.{length, sym, ap, ◌∙◌}
+use Rattle.wf_kernel.proofs.Pictures.{picture_is}
+use Rattle.wf_kernel.proofs.bands.picture_rows.Goals as goal
+
+pub returns-clause-picture : goal.returns-clause-picture
+returns-clause-picture g c =
+    picture_is c.args.scene.now c.args.contents.now c.args.target.now c.rows_of_scene.new.bytes c.requires.size c.requires.pixels
+    (ap (λ bytes. length bytes) (sym c.bytes_mut.ensures.value) ∙ c.bytes_mut.ensures.len) c.rows_of_scene.ensures

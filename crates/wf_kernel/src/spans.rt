@@ -1,0 +1,85 @@
+//! The pixels that the side of a destination covers.
+
+ghost use Rattle.std.specs.Prelude.{◌-◌, ◌<◌, ◌≤◌, ◌≤ℤ◌, pos, negsuc};
+ghost use Rattle.wf_kernel.specs.Spans.{IsReach};
+
+use wf_pixel::Rect;
+
+/// The pixels of a row or a column of the target that the side of a destination covers.
+#[derive(Clone, Copy, Debug, PartialEq, Eq)]
+pub(crate) struct Span {
+    pub(crate) start: u32,
+    /// How far that is behind the start of the side.
+    pub(crate) skip: u32,
+    pub(crate) len: u32,
+}
+
+/// No pixel.
+pub(crate) const NONE: Span = Span {
+    start: 0,
+    skip: 0,
+    len: 0,
+};
+
+/// The columns that a rectangle on the target covers, however long the rows are.
+pub(crate) fn columns_of(r: Rect) -> Span
+    requires low { negsuc 17407 ≤ℤ r.x }
+    requires high { r.x ≤ℤ pos 17408 }
+    requires w { r.w ≤ 1024 }
+    ensures { IsReach r.x r.w result }
+{
+    reach_of(r.x, r.w)
+}
+
+/// The rows that it covers.
+pub(crate) fn rows_of(r: Rect) -> Span
+    requires low { negsuc 17407 ≤ℤ r.y }
+    requires high { r.y ≤ℤ pos 17408 }
+    requires h { r.h ≤ 1024 }
+    ensures { IsReach r.y r.h result }
+{
+    reach_of(r.y, r.h)
+}
+
+/// The pixels that a side of `w` pixels from `x` on covers.
+fn reach_of(x: i32, w: u32) -> Span
+    requires low { negsuc 17407 ≤ℤ x }
+    requires high { x ≤ℤ pos 17408 }
+    requires w { w ≤ 1024 }
+    ensures { IsReach x w result }
+{
+    if x < 0 {
+        reach_before(x.unsigned_abs(), w)
+    } else {
+        reach_at(x as u32, w)
+    }
+}
+
+/// The same of a side that begins `before` pixels before the row.
+fn reach_before(before: u32, w: u32) -> Span
+    requires some { 0 < before }
+    requires w { w ≤ 1024 }
+    ensures { IsReach (negsuc (before - 1)) w result }
+{
+    if before >= w {
+        return NONE;
+    }
+    Span {
+        start: 0,
+        skip: before,
+        len: w - before,
+    }
+}
+
+/// The same of a side that begins in the row or behind it.
+fn reach_at(start: u32, w: u32) -> Span
+    requires high { start ≤ 17408 }
+    requires w { w ≤ 1024 }
+    ensures { IsReach (pos start) w result }
+{
+    Span {
+        start,
+        skip: 0,
+        len: w,
+    }
+}

@@ -1,0 +1,49 @@
+//! A row of opaque pixels. Four at a time: a vector of eight would be stored by its upper half first, which is slow where
+//! the row is not yet in the first cache.
+
+ghost use Rattle.std.specs.Prelude.{◌≡◌, ◌<◌, ◌%◌, length};
+ghost use Rattle.wf_row.specs.Bytes.{AreBytes, premultiplied_bytes, over_bytes};
+
+use crate::AlphaMode;
+use crate::loading::{load_four, padded_four};
+use std::simd::prelude::*;
+
+/// Lays the pixels of a source, made opaque, over those of a row.
+#[inline(always)]
+pub(crate) fn copy_pixels(row: &mut [u8], src: &[u8])
+    requires whole { length src.now % 4 ≡ 0 }
+    requires same { length row.old ≡ length src.now }
+    ensures { row.new ≡ over_bytes (premultiplied_bytes AlphaMode.Opaque src.now) row.old }
+{
+    let blocks = src.len() / 16;
+    for block in 0..blocks {
+        let at = 16 * block;
+        opaque_lanes(load_four(src, at)).copy_to_slice(&mut row[at..]);
+    }
+    let at = 16 * blocks;
+    copy_rest(&mut row[at..], &src[at..]);
+}
+
+/// Four pixels made opaque.
+#[inline(always)]
+fn opaque_lanes(x: u8x16) -> u8x16
+    requires { AreBytes 16 x }
+    ensures { result ≡ premultiplied_bytes AlphaMode.Opaque x }
+{
+    let alpha = u8x16::from_array([0, 0, 0, 255, 0, 0, 0, 255, 0, 0, 0, 255, 0, 0, 0, 255]);
+    x | alpha
+}
+
+/// Writes fewer than four pixels of a source, made opaque.
+fn copy_rest(row: &mut [u8], src: &[u8])
+    requires whole { length src.now % 4 ≡ 0 }
+    requires same { length row.old ≡ length src.now }
+    requires few { length src.now < 16 }
+    ensures { row.new ≡ premultiplied_bytes AlphaMode.Opaque src.now }
+{
+    if src.is_empty() {
+        return;
+    }
+    let pixels = opaque_lanes(padded_four(src)).to_array();
+    row.copy_from_slice(&pixels[..src.len()]);
+}

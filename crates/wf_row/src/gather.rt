@@ -1,0 +1,43 @@
+//! Pixels at chosen places of a source, one after the other. A pixel goes through an array of four bytes: a copy from
+//! slice to slice would ask at each pixel whether the two overlap.
+
+ghost use Rattle.std.specs.Prelude.{◌≡◌, ◌+◌, ◌*◌, ◌<◌, ◌≤◌, All, length};
+ghost use Rattle.std.specs.Simd.Lanes.{chunk};
+ghost use Rattle.wf_row.specs.Gather.{gathered_row, gathered_column};
+
+/// Writes the pixels of a row at these columns.
+pub fn gather_row(out: &mut [u8], src: &[u8], columns: &[u16])
+    requires out { length out.old ≡ 4 * length columns.now }
+    requires within { All (λ c. 4 * c + 4 ≤ length src.now) columns.now }
+    ensures { out.new ≡ gathered_row src.now columns.now }
+{
+    for i in 0..columns.len() {
+        let at = 4 * i;
+        let pixel = pixel_at(src, columns[i] as usize);
+        out[at..at + 4].copy_from_slice(&pixel);
+    }
+}
+
+/// Writes the pixels of an image's column at these rows. The column is named by its pixel in row 0, and a row has
+/// `stride` pixels.
+pub fn gather_column(out: &mut [u8], src: &[u8], column: u32, stride: u32, rows: &[u16])
+    requires out { length out.old ≡ 4 * length rows.now }
+    requires within { All (λ r. 4 * (column + r * stride) + 4 ≤ length src.now) rows.now }
+    ensures { out.new ≡ gathered_column src.now column stride rows.now }
+{
+    for i in 0..rows.len() {
+        let at = 4 * i;
+        let pixel = pixel_at(src, column as usize + rows[i] as usize * stride as usize);
+        out[at..at + 4].copy_from_slice(&pixel);
+    }
+}
+
+/// The bytes of a pixel by its number.
+#[inline(always)]
+fn pixel_at(src: &[u8], place: usize) -> [u8; 4]
+    requires { 4 * place + 4 ≤ length src.now }
+    ensures { result ≡ chunk (4 * place) 4 src.now }
+{
+    let at = 4 * place;
+    [src[at], src[at + 1], src[at + 2], src[at + 3]]
+}
