@@ -1,6 +1,28 @@
 -- Layers bound to their images and to the target show the pixels of the picture.
-use Rattle.std.proofs.Common.{◌≡◌, ℕ, ◌+◌, ◌-◌, ◌<◌, List, [], ◌∷◌, ◌++◌, length, take, get_or, ℤ, pos, true, false, refl, sym, ap, subst,
-    ◌∙◌, arith}
+use Rattle.std.proofs.Common.{
+  ◌≡◌,
+  ℕ,
+  ◌+◌,
+  ◌-◌,
+  ◌<◌,
+  List,
+  [],
+  ◌∷◌,
+  ◌++◌,
+  length,
+  take,
+  get_or,
+  ℤ,
+  pos,
+  true,
+  false,
+  refl,
+  sym,
+  ap,
+  subst,
+  ◌∙◌,
+  arith,
+}
 use Rattle.std.specs.Prelude.{◌-ℤ◌, map, reverse, All, Option}
 use Rattle.std.proofs.lemmas.Int.{ints}
 use Rattle.std.proofs.lemmas.Simd.{map-map}
@@ -41,9 +63,9 @@ bound_colour_is scene contents x y a b =
     let shown : Bound → Option Rgba = λ b. bound_texel b x y in
     ap (λ (layers : List Bound). stacked (map shown layers) scene.background) (reverse_aux-map (bound scene contents) scene.layers.items [])
     ∙ ap (λ (texels : List (Option Rgba)). stacked texels scene.background)
-        (map-map shown (bound scene contents) (reverse scene.layers.items))
+    (map-map shown (bound scene contents) (reverse scene.layers.items))
     ∙ ap (λ (p : ℤ × ℤ). stacked (map (λ l. texel_of l (image_of l.stream contents) (mask_of l (image_of l.mask contents) p.0 p.1) p.0 p.1)
-        (reverse scene.layers.items)) scene.background)
+    (reverse scene.layers.items)) scene.background)
     (point_is scene.turn scene.size x y a b)
 
 -- ---- one layer after the other
@@ -54,7 +76,7 @@ pub bound_more : (f : Layer → Bound) (layers all : List Layer) (i : ℕ) (d : 
 bound_more f layers all i d before after b layers_are low before_is b_is after_is =
     let more : take (i + 1) all ≡ take i all ++ get_or layers i d ∷ [] =
     ap (take (i + 1)) (sym layers_are) ∙ take_more layers i d low
-        ∙ ap (λ (ls : List Layer). take i ls ++ get_or layers i d ∷ []) layers_are in
+    ∙ ap (λ (ls : List Layer). take i ls ++ get_or layers i d ∷ []) layers_are in
     after_is ∙ (λ j. before_is j ++ b_is j ∷ []) ∙ sym (map-append f (take i all) (get_or layers i d ∷ [])) ∙ ap (map f) (sym more)
 
 -- its table
@@ -64,13 +86,13 @@ pub table_for : (scene : Scene) (tables : List (List ℕ)) (layers : List Layer)
     → IsTable scene.turn (turned scene.turn scene.size) (get_or layers i d) table
 table_for scene tables layers i d table are layers_are low table_is needs =
     let Has : List Layer → Type 0 = λ ls. i < length ls → needs_table scene.turn (get_or ls i d) ≡ true
-        → IsTable scene.turn (turned scene.turn scene.size) (get_or ls i d) table in
+    → IsTable scene.turn (turned scene.turn scene.size) (get_or ls i d) table in
     let none : List ℕ = [] in
     subst Has (sym layers_are)
     (λ less need.
     let found = are i d none less need in
     subst (λ (t : List ℕ). IsTable scene.turn (turned scene.turn scene.size) (get_or scene.layers.items i d) t)
-        (sym (table_is found.0 none)) found.1)
+    (sym (table_is found.0 none)) found.1)
     low needs
 
 -- no table is needed

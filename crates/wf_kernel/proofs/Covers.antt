@@ -49,7 +49,7 @@ covers b image source mask stays x a y d ex ey =
     let place : ℕ × ℕ = source_pixel l.src l.flip l.turn l.dest q.0 q.1 in
     let c : Rgba = pixel image place.0 place.1 in
     let value : mask_of l b.mask p.0 p.1 ≡ Some 255 = ap (λ (m : Bool). if m then b.mask >>= (λ i. alpha_on i l.dest p.0 p.1) else Some 255)
-        mask in
+    mask in
     record {
       colour = lift c image.format t l.alpha 255;
       is =

@@ -1,6 +1,28 @@
 -- Strips, and what is cut off them.
-use Rattle.std.proofs.Common.{◌≡◌, ℕ, zero, suc, ◌+◌, ◌-◌, ◌<◌, ◌≤◌, List, [], ◌∷◌, length, take, get_or, ap, sym, subst, ◌∙◌, inl, inr,
-    arith, add-zero}
+use Rattle.std.proofs.Common.{
+  ◌≡◌,
+  ℕ,
+  zero,
+  suc,
+  ◌+◌,
+  ◌-◌,
+  ◌<◌,
+  ◌≤◌,
+  List,
+  [],
+  ◌∷◌,
+  length,
+  take,
+  get_or,
+  ap,
+  sym,
+  subst,
+  ◌∙◌,
+  inl,
+  inr,
+  arith,
+  add-zero,
+}
 use Rattle.std.specs.Prelude.{Option, None, Some, IfSome}
 use Rattle.std.proofs.lemmas.Bool.{cases_lt}
 use Rattle.std.proofs.lemmas.List.{take_all}
@@ -52,7 +74,7 @@ cut_strip layers w s t strip cut none top =
     let top_in = strip.top in
     let Base : Option ℕ → Type 0 = λ o. IfSome o (λ j. j < t.top) in
     let Covers : Option ℕ → Type 0 = λ o. IfSome o (λ j. (d : Bound) (y : ℕ) → t.from ≤ y → y < t.bottom
-        → IsCover (get_or layers j d) t.first t.width y) in
+    → IsCover (get_or layers j d) t.first t.width y) in
     record {
       within = omega arith;
       some = λ y a b. cut.some;
@@ -62,7 +84,7 @@ cut_strip layers w s t strip cut none top =
       beside = λ i d y a b c e x low.
           let n : s.first + x ≡ t.first + x = omega arith in
           ap (λ (j : ℕ). bound_texel (get_or layers i d) j y) (sym n)
-              ∙ strip.beside i d y (omega arith) b (omega arith) (omega arith) x (omega arith);
+          ∙ strip.beside i d y (omega arith) b (omega arith) (omega arith) x (omega arith);
     }
 
 -- one layer fewer on top
@@ -74,7 +96,7 @@ topped_strip layers w n s t strip top first width from bottom none top_is beside
     let top_in = strip.top in
     let Base : Option ℕ → Type 0 = λ o. IfSome o (λ j. j < t.top) in
     let Covers : Option ℕ → Type 0 = λ o. IfSome o (λ j. (d : Bound) (y : ℕ) → t.from ≤ y → y < t.bottom
-        → IsCover (get_or layers j d) t.first t.width y) in
+    → IsCover (get_or layers j d) t.first t.width y) in
     record {
       within = omega arith;
       some = λ y a b. let some = strip.some y (omega arith) (omega arith) in omega arith;
@@ -88,7 +110,7 @@ topped_strip layers w n s t strip top first width from bottom none top_is beside
             | inl more ↦ strip.beside i d y (omega arith) b (omega arith) (omega arith) x (omega arith)
             | inr less ↦ (let same : i ≡ n = omega arith in
                 ap (λ (j : ℕ). bound_texel (get_or layers j d) (s.first + x) y) same
-                    ∙ beside d y (omega arith) (omega arith) x (omega arith))
+                ∙ beside d y (omega arith) (omega arith) x (omega arith))
           ];
     }
 
@@ -105,7 +127,7 @@ based_strip layers w j s t strip cut base top low cover =
     let top_in = strip.top in
     let Base : Option ℕ → Type 0 = λ o. IfSome o (λ j. j < t.top) in
     let Covers : Option ℕ → Type 0 = λ o. IfSome o (λ j. (d : Bound) (y : ℕ) → t.from ≤ y → y < t.bottom
-        → IsCover (get_or layers j d) t.first t.width y) in
+    → IsCover (get_or layers j d) t.first t.width y) in
     let in_top : j < t.top = omega arith in
     record {
       within = omega arith;
@@ -116,7 +138,7 @@ based_strip layers w j s t strip cut base top low cover =
       beside = λ i d y a b c e x low.
           let n : t.first + x ≡ s.first + x = omega arith in
           ap (λ (j : ℕ). bound_texel (get_or layers i d) j y) n
-              ∙ strip.beside i d y (omega arith) b (omega arith) (omega arith) x (omega arith);
+          ∙ strip.beside i d y (omega arith) b (omega arith) (omega arith) x (omega arith);
     }
 
 -- the layers above count for nothing
@@ -134,23 +156,23 @@ colour_top layers d background x y top (suc n) within none =
 
 drawn_by : (layers : List Bound) (d : Bound) (background : Rgba) (w y : ℕ) (s : Strip) → IsStrip layers w s → s.from ≤ y → y < s.bottom
     → drawn_row s.width Rgba8Pre (λ x. bound_colour (take s.top layers) background (s.first + x) y)
-        ≡ drawn_row s.width Rgba8Pre (λ x. bound_colour layers background (s.first + x) y)
+    ≡ drawn_row s.width Rgba8Pre (λ x. bound_colour layers background (s.first + x) y)
 drawn_by layers d background w y s strip from bottom =
     pieces_same (λ x. stored Rgba8Pre (bound_colour (take s.top layers) background (s.first + x) y))
-        (λ x. stored Rgba8Pre (bound_colour layers background (s.first + x) y)) 0 s.width
+    (λ x. stored Rgba8Pre (bound_colour layers background (s.first + x) y)) 0 s.width
     (λ x low high.
     let n : ℕ = length layers - s.top in
     let top = strip.top in
     let all : s.top + n ≡ length layers = omega arith in
     ap (stored Rgba8Pre)
     (sym (colour_top layers d background (s.first + x) y s.top n (omega arith)
-        (λ i a b. strip.beside i d y a b from bottom x (omega arith)))
+    (λ i a b. strip.beside i d y a b from bottom x (omega arith)))
     ∙ ap (λ (l : List Bound). bound_colour l background (s.first + x) y) (ap (λ (k : ℕ). take k layers) all
-        ∙ take_all (length layers) layers (omega arith))))
+    ∙ take_all (length layers) layers (omega arith))))
 
 pub strip_drawn : (layers : List Bound) (background : Rgba) (w y : ℕ) (s : Strip) → IsStrip layers w s → s.from ≤ y → y < s.bottom
     → drawn_row s.width Rgba8Pre (λ x. bound_colour (take s.top layers) background (s.first + x) y)
-        ≡ drawn_row s.width Rgba8Pre (λ x. bound_colour layers background (s.first + x) y)
+    ≡ drawn_row s.width Rgba8Pre (λ x. bound_colour layers background (s.first + x) y)
 strip_drawn [] background w y s strip from bottom =
     let top_in = strip.top in
     let none : s.top ≡ 0 = omega arith in
@@ -172,7 +194,7 @@ pub no_rows : (layers : List Bound) (w : ℕ) (s : Strip) → s.first ≡ 0 → 
 no_rows layers w s first width bottom none top =
     let Base : Option ℕ → Type 0 = λ o. IfSome o (λ j. j < s.top) in
     let Covers : Option ℕ → Type 0 = λ o. IfSome o (λ j. (d : Bound) (y : ℕ) → s.from ≤ y → y < s.bottom
-        → IsCover (get_or layers j d) s.first s.width y) in
+    → IsCover (get_or layers j d) s.first s.width y) in
     record {
       within = omega arith;
       some = λ y a b. absurd (omega arith);

@@ -1,6 +1,27 @@
 -- The pixels of a layer's source, one after the other.
-use Rattle.std.proofs.Common.{◌≡◌, ℕ, ◌+◌, ◌-◌, ◌*◌, ◌<◌, ◌≤◌, List, length, get_or, Bool, true, false, refl, sym, ap, subst, ◌∙◌, arith,
-    add-zero, zero-add}
+use Rattle.std.proofs.Common.{
+  ◌≡◌,
+  ℕ,
+  ◌+◌,
+  ◌-◌,
+  ◌*◌,
+  ◌<◌,
+  ◌≤◌,
+  List,
+  length,
+  get_or,
+  Bool,
+  true,
+  false,
+  refl,
+  sym,
+  ap,
+  subst,
+  ◌∙◌,
+  arith,
+  add-zero,
+  zero-add,
+}
 use Rattle.std.specs.Prelude.{◌≢◌, Some, flat_map, if◌then◌else◌}
 use Rattle.std.specs.List.{range_with_len}
 use Rattle.std.specs.Simd.Lanes.{chunk}
@@ -76,7 +97,7 @@ straight_colour b image a d u straight column =
     ap (λ (x : ℕ). pixel image x (down b.turn b.layer d)) (sym column) in
     let place : source_place b a d ≡ (across b.turn b.layer a, down b.turn b.layer d) =
     ap (λ (c : Bool). if c then (down b.turn b.layer d, across b.turn b.layer a) else (across b.turn b.layer a, down b.turn b.layer d))
-        straight in
+    straight in
     u_is ∙ ap (λ (p : ℕ × ℕ). pixel image p.0 p.1) (sym place)
 
 crossed_colour : (b : Bound) (image : Bitmap) (a d v : ℕ) → is_crossed b.turn b.layer ≡ true → across b.turn b.layer a ≡ v
@@ -86,7 +107,7 @@ crossed_colour b image a d v crossed row =
     ap (λ (y : ℕ). pixel image (down b.turn b.layer d) y) (sym row) in
     let place : source_place b a d ≡ (down b.turn b.layer d, across b.turn b.layer a) =
     ap (λ (c : Bool). if c then (down b.turn b.layer d, across b.turn b.layer a) else (across b.turn b.layer a, down b.turn b.layer d))
-        crossed in
+    crossed in
     v_is ∙ ap (λ (p : ℕ × ℕ). pixel image p.0 p.1) (sym place)
 
 abbrev Within : Bitmap → ℕ × ℕ → Type 0
@@ -112,21 +133,21 @@ crossed_low b image a d showable source low high crossed =
 pub forward_shown : (b : Bound) (image : Bitmap) (a d n first : ℕ) → is_crossed b.turn b.layer ≡ false
     → ((i : ℕ) → i < n → across b.turn b.layer (a + i) ≡ first + i)
     → drawn_row n Rgba8Pre (λ i. pixel image (first + i) (down b.turn b.layer d))
-        ≡ drawn_row n Rgba8Pre (λ i. source_colour b image (a + i) d)
+    ≡ drawn_row n Rgba8Pre (λ i. source_colour b image (a + i) d)
 forward_shown b image a d n first straight column =
     pieces_same (λ i. stored Rgba8Pre (pixel image (first + i) (down b.turn b.layer d)))
-        (λ i. stored Rgba8Pre (source_colour b image (a + i) d)) 0 n
+    (λ i. stored Rgba8Pre (source_colour b image (a + i) d)) 0 n
     (λ i start less. ap (stored Rgba8Pre) (straight_colour b image (a + i) d (first + i) straight (column i (omega arith))))
 
 -- and from the right to the left
 pub backward_shown : (b : Bound) (image : Bitmap) (a d n first : ℕ) → is_crossed b.turn b.layer ≡ false
     → ((i : ℕ) → i < n → across b.turn b.layer (a + i) ≡ first + (n - 1 - i))
     → reversed (drawn_row n Rgba8Pre (λ i. pixel image (first + i) (down b.turn b.layer d)))
-        ≡ drawn_row n Rgba8Pre (λ i. source_colour b image (a + i) d)
+    ≡ drawn_row n Rgba8Pre (λ i. source_colour b image (a + i) d)
 backward_shown b image a d n first straight column =
     reversed_drawn n (λ i. pixel image (first + i) (down b.turn b.layer d))
     ∙ pieces_same (λ i. stored Rgba8Pre (pixel image (first + (n - 1 - i)) (down b.turn b.layer d)))
-        (λ i. stored Rgba8Pre (source_colour b image (a + i) d)) 0 n
+    (λ i. stored Rgba8Pre (source_colour b image (a + i) d)) 0 n
     (λ i start less. ap (stored Rgba8Pre) (straight_colour b image (a + i) d (first + (n - 1 - i)) straight (column i (omega arith))))
 
 -- chosen columns of a row
@@ -145,14 +166,14 @@ row_shown b image a d n w src places straight count src_is places_are low =
     ∙ cell src (4 * c) (omega arith)
     ∙ ap (stored Rgba8Pre)
     (ap (λ (bytes : List ℕ). read_at Rgba8Pre bytes (4 * c)) src_is ∙ read_drawn w row c in_row
-        ∙ ap (λ (x : ℕ). pixel image x (down b.turn b.layer d)) (zero-add c) ∙ straight_colour b image (a + i) d c straight refl))
+    ∙ ap (λ (x : ℕ). pixel image x (down b.turn b.layer d)) (zero-add c) ∙ straight_colour b image (a + i) d c straight refl))
 
 -- chosen rows of a column
 pub column_shown : (b : Bound) (image : Bitmap) (a d n : ℕ) (places : List ℕ) → image.format ≢ A8
     → length image.bytes ≡ image_bytes image.size image.format
     → is_crossed b.turn b.layer ≡ true → length places ≡ n → down b.turn b.layer d < image.size.w
     → ((i : ℕ) → i < n → get_or places i 0 ≡ across b.turn b.layer (a + i))
-        → ((i : ℕ) → i < n → across b.turn b.layer (a + i) < image.size.h)
+    → ((i : ℕ) → i < n → across b.turn b.layer (a + i) < image.size.h)
     → gathered_column image.bytes (down b.turn b.layer d) image.size.w places ≡ drawn_row n Rgba8Pre (λ i. source_colour b image (a + i) d)
 column_shown b image a d n places colours bytes crossed count column places_are low =
     let u : ℕ = down b.turn b.layer d in

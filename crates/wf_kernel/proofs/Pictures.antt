@@ -37,11 +37,11 @@ unfolding drawn
 picture_bytes scene contents format four =
     let layers = map (bound scene contents) scene.layers.items in
     pieces_same (λ y. bound_row scene.size.w layers scene.background y)
-        (λ y. drawn_row scene.size.w format (λ x. picture_pixel scene contents x y)) 0 scene.size.h
+    (λ y. drawn_row scene.size.w format (λ x. picture_pixel scene contents x y)) 0 scene.size.h
     (λ y from below. pieces_same (λ x. stored Rgba8Pre (bound_colour layers scene.background x y))
-        (λ x. stored format (picture_pixel scene contents x y)) 0 scene.size.w
+    (λ x. stored format (picture_pixel scene contents x y)) 0 scene.size.w
     (λ x start within. ap (stored Rgba8Pre) (bound_colour_is scene contents x y (omega arith) (omega arith))
-        ∙ stored_four format (picture_pixel scene contents x y) four))
+    ∙ stored_four format (picture_pixel scene contents x y) four))
 
 -- an image that gets these bytes is the picture
 pub picture_is : (scene : Scene) (contents : Images) (image : Bitmap) (bytes : List ℕ) → image.size ≡ scene.size
@@ -52,8 +52,8 @@ picture_is scene contents image bytes size_is four count bytes_are =
     let count_is : length image.bytes ≡ scene.size.w * scene.size.h * 4 = count ∙ rw (size_is, four) refl in
     let len : length bytes ≡ length image.bytes =
     ap length bytes_are ∙ length-bound_rows scene.size.w (map (bound scene contents) scene.layers.items) scene.background 0 scene.size.h
-        ∙ omega (arith, count_is) in
+    ∙ omega (arith, count_is) in
     let all : take (length image.bytes) (bytes ++ drop (length bytes) image.bytes) ≡ bytes =
-        take_at bytes (drop (length bytes) image.bytes) (length image.bytes) len in
+    take_at bytes (drop (length bytes) image.bytes) (length image.bytes) len in
     let same : bytes ≡ (picture scene contents image.format).bytes = bytes_are ∙ picture_bytes scene contents image.format four in
     rw (all, same, size_is) refl

@@ -1,6 +1,31 @@
 -- Rows of pixels, as bytes: one pixel of them, a part of them, and pixels taken one by one.
-use Rattle.std.proofs.Common.{◌≡◌, ℕ, zero, suc, ◌+◌, ◌-◌, ◌*◌, ◌<◌, ◌≤◌, List, [], ◌∷◌, ◌++◌, length, take, drop, get_or, refl, sym, ap,
-    ◌∙◌, append_assoc, arith, zero-add, add-zero}
+use Rattle.std.proofs.Common.{
+  ◌≡◌,
+  ℕ,
+  zero,
+  suc,
+  ◌+◌,
+  ◌-◌,
+  ◌*◌,
+  ◌<◌,
+  ◌≤◌,
+  List,
+  [],
+  ◌∷◌,
+  ◌++◌,
+  length,
+  take,
+  drop,
+  get_or,
+  refl,
+  sym,
+  ap,
+  ◌∙◌,
+  append_assoc,
+  arith,
+  zero-add,
+  add-zero,
+}
 use Rattle.std.specs.Prelude.{flat_map}
 use Rattle.std.specs.List.{range_with_len}
 use Rattle.std.specs.Simd.Lanes.{chunk}
@@ -34,7 +59,7 @@ drop_pieces f same from (suc n) (suc i) m sum =
     sym (drop-drop (4 * i) (length (f from)) (f from ++ rest)) ∙ ap (drop (4 * i)) (drop-append_seam (f from) rest) in
     let next : from + 1 + i ≡ from + suc i = omega arith in
     ap (λ (j : ℕ). drop j (f from ++ rest)) split ∙ front ∙ drop_pieces f same (from + 1) n i m (omega arith)
-        ∙ ap (λ (j : ℕ). flat_map f (range_with_len j m)) next
+    ∙ ap (λ (j : ℕ). flat_map f (range_with_len j m)) next
 
 -- a pixel is read from the bytes that begin with it
 pub read_ahead : (bytes : List ℕ) (at : ℕ) → read_at Rgba8Pre bytes at ≡ read_at Rgba8Pre (drop at bytes) 0
@@ -64,7 +89,7 @@ pieces_split f from (suc m) n =
     let next : from + 1 + m ≡ from + suc m = omega arith in
     ap (λ (j : ℕ). flat_map f (range_with_len from j)) count
     ∙ ap (λ (l : List ℕ). f from ++ l) (pieces_split f (from + 1) m n
-        ∙ ap (λ (j : ℕ). flat_map f (range_with_len (from + 1) m) ++ flat_map f (range_with_len j n)) next)
+    ∙ ap (λ (j : ℕ). flat_map f (range_with_len (from + 1) m) ++ flat_map f (range_with_len j n)) next)
     ∙ sym (append_assoc (f from) (flat_map f (range_with_len (from + 1) m)) (flat_map f (range_with_len (from + suc m) n)))
 
 -- pieces by their distance from the first
@@ -81,7 +106,7 @@ cell row at le =
     let two : at + 1 + 1 ≡ at + 2 = omega arith in
     let three : at + 1 + 1 + 1 ≡ at + 3 = omega arith in
     sym (pick_l-range_with_len 0 row at 4 le) ∙ (λ i. get_or row at 0 ∷ get_or row (at + 1) 0 ∷ get_or row (two i) 0
-        ∷ get_or row (three i) 0 ∷ [])
+    ∷ get_or row (three i) 0 ∷ [])
 
 -- the bytes of pixels
 pub cells : (row : List ℕ) (from n at : ℕ) → at ≡ 4 * from → at + 4 * n ≤ length row

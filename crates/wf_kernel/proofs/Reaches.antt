@@ -28,10 +28,13 @@ pub reach_holds : (x : ℤ) (w : ℕ) (s : Span) (j a : ℕ) → IsReach x w s �
     → (s.start ≤ j) × ((j < s.start + s.len) × (a ≡ s.skip + (j - s.start)))
 reach_holds x w s j a reach e =
     let low : s.start ≤ j =
-        elim (cases_lt j s.start) [ inl less ↦ absurd (let wrong : Some a ≡ None = sym e ∙ reach.before j less in cc) | inr more ↦ more ] in
+    elim (cases_lt j s.start) [ inl less ↦ absurd (let wrong : Some a ≡ None = sym e ∙ reach.before j less in cc) | inr more ↦ more ] in
     let high : j < s.start + s.len =
-        elim (cases_lt j (s.start + s.len)) [ inl less ↦ less | inr more ↦ absurd (let wrong : Some a ≡ None = sym e
-        ∙ reach.behind j more in cc) ] in
+    elim (cases_lt j (s.start + s.len)) [
+      | inl less ↦ less
+      | inr more ↦ absurd (let wrong : Some a ≡ None = sym e
+          ∙ reach.behind j more in cc)
+    ] in
     let i : ℕ = j - s.start in
     let at : s.start + i ≡ j = omega arith in
     let same : Some (s.skip + i) ≡ Some a = sym (reach.covered i (omega arith)) ∙ ap (λ (k : ℕ). along x w (pos k)) at ∙ e in

@@ -15,8 +15,19 @@ use Rattle.wf_model.specs.Picture.{mask_of, texel_of}
 use Rattle.wf_kernel.specs.Bound.{Bound, IsShowable, point_of, bound_texel}
 use Rattle.wf_kernel.specs.Placed.{placed, source_place, mask_value}
 use Rattle.wf_kernel.specs.Laid.{mode_of, fade_of, lifted_pixel, lifted_texel, placed_texel}
-use Rattle.wf_kernel.proofs.Placed.{IsOutside, beside, above, place_is, placed_along, back_low, source_low, holds_x, holds_y,
-    beside_target, above_target}
+use Rattle.wf_kernel.proofs.Placed.{
+  IsOutside,
+  beside,
+  above,
+  place_is,
+  placed_along,
+  back_low,
+  source_low,
+  holds_x,
+  holds_y,
+  beside_target,
+  above_target,
+}
 
 -- the texel by the distances from the destination's corner, where the mask has this value
 abbrev pub texel_by : Layer → Bitmap → Option ℕ → Option ℕ → Option ℕ → Option Rgba
@@ -29,12 +40,12 @@ outside : (l : Layer) (source : Option Bitmap) (value : Option ℕ) (p : ℤ × 
 outside l None value p (beside e) =
     let empty : Option Rgba = None in
     ap (λ (dx : Option ℕ). option_and_then (λ d. option_map (source_pixel l.src l.flip l.turn l.dest d) (along l.dest.y l.dest.h p.1)) dx
-        >>= (λ p. empty)) e
+    >>= (λ p. empty)) e
 outside l (Some image) value p (beside e) = ap (λ (dx : Option ℕ). texel_by l image value dx (along l.dest.y l.dest.h p.1)) e
 outside l None value p (above e) =
     let empty : Option Rgba = None in
     ap (λ (dy : Option ℕ). option_and_then (λ d. option_map (source_pixel l.src l.flip l.turn l.dest d) dy) (along l.dest.x l.dest.w p.0)
-        >>= (λ p. empty)) e
+    >>= (λ p. empty)) e
     ∙ no_place l (along l.dest.x l.dest.w p.0)
   where
     no_place : (l : Layer) (dx : Option ℕ)
@@ -44,7 +55,7 @@ outside l None value p (above e) =
     no_place l (Some d) = refl
 outside l (Some image) value p (above e) =
     ap (λ (dy : Option ℕ). texel_by l image value (along l.dest.x l.dest.w p.0) dy) e
-        ∙ none_above l image value (along l.dest.x l.dest.w p.0)
+    ∙ none_above l image value (along l.dest.x l.dest.w p.0)
   where
     none_above : (l : Layer) (image : Bitmap) (value dx : Option ℕ) → texel_by l image value dx None ≡ None
     none_above l image value None = refl
@@ -66,8 +77,8 @@ bound_nothing b x y none =
     let p : ℤ × ℤ = point_of b.turn b.space x y in
     ap (λ (s : Option Bitmap). texel_of b.layer s (mask_of b.layer b.mask p.0 p.1) p.0 p.1) none
     ∙ no_image
-        (option_and_then (λ d. option_map (source_pixel b.layer.src b.layer.flip b.layer.turn b.layer.dest d)
-        (along b.layer.dest.y b.layer.dest.h p.1)) (along b.layer.dest.x b.layer.dest.w p.0))
+    (option_and_then (λ d. option_map (source_pixel b.layer.src b.layer.flip b.layer.turn b.layer.dest d)
+    (along b.layer.dest.y b.layer.dest.h p.1)) (along b.layer.dest.x b.layer.dest.w p.0))
   where
     no_image : (place : Option (ℕ × ℕ)) → (place >>= (λ p. let empty : Option Rgba = None in empty)) ≡ None
     no_image None = refl
@@ -76,7 +87,7 @@ bound_nothing b x y none =
 -- ---- the pixel lifted
 lift_is : (c : Rgba) (format : Format) (alpha source : Bool) (k : ℕ) → format ≢ A8
     → lift c format (record { alpha = alpha; source = source; mask = false }) k 255
-        ≡ lifted_pixel (mode_of format source) (fade_of alpha k) c
+    ≡ lifted_pixel (mode_of format source) (fade_of alpha k) c
 lift_is c Rgba8 true true k n = refl
 lift_is c Rgba8 true false k n = refl
 lift_is c Rgba8 false true k n = refl
@@ -93,7 +104,7 @@ lift_is c A8 alpha source k n = absurd (n refl)
 
 lift_masked : (c : Rgba) (format : Format) (alpha source : Bool) (k m : ℕ) → format ≢ A8
     → lift c format (record { alpha = alpha; source = source; mask = true }) k m
-        ≡ scaled (lifted_pixel (mode_of format source) (fade_of alpha k) c) m
+    ≡ scaled (lifted_pixel (mode_of format source) (fade_of alpha k) c) m
 lift_masked c Rgba8 true true k m n = refl
 lift_masked c Rgba8 true false k m n = refl
 lift_masked c Rgba8 false true k m n = refl
@@ -117,13 +128,13 @@ texel_at_place : (b : Bound) (set : Bool) (image : Bitmap) (mask : Option Bitmap
     → along b.layer.dest.x b.layer.dest.w p.0 ≡ Some dx → along b.layer.dest.y b.layer.dest.h p.1 ≡ Some dy
     → texel_of (by_mask b set).layer (Some image) (mask_of (by_mask b set).layer mask p.0 p.1) p.0 p.1
     ≡ (if set then mask >>=
-        (λ m. Some
-        (scaled (lifted_pixel (mode_of image.format b.layer.transparency.source) (fade_of b.layer.transparency.alpha b.layer.alpha)
-        (pixel image (source_pixel b.layer.src b.layer.flip b.layer.turn b.layer.dest dx dy).0
-        (source_pixel b.layer.src b.layer.flip b.layer.turn b.layer.dest dx dy).1)) (pixel m dx dy).a))
+    (λ m. Some
+    (scaled (lifted_pixel (mode_of image.format b.layer.transparency.source) (fade_of b.layer.transparency.alpha b.layer.alpha)
+    (pixel image (source_pixel b.layer.src b.layer.flip b.layer.turn b.layer.dest dx dy).0
+    (source_pixel b.layer.src b.layer.flip b.layer.turn b.layer.dest dx dy).1)) (pixel m dx dy).a))
     else Some (lifted_pixel (mode_of image.format b.layer.transparency.source) (fade_of b.layer.transparency.alpha b.layer.alpha)
-        (pixel image (source_pixel b.layer.src b.layer.flip b.layer.turn b.layer.dest dx dy).0
-        (source_pixel b.layer.src b.layer.flip b.layer.turn b.layer.dest dx dy).1)))
+    (pixel image (source_pixel b.layer.src b.layer.flip b.layer.turn b.layer.dest dx dy).0
+    (source_pixel b.layer.src b.layer.flip b.layer.turn b.layer.dest dx dy).1)))
 texel_at_place b false image mask p dx dy colours ex ey =
     let l : Layer = (by_mask b false).layer in
     let place : ℕ × ℕ = source_pixel l.src l.flip l.turn l.dest dx dy in
@@ -136,7 +147,7 @@ texel_at_place b true image (Some m) p dx dy colours ex ey =
     let place : ℕ × ℕ = source_pixel l.src l.flip l.turn l.dest dx dy in
     (λ i. texel_by l image (ex i >>= (λ d. ey i >>= (λ e. Some (pixel m d e).a))) (ex i) (ey i))
     ∙ ap Some (lift_masked (pixel image place.0 place.1) image.format l.transparency.alpha l.transparency.source l.alpha (pixel m dx dy).a
-        colours)
+    colours)
 
 -- by the distances on the target
 pub texel_is : (b : Bound) (image : Bitmap) (x y a d : ℕ) → b.source ≡ Some image → image.format ≢ A8
@@ -150,11 +161,11 @@ texel_is b image x y a d source colours ex ey =
     ap (λ (s : Option Bitmap). texel_of l s (mask_of l b.mask p.0 p.1) p.0 p.1) source
     ∙ texel_at_place b l.transparency.mask image b.mask p q.0 q.1 colours both.0 both.1
     ∙ ap (λ (place : ℕ × ℕ). if l.transparency.mask then b.mask >>=
-        (λ m. Some
-        (scaled (lifted_pixel (mode_of image.format l.transparency.source) (fade_of l.transparency.alpha l.alpha)
-        (pixel image place.0 place.1)) (mask_value b m a d)))
+    (λ m. Some
+    (scaled (lifted_pixel (mode_of image.format l.transparency.source) (fade_of l.transparency.alpha l.alpha)
+    (pixel image place.0 place.1)) (mask_value b m a d)))
     else Some (lifted_pixel (mode_of image.format l.transparency.source) (fade_of l.transparency.alpha l.alpha)
-        (pixel image place.0 place.1)))
+    (pixel image place.0 place.1)))
     (place_is b.turn l.turn l b.source b.mask b.space a d)
 
 -- ---- the pixel lies in the image
@@ -187,13 +198,13 @@ pub unmasked : (b : Bound) (image : Bitmap) (a d : ℕ) → b.layer.transparency
     → Some (lifted_texel b image a d) ≡ placed_texel b image a d
 unmasked b image a d set =
     ap (λ (m : Bool). if m then b.mask >>= (λ i. Some (scaled (lifted_texel b image a d) (mask_value b i a d))) else Some
-        (lifted_texel b image a d)) (sym set)
+    (lifted_texel b image a d)) (sym set)
 
 pub without_mask : (b : Bound) (image : Bitmap) (a d : ℕ) → b.layer.transparency.mask ≡ true → b.mask ≡ None
     → placed_texel b image a d ≡ None
 without_mask b image a d set none =
     ap (λ (m : Bool). if m then b.mask >>= (λ i. Some (scaled (lifted_texel b image a d) (mask_value b i a d))) else Some
-        (lifted_texel b image a d)) set
+    (lifted_texel b image a d)) set
     ∙ ap (λ (mask : Option Bitmap). mask >>= (λ i. Some (scaled (lifted_texel b image a d) (mask_value b i a d)))) none
 
 pub with_mask : (b : Bound) (image mask : Bitmap) (a d : ℕ) → b.layer.transparency.mask ≡ true → b.mask ≡ Some mask
@@ -201,5 +212,5 @@ pub with_mask : (b : Bound) (image mask : Bitmap) (a d : ℕ) → b.layer.transp
 with_mask b image mask a d set some =
     sym
     (ap (λ (m : Bool). if m then b.mask >>= (λ i. Some (scaled (lifted_texel b image a d) (mask_value b i a d))) else Some
-        (lifted_texel b image a d)) set
+    (lifted_texel b image a d)) set
     ∙ ap (λ (mask : Option Bitmap). mask >>= (λ i. Some (scaled (lifted_texel b image a d) (mask_value b i a d)))) some)

@@ -55,7 +55,7 @@ stretch_is b columns rows first width y from to s across down a c d e f few left
             let at : s.x + j ≡ columns.start + (from - columns.start + j) = omega arith in
             let to : columns.skip + (from - columns.start + j) ≡ s.across + j = omega arith in
             ap (λ (k : ℕ). along (placed b).x (placed b).w (pos k)) at ∙ across.covered (from - columns.start + j) (omega arith)
-                ∙ ap (λ (k : ℕ). Some k) to;
+            ∙ ap (λ (k : ℕ). Some k) to;
         row = row;
       };
       row = y_is;

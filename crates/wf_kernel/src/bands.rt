@@ -161,7 +161,8 @@ fn paint_band(
     requires first { start % (rows * (4 * size.w)) ≡ 0 }
     requires count { length part.old ≡ min (rows * (4 * size.w)) (size.w * size.h * 4 - start) }
     requires within { start + length part.old ≤ size.w * size.h * 4 }
-    ensures { (k : ℕ) → k < length part.old → slice_index part.new k ≡ slice_index (bound_rows size.w layers.now background 0 size.h) (start + k) }
+    ensures { (k : ℕ) → k < length part.old → slice_index part.new k
+        ≡ slice_index (bound_rows size.w layers.now background 0 size.h) (start + k) }
 {
     let stride = 4 * size.w as usize;
     paint(part, size.w, layers, background, (start / stride) as u32);

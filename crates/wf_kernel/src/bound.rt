@@ -45,9 +45,21 @@ impl<'a> Model for BoundLayer<'a> {
 
     ghost use Rattle.wf_kernel.specs.Prepared.{IsPrepared};
 
-    ghost view = { λ b. record { layer = b.layer; source = option_copied b.source; mask = option_copied b.mask; turn = b.turn; space = b.space } };
+    ghost view = { λ b. record {
+      layer = b.layer;
+      source = option_copied b.source;
+      mask = option_copied b.mask;
+      turn = b.turn;
+      space = b.space;
+    } };
 
-    ghost invariant = { λ b. IsPrepared (record { layer = b.layer; source = option_copied b.source; mask = option_copied b.mask; turn = b.turn; space = b.space }) b.columns b.rows b.hides b.crossed b.walk b.table.now };
+    ghost invariant = { λ b. IsPrepared (record {
+      layer = b.layer;
+      source = option_copied b.source;
+      mask = option_copied b.mask;
+      turn = b.turn;
+      space = b.space;
+    }) b.columns b.rows b.hides b.crossed b.walk b.table.now };
 }
 
 /// A rectangle of one pixel.
@@ -114,7 +126,8 @@ fn bind_layer<'a>(
 ) -> BoundLayer<'a>
     requires sides { IsTrue (has_sides scene.now.size) }
     requires fits { LayerFits contents.now layer }
-    requires table { needs_table scene.now.turn layer ≡ true → IsTable scene.now.turn (turned scene.now.turn scene.now.size) layer table.now }
+    requires table { needs_table scene.now.turn layer ≡ true → IsTable scene.now.turn (turned scene.now.turn scene.now.size) layer
+        table.now }
     ensures { result ≡ bound scene.now contents.now layer }
 {
     let space = turned(scene.turn, scene.size);

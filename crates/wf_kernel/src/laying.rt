@@ -130,7 +130,8 @@ fn lay_masked(
     requires values { mask.now.format ≡ Format.A8 }
     requires size { mask.now.size ≡ size_of layer.now.layer.dest }
     requires stretch { IsStretch layer.now stretch }
-    ensures { part.new ≡ laid stretch.len (λ i. Some (scaled (lifted_pixel mode fade (read_at Rgba8Pre line.now (4 * i))) (mask_value layer.now mask.now (stretch.across + i) stretch.down))) part.old }
+    ensures { part.new ≡ laid stretch.len (λ i. Some (scaled (lifted_pixel mode fade (read_at Rgba8Pre line.now (4 * i)))
+        (mask_value layer.now mask.now (stretch.across + i) stretch.down))) part.old }
 {
     if layer.turn == Rotation::R0 {
         let values = straight_values(layer, mask, stretch);
@@ -155,7 +156,8 @@ fn lay_turned(
     requires values { mask.now.format ≡ Format.A8 }
     requires size { mask.now.size ≡ size_of layer.now.layer.dest }
     requires stretch { IsStretch layer.now stretch }
-    ensures { part.new ≡ laid stretch.len (λ i. Some (scaled (lifted_pixel mode fade (read_at Rgba8Pre line.now (4 * i))) (mask_value layer.now mask.now (stretch.across + i) stretch.down))) part.old }
+    ensures { part.new ≡ laid stretch.len (λ i. Some (scaled (lifted_pixel mode fade (read_at Rgba8Pre line.now (4 * i)))
+        (mask_value layer.now mask.now (stretch.across + i) stretch.down))) part.old }
 {
     let mut values = [0; 1024];
     let values = &mut values[..stretch.len as usize];

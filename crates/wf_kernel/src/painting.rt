@@ -159,7 +159,8 @@ fn begin_strip(
     requires strip { IsStrip layers.now width strip }
     requires from { strip.from ≤ y }
     requires bottom { y < strip.bottom }
-    ensures colours { row.new ≡ drawn_row strip.width Format.Rgba8Pre (λ x. bound_colour (take result layers.now) background (strip.first + x) y) }
+    ensures colours { row.new ≡ drawn_row strip.width Format.Rgba8Pre (λ x.
+        bound_colour (take result layers.now) background (strip.first + x) y) }
     ensures within { result ≤ strip.top }
 {
     match strip.base {

@@ -4,7 +4,8 @@ ghost use Rattle.std.specs.Prelude.{◌≡◌, ◌+◌, ◌-◌, ◌*◌, ◌<�
 ghost use Rattle.wf_pixel.specs.Arithmetic.{samp};
 ghost use Rattle.wf_pixel.specs.Choice.{has_sides};
 ghost use Rattle.wf_pixel.specs.Place.{turned, size_of, IsDrawn};
-ghost use Rattle.wf_kernel.specs.Placed.{mirrored, left_on, top_on, turned_rect, flipped, left_of, top_of, across, down, is_quarter, is_crossed, is_backward};
+ghost use Rattle.wf_kernel.specs.Placed.{mirrored, left_on, top_on, turned_rect, flipped, left_of, top_of, across, down, is_quarter};
+ghost use Rattle.wf_kernel.specs.Placed.{is_crossed, is_backward};
 ghost use Rattle.wf_kernel.specs.Prepared.{IsWalk, needs_table};
 
 use wf_pixel::{Rect, Rotation, Size, samp, turned};

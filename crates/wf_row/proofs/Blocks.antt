@@ -62,7 +62,7 @@ masked_joined (suc n) (m ∷ ms) (r ∷ b ∷ low) (g ∷ a ∷ high) s l h =
 pub over_joined : (n : ℕ) (low high under upper : List ℕ) → length low ≡ 2 * n → length high ≡ 2 * n → length under ≡ 2 * n
     → length upper ≡ 2 * n
     → zip2 (λ a b. min 255 (a + b)) (joined low high) (joined (zip2 mul under (map (λ a. 255 - a) (seconds high)))
-        (zip2 mul upper (map (λ a. 255 - a) (seconds high))))
+    (zip2 mul upper (map (λ a. 255 - a) (seconds high))))
     ≡ over_bytes (joined low high) (joined under upper)
 over_joined zero [] high under upper l h u v = refl
 over_joined zero (r ∷ low) high under upper l h u v = absurd (omega arith)
@@ -76,4 +76,4 @@ over_joined (suc n) (r ∷ b ∷ low) (g ∷ a ∷ high) (x ∷ y ∷ under) [] 
 over_joined (suc n) (r ∷ b ∷ low) (g ∷ a ∷ high) (x ∷ y ∷ under) (z ∷ []) l h u v = absurd (omega arith)
 over_joined (suc n) (r ∷ b ∷ low) (g ∷ a ∷ high) (x ∷ y ∷ under) (z ∷ w ∷ upper) l h u v =
     λ i. channel_over a r x ∷ channel_over a g z ∷ channel_over a b y ∷ channel_over a a w
-        ∷ over_joined n low high under upper (omega arith) (omega arith) (omega arith) (omega arith) i
+    ∷ over_joined n low high under upper (omega arith) (omega arith) (omega arith) (omega arith) i

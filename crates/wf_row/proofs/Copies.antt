@@ -1,6 +1,30 @@
 -- Opaque pixels.
-use Rattle.std.proofs.Common.{◌≡◌, ℕ, zero, suc, ◌+◌, ◌*◌, ◌<◌, ◌≤◌, List, [], ◌∷◌, ◌++◌, length, take, drop, get_or, bit_or, refl, sym,
-    ap, ◌∙◌, arith, Fits, w8}
+use Rattle.std.proofs.Common.{
+  ◌≡◌,
+  ℕ,
+  zero,
+  suc,
+  ◌+◌,
+  ◌*◌,
+  ◌<◌,
+  ◌≤◌,
+  List,
+  [],
+  ◌∷◌,
+  ◌++◌,
+  length,
+  take,
+  drop,
+  get_or,
+  bit_or,
+  refl,
+  sym,
+  ap,
+  ◌∙◌,
+  arith,
+  Fits,
+  w8,
+}
 use Rattle.std.specs.Simd.Lanes.{zip2, Each1, chunk, put_chunk}
 use Rattle.std.proofs.lemmas.Simd.{length-chunk, put_chunk_is, Each1-from_get_or}
 use Rattle.std.proofs.lemmas.List.{drop-drop}
@@ -47,7 +71,7 @@ lanes_written f p m j n k next src old row piece n_is k_is next_is room same row
     let new_is : put_chunk n row piece ≡ take n row ++ (piece ++ drop next row) =
     put_chunk_is n row piece (omega arith)
     ∙ ap (λ (xs : List ℕ). take n row ++ (piece ++ xs)) (ap (λ (i : ℕ). drop i (drop n row)) piece_len ∙ drop-drop k n row
-        ∙ ap (λ (i : ℕ). drop i row) (sym next_is)) in
+    ∙ ap (λ (i : ℕ). drop i row) (sym next_is)) in
     written_more f p m n k next src old row (put_chunk n row piece) piece n_is next_is room same before new_is piece_is
 
 -- an opaque pixel over another is itself
@@ -68,7 +92,7 @@ over_opaque (suc m) (r ∷ g ∷ b ∷ a ∷ xs) (u ∷ v ∷ []) l d x = absurd
 over_opaque (suc m) (r ∷ g ∷ b ∷ a ∷ xs) (u ∷ v ∷ w ∷ []) l d x = absurd (omega arith)
 over_opaque (suc m) (r ∷ g ∷ b ∷ a ∷ xs) (u ∷ v ∷ w ∷ z ∷ ys) l d x =
     λ i. sym (channel_is r u x.0) i ∷ sym (channel_is g v x.1.0) i ∷ sym (channel_is b w x.1.1.0) i ∷ sym (channel_is 255 z (omega arith)) i
-        ∷ over_opaque m xs ys (omega arith) (omega arith) x.1.1.1.1 i
+    ∷ over_opaque m xs ys (omega arith) (omega arith) x.1.1.1.1 i
 
 pub copied_over : (m : ℕ) (xs ys : List ℕ) → length xs ≡ 4 * m → length ys ≡ 4 * m → ((i : ℕ) → Fits w8 (get_or xs i 0))
     → premultiplied_bytes Opaque xs ≡ over_bytes (premultiplied_bytes Opaque xs) ys

@@ -1,6 +1,29 @@
 -- Pixels from the last one to the first.
-use Rattle.std.proofs.Common.{◌≡◌, ℕ, zero, suc, ◌+◌, ◌-◌, ◌*◌, ◌≤◌, List, [], ◌∷◌, ◌++◌, length, take, drop, refl, sym, ap, subst, ◌∙◌,
-    arith, append_assoc, length-append}
+use Rattle.std.proofs.Common.{
+  ◌≡◌,
+  ℕ,
+  zero,
+  suc,
+  ◌+◌,
+  ◌-◌,
+  ◌*◌,
+  ◌≤◌,
+  List,
+  [],
+  ◌∷◌,
+  ◌++◌,
+  length,
+  take,
+  drop,
+  refl,
+  sym,
+  ap,
+  subst,
+  ◌∙◌,
+  arith,
+  append_assoc,
+  length-append,
+}
 use Rattle.std.specs.Simd.Lanes.{chunk, put_chunk, pick_l}
 use Rattle.std.proofs.lemmas.Simd.{pick_l_whole, chunk-drop, length-chunk, put_chunk_is}
 use Rattle.std.proofs.lemmas.List.{take_at, drop_all, drop-drop, append-nil, length-drop, take-append-drop, length-take-le}
@@ -23,7 +46,7 @@ reversed_append (suc m) (r ∷ g ∷ []) ys len = absurd (omega arith)
 reversed_append (suc m) (r ∷ g ∷ b ∷ []) ys len = absurd (omega arith)
 reversed_append (suc m) (r ∷ g ∷ b ∷ a ∷ xs) ys len =
     ap (λ (l : List ℕ). l ++ (r ∷ g ∷ b ∷ a ∷ [])) (reversed_append m xs ys (omega arith))
-        ∙ append_assoc (reversed ys) (reversed xs) (r ∷ g ∷ b ∷ a ∷ [])
+    ∙ append_assoc (reversed ys) (reversed xs) (r ∷ g ∷ b ∷ a ∷ [])
 
 pub reversed_count : (m : ℕ) (xs : List ℕ) → length xs ≡ 4 * m → length (reversed xs) ≡ 4 * m
 reversed_count zero [] len = refl
@@ -32,8 +55,11 @@ reversed_count (suc m) [] len = absurd (omega arith)
 reversed_count (suc m) (r ∷ []) len = absurd (omega arith)
 reversed_count (suc m) (r ∷ g ∷ []) len = absurd (omega arith)
 reversed_count (suc m) (r ∷ g ∷ b ∷ []) len = absurd (omega arith)
-reversed_count (suc m) (r ∷ g ∷ b ∷ a ∷ xs) len = omega (arith, length-append (reversed xs) (r ∷ g ∷ b ∷ a ∷ []),
-    reversed_count m xs (omega arith))
+reversed_count (suc m) (r ∷ g ∷ b ∷ a ∷ xs) len = omega (
+  arith,
+  length-append (reversed xs) (r ∷ g ∷ b ∷ a ∷ []),
+  reversed_count m xs (omega arith),
+)
 
 -- the last n bytes reversed, and the others as they were
 abbrev pub reversed_to : ℕ → List ℕ → List ℕ → List ℕ
@@ -51,7 +77,7 @@ reversed_more m n next from j src old row piece whole n_is next_is room from_is 
     let piece_len : length piece ≡ 16 = ap length piece_is ∙ reversed_count 4 (chunk from 16 src) chunk_len in
     let front : take n row ≡ reversed last = ap (take n) before ∙ take_at (reversed last) (drop n old) n (sym done_len) in
     let rest : drop n row ≡ drop n old = ap (drop n) before ∙ ap (λ (i : ℕ). drop i (reversed last ++ drop n old)) done_len
-        ∙ drop-append_seam (reversed last) (drop n old) in
+    ∙ drop-append_seam (reversed last) (drop n old) in
     let behind : drop (length piece) (drop n row) ≡ drop next old =
     ap (λ (i : ℕ). drop i (drop n row)) piece_len ∙ ap (drop 16) rest ∙ drop-drop 16 n old ∙ ap (λ (i : ℕ). drop i old) (sym next_is) in
     let end : from + 16 ≡ length src - n = omega arith in

@@ -1,6 +1,37 @@
 -- A row that is written piece by piece.
-use Rattle.std.proofs.Common.{◌≡◌, ℕ, zero, suc, ◌+◌, ◌-◌, ◌*◌, ◌≤◌, List, [], ◌∷◌, ◌++◌, length, take, drop, get_or, replicate, Fits, w8,
-    ◌<◌, length-append, length-drop, Option, Some, None, refl, sym, ap, ◌∙◌, append_assoc, arith}
+use Rattle.std.proofs.Common.{
+  ◌≡◌,
+  ℕ,
+  zero,
+  suc,
+  ◌+◌,
+  ◌-◌,
+  ◌*◌,
+  ◌≤◌,
+  List,
+  [],
+  ◌∷◌,
+  ◌++◌,
+  length,
+  take,
+  drop,
+  get_or,
+  replicate,
+  Fits,
+  w8,
+  ◌<◌,
+  length-append,
+  length-drop,
+  Option,
+  Some,
+  None,
+  refl,
+  sym,
+  ap,
+  ◌∙◌,
+  append_assoc,
+  arith,
+}
 use Rattle.std.specs.Simd.Lanes.{chunk, put_chunk, Each1}
 use Rattle.std.proofs.Math.Seq.{take-add, drop-append_seam}
 use Rattle.std.proofs.lemmas.List.{take_at, take_all, drop_all, drop-drop, length-take-le, map-append, length-map, append-nil}
@@ -24,7 +55,7 @@ written f n src old = f (take n src) (take n old) ++ drop n old
 pub written_more : (f : List ℕ → List ℕ → List ℕ) → Pixelwise f → (m n k next : ℕ) (src old row new piece : List ℕ)
     → n ≡ 4 * m → next ≡ n + k → next ≤ length src → length old ≡ length src
     → row ≡ written f n src old → new ≡ take n row ++ (piece ++ drop next row) → piece ≡ f (chunk n k src) (chunk n k row)
-        → new ≡ written f next src old
+    → new ≡ written f next src old
 written_more f p m n k next src old row new piece n_is next_is room same before after piece_is =
     let src_len : length (take n src) ≡ 4 * m = length-take-le n src (omega arith) ∙ n_is in
     let old_len : length (take n old) ≡ 4 * m = length-take-le n old (omega arith) ∙ n_is in
@@ -32,10 +63,10 @@ written_more f p m n k next src old row new piece n_is next_is room same before 
     let done_len : n ≡ length done = n_is ∙ sym (p.count m (take n src) (take n old) src_len old_len) in
     let front : take n row ≡ done = ap (take n) before ∙ take_at done (drop n old) n (sym done_len) in
     let rest : drop n row ≡ drop n old = ap (drop n) before ∙ ap (λ (j : ℕ). drop j (done ++ drop n old)) done_len
-        ∙ drop-append_seam done (drop n old) in
+    ∙ drop-append_seam done (drop n old) in
     let further : drop next row ≡ drop next old =
     ap (λ (j : ℕ). drop j row) next_is ∙ sym (drop-drop k n row) ∙ ap (drop k) rest ∙ drop-drop k n old
-        ∙ ap (λ (j : ℕ). drop j old) (sym next_is) in
+    ∙ ap (λ (j : ℕ). drop j old) (sym next_is) in
     let piece_of : piece ≡ f (chunk n k src) (chunk n k old) = piece_is ∙ ap (λ (xs : List ℕ). f (chunk n k src) (take k xs)) rest in
     let all_src : take n src ++ chunk n k src ≡ take next src = sym (take-add n k src) ∙ ap (λ (j : ℕ). take j src) (sym next_is) in
     let all_old : take n old ++ chunk n k old ≡ take next old = sym (take-add n k old) ∙ ap (λ (j : ℕ). take j old) (sym next_is) in
@@ -108,7 +139,7 @@ over_append (suc m) (r ∷ g ∷ b ∷ a ∷ ps) (x ∷ y ∷ []) us vs l d = ab
 over_append (suc m) (r ∷ g ∷ b ∷ a ∷ ps) (x ∷ y ∷ z ∷ []) us vs l d = absurd (omega arith)
 over_append (suc m) (r ∷ g ∷ b ∷ a ∷ ps) (x ∷ y ∷ z ∷ w ∷ ds) us vs l d =
     λ i. channel_over a r x ∷ channel_over a g y ∷ channel_over a b z ∷ channel_over a a w
-        ∷ over_append m ps ds us vs (omega arith) (omega arith) i
+    ∷ over_append m ps ds us vs (omega arith) (omega arith) i
 
 pub over_count : (m : ℕ) (ps ds : List ℕ) → length ps ≡ 4 * m → length ds ≡ 4 * m → length (over_bytes ps ds) ≡ 4 * m
 over_count zero [] ds l d = refl
@@ -137,11 +168,11 @@ pub chunk_written : (f : List ℕ → List ℕ → List ℕ) → Pixelwise f →
     → row ≡ written f n src old → piece ≡ f (chunk n 32 src) (chunk n 32 row) → put_chunk n row piece ≡ written f next src old
 chunk_written f p m n next src old row piece n_is next_is room same rows before piece_is =
     let piece_len : length piece ≡ 32 = ap length piece_is
-        ∙ p.count 8 (chunk n 32 src) (chunk n 32 row) (length-chunk n 32 src (omega arith)) (length-chunk n 32 row (omega arith)) in
+    ∙ p.count 8 (chunk n 32 src) (chunk n 32 row) (length-chunk n 32 src (omega arith)) (length-chunk n 32 row (omega arith)) in
     let new_is : put_chunk n row piece ≡ take n row ++ (piece ++ drop next row) =
     put_chunk_is n row piece (omega arith)
     ∙ ap (λ (xs : List ℕ). take n row ++ (piece ++ xs)) (ap (λ (j : ℕ). drop j (drop n row)) piece_len ∙ drop-drop 32 n row
-        ∙ ap (λ (j : ℕ). drop j row) (sym next_is)) in
+    ∙ ap (λ (j : ℕ). drop j row) (sym next_is)) in
     written_more f p m n 32 next src old row (put_chunk n row piece) piece n_is next_is room same before new_is piece_is
 
 -- the bytes from n on written as one piece
@@ -153,7 +184,7 @@ rest_written f p m n k src old row piece n_is end same before piece_is =
     ap (λ (xs : List ℕ). take n row ++ (piece ++ xs)) (drop-drop k n row ∙ ap (λ (j : ℕ). drop j row) end) in
     written_more f p m n k (length src) src old row (put_mid n k row piece) piece n_is (sym end) (omega arith) same before new_is piece_is
     ∙ (λ i. f (take_all (length src) src (omega arith) i) (take_all (length src) old (omega arith) i)
-        ++ drop_all (length src) old (omega arith) i)
+    ++ drop_all (length src) old (omega arith) i)
     ∙ append-nil (f src old)
 
 -- ---- the last pixels, padded
@@ -184,4 +215,4 @@ pub rest_blended : (f : List ℕ → List ℕ → List ℕ) → Pixelwise f → 
     → take n (f (xs ++ us) (ys ++ vs)) ≡ f xs ys
 rest_blended f p m n xs ys us vs n_is x y =
     ap (take n) (p.append m xs ys us vs (x ∙ n_is) (y ∙ n_is))
-        ∙ take_at (f xs ys) (f us vs) n (p.count m xs ys (x ∙ n_is) (y ∙ n_is) ∙ sym n_is)
+    ∙ take_at (f xs ys) (f us vs) n (p.count m xs ys (x ∙ n_is) (y ∙ n_is) ∙ sym n_is)

@@ -1,6 +1,35 @@
 -- What the operations of vectors do to lanes that are bytes.
-use Rattle.std.proofs.Common.{◌≡◌, ℕ, zero, suc, ◌+◌, ◌-◌, ◌*◌, ◌/◌, ◌%◌, ◌^◌, ◌<◌, ◌≤◌, List, [], ◌∷◌, ◌++◌, length, replicate, bit_and,
-    bit_or, min, map, cond, refl, sym, ap, subst, ◌∙◌, arith}
+use Rattle.std.proofs.Common.{
+  ◌≡◌,
+  ℕ,
+  zero,
+  suc,
+  ◌+◌,
+  ◌-◌,
+  ◌*◌,
+  ◌/◌,
+  ◌%◌,
+  ◌^◌,
+  ◌<◌,
+  ◌≤◌,
+  List,
+  [],
+  ◌∷◌,
+  ◌++◌,
+  length,
+  replicate,
+  bit_and,
+  bit_or,
+  min,
+  map,
+  cond,
+  refl,
+  sym,
+  ap,
+  subst,
+  ◌∙◌,
+  arith,
+}
 use Rattle.std.specs.Simd.Lanes.{zip2, Each1, number_l, digits_l, pick_l, sel_l, top}
 use Rattle.std.proofs.lemmas.Simd.{pick_l_whole, length-zip2}
 use Rattle.std.proofs.lemmas.Nat.{mul-le, and_mask, and_le_r}
@@ -43,7 +72,7 @@ shifted_down a b = a / 2 ^ b
 
 pub mul_zip : (n : ℕ) (xs qs : List ℕ) → length xs ≡ n → Each1 byte xs → Each1 byte qs
     → zip2 shifted_down (zip2 plus (zip2 plus (zip2 times xs qs) (replicate n 128))
-        (zip2 shifted_down (zip2 plus (zip2 times xs qs) (replicate n 128)) (replicate n 8))) (replicate n 8)
+    (zip2 shifted_down (zip2 plus (zip2 times xs qs) (replicate n 128)) (replicate n 8))) (replicate n 8)
     ≡ zip2 mul xs qs
 mul_zip n [] qs len x q = refl
 mul_zip n (a ∷ xs) [] len x q = refl
@@ -125,13 +154,13 @@ pub seconds_are : (xs : List ℕ) → length xs ≡ 16
     → pick_l 0 (xs ++ xs) (1 ∷ 1 ∷ 3 ∷ 3 ∷ 5 ∷ 5 ∷ 7 ∷ 7 ∷ 9 ∷ 9 ∷ 11 ∷ 11 ∷ 13 ∷ 13 ∷ 15 ∷ 15 ∷ []) ≡ seconds xs
 seconds_are xs len =
     subst (λ (ys : List ℕ). pick_l 0 (ys ++ ys) (1 ∷ 1 ∷ 3 ∷ 3 ∷ 5 ∷ 5 ∷ 7 ∷ 7 ∷ 9 ∷ 9 ∷ 11 ∷ 11 ∷ 13 ∷ 13 ∷ 15 ∷ 15 ∷ []) ≡ seconds ys)
-        (pick_l_whole 0 xs 16 len) refl
+    (pick_l_whole 0 xs 16 len) refl
 
 pub twice_are : (xs : List ℕ) → length xs ≡ 8
     → pick_l 0 (map (λ x. x) xs ++ map (λ x. x) xs) (0 ∷ 0 ∷ 1 ∷ 1 ∷ 2 ∷ 2 ∷ 3 ∷ 3 ∷ 4 ∷ 4 ∷ 5 ∷ 5 ∷ 6 ∷ 6 ∷ 7 ∷ 7 ∷ []) ≡ twice xs
 twice_are xs len =
     subst (λ (ys : List ℕ). pick_l 0 (map (λ x. x) ys ++ map (λ x. x) ys) (0 ∷ 0 ∷ 1 ∷ 1 ∷ 2 ∷ 2 ∷ 3 ∷ 3 ∷ 4 ∷ 4 ∷ 5 ∷ 5 ∷ 6 ∷ 6 ∷ 7 ∷ 7
-        ∷ []) ≡ twice ys) (pick_l_whole 0 xs 8 len) refl
+    ∷ []) ≡ twice ys) (pick_l_whole 0 xs 8 len) refl
 
 -- ---- sums that stop at 255
 abbrev lane_sum : ℕ → ℕ → ℕ
@@ -142,7 +171,7 @@ sum_lane x y a b = grind (arith, nat_tests)
 
 pub sum_zip : (xs ys : List ℕ) → Each1 byte xs → Each1 byte ys
     → zip2 (λ a b. (a + b) % 256) xs (sel_l (map (top 7) (zip2 (λ a b. cond (ltb a b) 255 0) ys (map (λ a. 255 - a) xs))) ys
-        (map (λ a. 255 - a) xs))
+    (map (λ a. 255 - a) xs))
     ≡ zip2 (λ a b. min 255 (a + b)) xs ys
 sum_zip [] ys x y = refl
 sum_zip (a ∷ xs) [] x y = refl
@@ -238,7 +267,7 @@ joined-Bytes (suc n) (a ∷ xs) (b ∷ ys) x y =
     let lx = x.count in
     let ly = y.count in
     let rest = joined-Bytes n xs ys (record { count = omega arith; below = x.below.1 })
-        (record { count = omega arith; below = y.below.1 }) in
+    (record { count = omega arith; below = y.below.1 }) in
     let rest_len = rest.count in
     record { count = omega arith; below = (x.below.0, (y.below.0, rest.below)) }
 

@@ -7,7 +7,7 @@ use Rattle.wf_kernel.proofs.fitting.fits.Goals as goal
 pub loop-layer-preserved : goal.loop-layer-preserved
 loop-layer-preserved c =
     All-more (LayerFits c.args.contents.now) c.as_slice-layer-items.result.now c.loop-layer.layer-index _ c.loop-layer-test.true
-        c.loop-layer.invariant (c.if-not-layer_fits.ensures refl)
+    c.loop-layer.invariant (c.if-not-layer_fits.ensures refl)
 
 pub returns : goal.returns
 returns c =

@@ -8,5 +8,5 @@ returns-then-eq c =
     let s = c.args.stretch in
     c.blend_masked_row.ensures
     ∙ masked_laid c.args.mode c.args.fade s.len (λ i. mask_value c.args.layer.now c.args.mask.now (s.across + i) s.down) c.args.line.now
-        c.args.part.now c.straight_values-values.result.now
+    c.args.part.now c.straight_values-values.result.now
     c.requires.line c.requires.count c.straight_values-values.ensures.len c.straight_values-values.ensures.value

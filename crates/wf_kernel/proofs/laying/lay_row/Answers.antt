@@ -34,4 +34,4 @@ returns-in-Some c =
     ∙ ap (λ (l : List ℕ). take (4 * a) row ++ (piece ++ l)) (drop-drop (4 * s.len) (4 * a) row)
     ∙ ap (λ (k : ℕ). take (4 * a) row ++ (piece ++ drop k row)) stop
     ∙ part_laid c.args.width a s.len texel row piece (omega arith) c.requires.count (λ x low. is.before x (omega arith))
-        (λ x high low. is.behind x (omega arith) low) piece_is
+    (λ x high low. is.behind x (omega arith) low) piece_is

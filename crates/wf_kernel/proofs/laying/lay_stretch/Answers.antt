@@ -25,7 +25,7 @@ returns-then-eq c =
     c.lay_line.ensures
     ∙ laid_same s.len (λ i. placed_texel b image (s.across + i) s.down) (λ i. bound_texel b (s.x + i) s.y) c.args.part.now
     (λ i low. sym (texel_is b image (s.x + i) s.y (s.across + i) s.down some (has_colours b image prepared.showable some)
-        (c.requires.stretch.columns i low) c.requires.stretch.row))
+    (c.requires.stretch.columns i low) c.requires.stretch.row))
 
 pub returns-else-eq : goal.returns-else-eq
 returns-else-eq c =
@@ -37,4 +37,4 @@ returns-else-eq c =
     c.lay_line-else-eq.ensures
     ∙ laid_same s.len (λ i. placed_texel b image (s.across + i) s.down) (λ i. bound_texel b (s.x + i) s.y) c.args.part.now
     (λ i low. sym (texel_is b image (s.x + i) s.y (s.across + i) s.down some (has_colours b image prepared.showable some)
-        (c.requires.stretch.columns i low) c.requires.stretch.row))
+    (c.requires.stretch.columns i low) c.requires.stretch.row))

@@ -22,6 +22,6 @@ pub returns-clause-some : goal.returns-clause-some
 returns-clause-some c =
     let prepared = prepared_as c.layer.view_is c.layer.invariant in
     stretch_is c.args.layer.now c.layer.inside.columns c.layer.inside.rows c.args.first c.args.width c.args.y c.max-start.result
-        c.min-end.result _ prepared.columns_are prepared.rows_are
+    c.min-end.result _ prepared.columns_are prepared.rows_are
     (omega arith) (omega arith) (omega arith) (omega arith) (omega arith) (omega arith) (λ j a b. omega arith) (λ j a b. omega arith)
-        (omega arith) (omega arith) refl refl refl refl refl
+    (omega arith) (omega arith) refl refl refl refl refl

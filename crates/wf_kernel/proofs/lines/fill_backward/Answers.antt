@@ -15,11 +15,11 @@ row_part-requires-clause-y c =
     let s = c.args.stretch in
     let prepared = prepared_as c.layer.view_is c.layer.invariant in
     let row : c.down-row.result ≡ down b.turn b.layer s.down = c.down-row.ensures.value
-        ∙ ap (λ (b : Bound). down b.turn b.layer s.down) c.layer.view_is in
+    ∙ ap (λ (b : Bound). down b.turn b.layer s.down) c.layer.view_is in
     let some = c.requires.stretch.some in
     let inside = c.requires.stretch.inside in
     let low = straight_low b c.args.image.now s.across s.down prepared.showable c.requires.source (omega arith) c.requires.stretch.below
-        c.requires.walk.straight in
+    c.requires.walk.straight in
     omega (arith, low.1)
 
 pub returns : goal.returns
@@ -30,9 +30,9 @@ returns c =
     let w : ℕ = c.layer.inside.layer.src.w in
     let first : ℕ = c.left_column.result + (w - s.across - s.len) in
     let row : c.down-row.result ≡ down b.turn b.layer s.down = c.down-row.ensures.value
-        ∙ ap (λ (b : Bound). down b.turn b.layer s.down) c.layer.view_is in
+    ∙ ap (λ (b : Bound). down b.turn b.layer s.down) c.layer.view_is in
     let left : c.left_column.result ≡ nat_abs b.layer.src.x = c.left_column.ensures
-        ∙ ap (λ (b : Bound). nat_abs b.layer.src.x) c.layer.view_is in
+    ∙ ap (λ (b : Bound). nat_abs b.layer.src.x) c.layer.view_is in
     let same : w ≡ b.layer.src.w = ap (λ (b : Bound). b.layer.src.w) c.layer.view_is in
     let wide = c.requires.walk.wide in
     let inside = c.requires.stretch.inside in

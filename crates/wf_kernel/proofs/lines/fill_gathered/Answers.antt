@@ -19,20 +19,20 @@ gather_column-requires-clause-within c = λ k d less.
     let prepared = prepared_as c.layer.view_is c.layer.invariant in
     let crossed : is_crossed b.turn b.layer ≡ true = sym prepared.crossed_is ∙ c.if-layer.true in
     let column : c.down-other.result ≡ down b.turn b.layer s.down = c.down-other.ensures.value
-        ∙ ap (λ (b : Bound). down b.turn b.layer s.down) c.layer.view_is in
+    ∙ ap (λ (b : Bound). down b.turn b.layer s.down) c.layer.view_is in
     let len = c.requires.len in
     let inside = c.requires.stretch.inside in
     let row : get_or c.args.places.now k d ≡ across b.turn b.layer (s.across + k) = get_or_default c.args.places.now k d 0 less
-        ∙ c.requires.places k (omega arith) in
+    ∙ c.requires.places k (omega arith) in
     let low = crossed_low b image (s.across + k) s.down prepared.showable c.requires.source (omega arith) c.requires.stretch.below
-        crossed in
+    crossed in
     let width : c.size-width.result.w ≡ image.size.w = ap (λ (size : Size). size.w) c.size-width.ensures.size in
     let bytes = ap (λ (l : List ℕ). length l) c.bytes.ensures.value in
     let place = place_in image (down b.turn b.layer s.down) (across b.turn b.layer (s.across + k))
-        (has_colours b image prepared.showable c.requires.source)
+    (has_colours b image prepared.showable c.requires.source)
     (sym bytes ∙ c.bytes.ensures.len) low.0 low.1 in
     let same : 4 * (c.down-other.result + get_or c.args.places.now k d * c.size-width.result.w)
-        ≡ 4 * (down b.turn b.layer s.down + across b.turn b.layer (s.across + k) * image.size.w) =
+    ≡ 4 * (down b.turn b.layer s.down + across b.turn b.layer (s.across + k) * image.size.w) =
     λ i. 4 * (column i + row i * width i) in
     omega arith
 
@@ -43,11 +43,11 @@ row_part-requires-clause-y c =
     let prepared = prepared_as c.layer.view_is c.layer.invariant in
     let straight : is_crossed b.turn b.layer ≡ false = sym prepared.crossed_is ∙ c.if-layer.false in
     let row : c.down-other.result ≡ down b.turn b.layer s.down = c.down-other.ensures.value
-        ∙ ap (λ (b : Bound). down b.turn b.layer s.down) c.layer.view_is in
+    ∙ ap (λ (b : Bound). down b.turn b.layer s.down) c.layer.view_is in
     let some = c.requires.stretch.some in
     let inside = c.requires.stretch.inside in
     let low = straight_low b c.args.image.now s.across s.down prepared.showable c.requires.source (omega arith) c.requires.stretch.below
-        straight in
+    straight in
     omega (arith, low.1)
 
 pub gather_row-requires-clause-within : goal.gather_row-requires-clause-within
@@ -60,9 +60,9 @@ gather_row-requires-clause-within c = λ k d less.
     let len = c.requires.len in
     let inside = c.requires.stretch.inside in
     let column : get_or c.args.places.now k d ≡ across b.turn b.layer (s.across + k) = get_or_default c.args.places.now k d 0 less
-        ∙ c.requires.places k (omega arith) in
+    ∙ c.requires.places k (omega arith) in
     let low = straight_low b image (s.across + k) s.down prepared.showable c.requires.source (omega arith) c.requires.stretch.below
-        straight in
+    straight in
     let width : c.size-width.result.w ≡ image.size.w = ap (λ (size : Size). size.w) c.size-width.ensures.size in
     omega (arith, low.0, c.row_part.ensures.len)
 
@@ -74,18 +74,18 @@ returns-then-layer c =
     let prepared = prepared_as c.layer.view_is c.layer.invariant in
     let crossed : is_crossed b.turn b.layer ≡ true = sym prepared.crossed_is ∙ c.if-layer.true in
     let column : c.down-other.result ≡ down b.turn b.layer s.down = c.down-other.ensures.value
-        ∙ ap (λ (b : Bound). down b.turn b.layer s.down) c.layer.view_is in
+    ∙ ap (λ (b : Bound). down b.turn b.layer s.down) c.layer.view_is in
     let some = c.requires.stretch.some in
     let inside = c.requires.stretch.inside in
     let width : c.size-width.result.w ≡ image.size.w = ap (λ (size : Size). size.w) c.size-width.ensures.size in
     let bytes = ap (λ (l : List ℕ). length l) c.bytes.ensures.value in
     let low = λ (i : ℕ) (less : i < s.len). crossed_low b image (s.across + i) s.down prepared.showable c.requires.source (omega arith)
-        c.requires.stretch.below crossed in
+    c.requires.stretch.below crossed in
     let first = low 0 (omega arith) in
     c.gather_column.ensures
     ∙ (λ i. gathered_column (c.bytes.ensures.value i) (column i) (width i) c.args.places.now)
     ∙ column_shown b image s.across s.down s.len c.args.places.now (has_colours b image prepared.showable c.requires.source) (sym bytes
-        ∙ c.bytes.ensures.len) crossed c.requires.len
+    ∙ c.bytes.ensures.len) crossed c.requires.len
     first.0 (λ i less. c.requires.places i less) (λ i less. (low i less).1)
 
 pub returns-else-layer : goal.returns-else-layer
@@ -96,11 +96,11 @@ returns-else-layer c =
     let prepared = prepared_as c.layer.view_is c.layer.invariant in
     let straight : is_crossed b.turn b.layer ≡ false = sym prepared.crossed_is ∙ c.if-layer.false in
     let row : c.down-other.result ≡ down b.turn b.layer s.down = c.down-other.ensures.value
-        ∙ ap (λ (b : Bound). down b.turn b.layer s.down) c.layer.view_is in
+    ∙ ap (λ (b : Bound). down b.turn b.layer s.down) c.layer.view_is in
     let inside = c.requires.stretch.inside in
     let width : c.size-width.result.w ≡ image.size.w = ap (λ (size : Size). size.w) c.size-width.ensures.size in
     let low = λ (i : ℕ) (less : i < s.len). straight_low b image (s.across + i) s.down prepared.showable c.requires.source (omega arith)
-        c.requires.stretch.below straight in
+    c.requires.stretch.below straight in
     c.gather_row.ensures
     ∙ row_shown b image s.across s.down s.len image.size.w c.row_part.result.now c.args.places.now straight c.requires.len
     (c.row_part.ensures.value ∙ (λ i. drawn_row (width i) Rgba8Pre (λ j. pixel image (0 + j) (row i))))

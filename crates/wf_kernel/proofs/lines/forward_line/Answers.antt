@@ -14,11 +14,11 @@ row_part-requires-clause-y c =
     let s = c.args.stretch in
     let prepared = prepared_as c.layer.view_is c.layer.invariant in
     let row : c.down-row.result ≡ down b.turn b.layer s.down = c.down-row.ensures.value
-        ∙ ap (λ (b : Bound). down b.turn b.layer s.down) c.layer.view_is in
+    ∙ ap (λ (b : Bound). down b.turn b.layer s.down) c.layer.view_is in
     let some = c.requires.stretch.some in
     let inside = c.requires.stretch.inside in
     let low = straight_low b c.args.image.now s.across s.down prepared.showable c.requires.source (omega arith) c.requires.stretch.below
-        c.requires.walk.straight in
+    c.requires.walk.straight in
     omega (arith, low.1)
 
 pub returns-clause-value : goal.returns-clause-value
@@ -28,9 +28,9 @@ returns-clause-value c =
     let image = c.args.image.now in
     let first : ℕ = c.left_column.result + s.across in
     let row : c.down-row.result ≡ down b.turn b.layer s.down = c.down-row.ensures.value
-        ∙ ap (λ (b : Bound). down b.turn b.layer s.down) c.layer.view_is in
+    ∙ ap (λ (b : Bound). down b.turn b.layer s.down) c.layer.view_is in
     let left : c.left_column.result ≡ nat_abs b.layer.src.x = c.left_column.ensures
-        ∙ ap (λ (b : Bound). nat_abs b.layer.src.x) c.layer.view_is in
+    ∙ ap (λ (b : Bound). nat_abs b.layer.src.x) c.layer.view_is in
     let wide = c.requires.walk.wide in
     let inside = c.requires.stretch.inside in
     c.row_part.ensures.value

@@ -14,7 +14,7 @@ returns-in-Some-clause-colours c =
     let y : ℕ = c.args.y in
     let InLayers : Option ℕ → Type 0 = λ o. IfSome o (λ j. j < s.top) in
     let Covers : Option ℕ → Type 0 = λ o. IfSome o (λ j. (d : Bound) (y : ℕ) → s.from ≤ y → y < s.bottom
-        → IsCover (get_or layers j d) s.first s.width y) in
+    → IsCover (get_or layers j d) s.first s.width y) in
     let base = c.in-Some.base in
     let layer = c.index-layers-base.result in
     c.lay_row.ensures

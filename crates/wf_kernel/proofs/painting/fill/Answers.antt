@@ -9,4 +9,4 @@ loop-x-preserved c =
     let cell : ℕ → List ℕ = λ _. stored Rgba8Pre c.args.color in
     let at : ℕ = 4 * c.loop-x.x in
     written_more cell 4 c.loop-x.x c.loop-x.row c.put_pixel.new.row c.args.row.now at (at + 4) (4 * (c.loop-x.x + 1)) (λ x. refl) refl refl
-        (omega arith) c.loop-x.invariant c.put_pixel.ensures
+    (omega arith) c.loop-x.invariant c.put_pixel.ensures

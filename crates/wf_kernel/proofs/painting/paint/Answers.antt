@@ -27,7 +27,7 @@ loop-i-preserved c =
       written =
           written_more row stride c.loop-i.i c.loop-i.bytes new c.args.bytes.now at (at + stride) ((c.loop-i.i + 1) * stride)
           (λ i. length-bound_row c.args.width c.args.layers.now c.args.background (c.args.first + i)) (omega arith) refl (omega arith)
-              c.loop-i.invariant.written
+          c.loop-i.invariant.written
           (part_written c.loop-i.bytes c.paint_row.new.row at (at + stride - at) (at + stride) (omega arith)
           ∙ ap (λ (part : List ℕ). take at c.loop-i.bytes ++ part ++ drop (at + stride) c.loop-i.bytes) c.paint_row.ensures.row);
       strips = c.paint_row.ensures.strips;
@@ -36,5 +36,5 @@ loop-i-preserved c =
 pub returns : goal.returns
 returns c =
     all_rows (λ y. bound_row c.args.width c.args.layers.now c.args.background y) c.args.first (length c.args.bytes.now / (4 * c.args.width))
-        c.loop-i.i (4 * c.args.width) c.loop-i.bytes c.args.bytes.now
+    c.loop-i.i (4 * c.args.width) c.loop-i.bytes c.args.bytes.now
     c.requires.count refl (omega arith) c.loop-i.invariant.written

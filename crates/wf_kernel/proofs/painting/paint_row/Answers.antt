@@ -22,5 +22,5 @@ loop-first-preserved c =
       within = omega arith;
       written =
           strip_more colour a n (4 * a) (4 * a + 4 * n - 4 * a) c.loop-first.row c.paint_strip.new.row c.args.row.now refl (omega arith)
-              c.loop-first.invariant.written piece;
+          c.loop-first.invariant.written piece;
     }

@@ -13,7 +13,7 @@ loop-i-preserved c =
     c.lay_row.ensures
     ∙ ap (λ (b : Bound). laid s.width (λ x. bound_texel b (s.first + x) c.args.y) c.loop-i.row) c.index-layers-i.is
     ∙ laid_next s.first s.width c.args.layers.now c.loop-i.i c.index-layers-i.result c.args.background c.args.y c.loop-i.row (omega arith)
-        c.loop-i.invariant
+    c.loop-i.invariant
 
 pub returns : goal.returns
 returns c =

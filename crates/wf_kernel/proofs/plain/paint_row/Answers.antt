@@ -10,5 +10,5 @@ loop-x-preserved c =
     let cell : ℕ → List ℕ = λ x. stored Rgba8Pre (bound_colour c.args.layers.now c.args.background x c.args.y) in
     let at : ℕ = 4 * c.loop-x.x in
     written_more cell 4 c.loop-x.x c.loop-x.row c.put_pixel.new.row c.args.row.now at (at + 4) (4 * (c.loop-x.x + 1)) (λ x. refl) refl refl
-        (omega arith) c.loop-x.invariant
+    (omega arith) c.loop-x.invariant
     (rw c.color_of.ensures at c.put_pixel.ensures)

@@ -14,4 +14,4 @@ loop-y-preserved c =
     written_more row stride c.loop-y.y c.loop-y.bytes new c.args.bytes.now at (at + stride) ((c.loop-y.y + 1) * stride)
     (length-bound_row c.args.size.w c.args.layers.now c.args.background) (omega arith) refl (omega arith) c.loop-y.invariant
     (part_written c.loop-y.bytes c.paint_row.new.row at (at + stride - at) (at + stride) (omega arith)
-        ∙ ap (λ (part : List ℕ). take at c.loop-y.bytes ++ part ++ drop (at + stride) c.loop-y.bytes) c.paint_row.ensures)
+    ∙ ap (λ (part : List ℕ). take at c.loop-y.bytes ++ part ++ drop (at + stride) c.loop-y.bytes) c.paint_row.ensures)

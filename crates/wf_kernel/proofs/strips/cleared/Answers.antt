@@ -27,4 +27,4 @@ pub returns-then-layer-clause-beside : goal.returns-then-layer-clause-beside
 returns-then-layer-clause-beside c = λ y above below.
     let prepared = prepared_as c.layer.view_is c.layer.invariant in
     beside_left c.args.layer.now c.layer.inside.columns c.args.strip.first (c.layer.inside.columns.start - c.args.strip.first) y
-        prepared.columns_are (omega arith)
+    prepared.columns_are (omega arith)

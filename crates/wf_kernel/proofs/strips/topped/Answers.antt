@@ -24,7 +24,7 @@ loop-left-preserved c =
           (omega arith) refl refl refl refl none refl
           (λ d y a b.
           let at : get_or layers n d ≡ c.index-layers-i.result = get_or_default layers n d c.index-layers-i.result low
-              ∙ sym c.index-layers-i.is in
+          ∙ sym c.index-layers-i.is in
           let P : Bound → Type 0 = λ l. IsBeside l t.first t.width y in
           subst P (sym at) (c.in-Some.ensures.beside y a b));
       cut = cut_more c.args.strip s t new inv.cut c.in-Some.ensures.cut refl refl refl refl;

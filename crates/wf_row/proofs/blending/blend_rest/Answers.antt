@@ -12,4 +12,4 @@ returns c =
     c.copy_from_slice.ensures.after
     ∙ ap (take (length src)) (c.blend_block.ensures ∙ (λ i. f (c.padded.ensures.value i) (c.padded-2.ensures.value i)))
     ∙ rest_blended f (blended-Pixelwise c.args.mode c.args.fade) (length src / 4) (length src) src row (drop (length src) zeros)
-        (drop (length row) zeros) (omega arith) refl c.requires.same
+    (drop (length row) zeros) (omega arith) refl c.requires.same

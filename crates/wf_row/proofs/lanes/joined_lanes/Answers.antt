@@ -10,5 +10,5 @@ returns-clause-value c = joined_are 16 32 c.args.low c.args.high c.requires.low.
 pub returns-clause-bytes : goal.returns-clause-bytes
 returns-clause-bytes c =
     subst (AreBytes 32)
-        (sym (joined_are 16 32 c.args.low c.args.high c.requires.low.count c.requires.high.count (omega arith) c.requires.low.below
-        c.requires.high.below)) (joined-Bytes 16 c.args.low c.args.high c.requires.low c.requires.high)
+    (sym (joined_are 16 32 c.args.low c.args.high c.requires.low.count c.requires.high.count (omega arith) c.requires.low.below
+    c.requires.high.below)) (joined-Bytes 16 c.args.low c.args.high c.requires.low c.requires.high)

@@ -9,4 +9,4 @@ returns-clause-value c = mul_zip 16 c.args.x c.args.q c.requires.x.count c.requi
 pub returns-clause-bytes : goal.returns-clause-bytes
 returns-clause-bytes c =
     subst (AreBytes 16) (sym (mul_zip 16 c.args.x c.args.q c.requires.x.count c.requires.x.below c.requires.q.below))
-        (mul-Bytes 16 c.args.x c.args.q c.requires.x c.requires.q)
+    (mul-Bytes 16 c.args.x c.args.q c.requires.x c.requires.q)

@@ -9,4 +9,4 @@ returns-clause-value c = sum_zip c.args.x c.args.y c.requires.x.below c.requires
 pub returns-clause-bytes : goal.returns-clause-bytes
 returns-clause-bytes c =
     subst (AreBytes 32) (sym (sum_zip c.args.x c.args.y c.requires.x.below c.requires.y.below))
-        (sum-Bytes 32 c.args.x c.args.y c.requires.x c.requires.y)
+    (sum-Bytes 32 c.args.x c.args.y c.requires.x c.requires.y)

@@ -12,6 +12,6 @@ returns c =
     let f : List ℕ → List ℕ → List ℕ → List ℕ = blended_masked c.args.mode c.args.fade in
     c.copy_from_slice.ensures.after
     ∙ ap (take (length src)) (c.mask_block-both.ensures
-        ∙ (λ i. f (c.padded_mask.ensures.value i) (c.padded.ensures.value i) (c.padded-2.ensures.value i)))
+    ∙ (λ i. f (c.padded_mask.ensures.value i) (c.padded.ensures.value i) (c.padded-2.ensures.value i)))
     ∙ rest_masked f (blended_masked-Maskwise c.args.mode c.args.fade) (length mask) (length src) mask src row
-        (drop (length mask) (replicate 8 0)) (drop (length src) zeros) (drop (length row) zeros) c.requires.src refl refl c.requires.same
+    (drop (length mask) (replicate 8 0)) (drop (length src) zeros) (drop (length row) zeros) c.requires.src refl refl c.requires.same

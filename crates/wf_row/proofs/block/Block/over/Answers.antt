@@ -13,7 +13,7 @@ returns c =
     ∙ (λ i. zip2 (λ a b. min 255 (a + b)) (c.bytes.ensures.value i) (c.joined_lanes-rest.ensures.value i))
     ∙ (λ i. zip2 (λ a b. min 255 (a + b)) (sym c.self.view_is i) (joined (c.mul_lanes.ensures.value i) (c.mul_lanes-2.ensures.value i)))
     ∙ (λ i. zip2 (λ a b. min 255 (a + b)) (joined c.self.inside.low c.self.inside.high)
-        (joined (zip2 mul c.below.inside.low (lack i)) (zip2 mul c.below.inside.high (lack i))))
+    (joined (zip2 mul c.below.inside.low (lack i)) (zip2 mul c.below.inside.high (lack i))))
     ∙ over_joined 8 c.self.inside.low c.self.inside.high c.below.inside.low c.below.inside.high c.self.invariant.low_bytes.count
-        c.self.invariant.high_bytes.count c.below.invariant.low_bytes.count c.below.invariant.high_bytes.count
+    c.self.invariant.high_bytes.count c.below.invariant.low_bytes.count c.below.invariant.high_bytes.count
     ∙ (λ i. over_bytes (c.self.view_is i) (c.below.view_is i))

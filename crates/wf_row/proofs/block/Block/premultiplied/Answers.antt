@@ -9,9 +9,9 @@ pub returns-in-Straight : goal.returns-in-Straight
 returns-in-Straight c =
     (λ i. joined (c.mul_lanes.ensures.value i) (c.mul_lanes-in-Straight.ensures.value i))
     ∙ (λ i. joined (zip2 mul c.self.inside.low (c.second_lanes-alpha.ensures.value i))
-        (zip2 mul (c.solid_lanes.ensures.value i) (c.second_lanes-alpha.ensures.value i)))
+    (zip2 mul (c.solid_lanes.ensures.value i) (c.second_lanes-alpha.ensures.value i)))
     ∙ straight_joined 8 c.self.inside.low c.self.inside.high c.self.invariant.low_bytes.count c.self.invariant.high_bytes.count
-        c.self.invariant.high_bytes.below
+    c.self.invariant.high_bytes.below
     ∙ (λ i. premultiplied_bytes (sym c.in-Straight.is i) (c.self.view_is i))
 
 pub returns-in-Opaque : goal.returns-in-Opaque
