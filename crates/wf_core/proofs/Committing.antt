@@ -11,8 +11,7 @@ use Rattle.wf_scene.specs.Sight.{Sight}
 use Rattle.wf_scene.specs.declared.Scene.{Scene}
 use Rattle.wf_scene.specs.declared.look.Fault.{Fault}
 use Rattle.wf_calls.specs.declared.reply.Refusal.{Refusal}
-use Rattle.wf_model.specs.declared.Context.{Context}
-use Rattle.wf_model.specs.Objects.{CoreState}
+use Rattle.wf_model.specs.Objects.{Context, CoreState}
 use Rattle.wf_model.specs.Composition.{change_context, sight_of}
 use Rattle.wf_model.specs.Core.{commit, fault_as_refusal, with_committed}
 use Rattle.wf_objects.specs.Does.{Does, Step, as_other, changed, in_owned, in_place, refuses}

@@ -17,8 +17,7 @@ use Rattle.wf_scene.specs.Cached.{CachedScene}
 use Rattle.wf_scene.specs.Consistent.{consistent, inserted_elements, layer_of, stream_of}
 use Rattle.wf_scene.specs.Layers.{holds_rect, is_placed_layer}
 use Rattle.wf_scene.specs.Sight.{Sight}
-use Rattle.wf_model.specs.declared.Source.{Source}
-use Rattle.wf_model.specs.Objects.{CoreState}
+use Rattle.wf_model.specs.Objects.{CoreState, Source}
 use Rattle.wf_model.specs.Composition.{seen, seen_source, sight_of}
 use Rattle.wf_objects.specs.Fits.{Fits, LayerFits, Shows}
 use Rattle.wf_objects.specs.Sides.{side_of}

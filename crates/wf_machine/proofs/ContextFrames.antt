@@ -20,7 +20,7 @@ use Rattle.wf_calls.specs.declared.call.Job.{Job}
 use Rattle.wf_calls.specs.declared.call.JobKind.TheVariants as kind
 use Rattle.wf_calls.specs.declared.reply.Payload.TheVariants as payload
 use Rattle.wf_calls.specs.declared.reply.Reply.{Reply}
-use Rattle.wf_model.specs.declared.Context.{Context}
+use Rattle.wf_model.specs.Objects.{Context}
 use Rattle.wf_model.specs.Frames.{begin_context, begin_next, content_shape, is_running, latch, latched_among, newest_images, next_context}
 use Rattle.wf_model.specs.Frames.{target_ready, is_short, all_begun}
 use Rattle.wf_model.specs.Frames.{scene_streams}

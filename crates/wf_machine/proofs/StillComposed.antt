@@ -11,9 +11,7 @@ use Rattle.wf_life.specs.Handles.{IsRising, Live}
 use Rattle.wf_stream.specs.Buffers.{Buffers}
 use Rattle.wf_stream.specs.Streams.{KeptStream, StoreView, buffers_at}
 use Rattle.wf_scene.specs.declared.Layer.{Layer}
-use Rattle.wf_model.specs.declared.Context.{Context}
-use Rattle.wf_model.specs.declared.Source.{Source}
-use Rattle.wf_model.specs.Objects.{CoreState}
+use Rattle.wf_model.specs.Objects.{Context, CoreState, Source}
 use Rattle.wf_model.specs.Names.{context_names, core_names, layer_names}
 use Rattle.wf_objects.specs.Fits.{ContextFits, Fits, HandlesFit, LayerFits, Shows, StreamsFit}
 use Rattle.wf_machine.proofs.Mapped.{SeenSame}

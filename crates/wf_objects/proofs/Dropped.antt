@@ -10,10 +10,7 @@ use Rattle.wf_life.specs.Handles.{Live, IsRising, is_live, same_kind, without, r
 use Rattle.wf_stream.specs.Streams.{StoreView}
 use Rattle.wf_scene.specs.Cached as cached
 use Rattle.wf_scene.specs.Cached.{handle_of, handles, has_element}
-use Rattle.wf_model.specs.declared.Context.{Context}
-use Rattle.wf_model.specs.declared.Source.{Source}
-use Rattle.wf_model.specs.Objects.{CoreState}
-use Rattle.wf_model.specs.declared.Device.{Device}
+use Rattle.wf_model.specs.Objects.{Context, CoreState, Device, Source}
 use Rattle.wf_model.specs.Core.{without_source}
 use Rattle.wf_objects.specs.Fits.{ContextFits, Fits, HandlesFit, HasElements, Shows, context_live, element_live, has_owner, of_kind}
 use Rattle.wf_objects.specs.Fits.{device_live, elements_of}

@@ -7,10 +7,7 @@ use Rattle.wf_life.specs.declared.Kind.TheVariants as kind
 use Rattle.wf_life.specs.Handles.{IsRising, Live, same_kind}
 use Rattle.wf_stream.specs.Streams.{KeptStream, StoreView}
 use Rattle.wf_calls.specs.declared.code.Code.{Code}
-use Rattle.wf_model.specs.declared.Context.{Context}
-use Rattle.wf_model.specs.declared.Device.{Device}
-use Rattle.wf_model.specs.declared.Source.{Source}
-use Rattle.wf_model.specs.Objects.{CoreState}
+use Rattle.wf_model.specs.Objects.{Context, CoreState, Device, Source}
 use Rattle.wf_model.specs.Outcome.{Outcome}
 use Rattle.wf_model.specs.Composition.{CoreSide, change_register}
 use Rattle.wf_model.specs.Core.{get_error, register_number}

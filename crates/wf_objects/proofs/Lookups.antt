@@ -10,9 +10,7 @@ use Rattle.wf_life.specs.Handles.{Live, IsRising, key_of, same_kind, rises_live}
 use Rattle.wf_stream.specs.Streams.{StoreView}
 use Rattle.wf_scene.specs.Cached.{has_element, handles, handle_of}
 use Rattle.wf_calls.specs.declared.code.Code.TheVariants as code
-use Rattle.wf_model.specs.declared.Device.{Device}
-use Rattle.wf_model.specs.declared.Context.{Context}
-use Rattle.wf_model.specs.Objects.{CoreState}
+use Rattle.wf_model.specs.Objects.{Context, CoreState, Device}
 use Rattle.wf_calls.specs.Replies.{refusal}
 use Rattle.wf_model.specs.Outcome.{found}
 use Rattle.wf_objects.specs.Sides.{side_of, without_value}

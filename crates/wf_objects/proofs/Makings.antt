@@ -13,10 +13,7 @@ use Rattle.wf_stream.specs.Streams.{StoreView, with_other}
 use Rattle.wf_scene.specs.Cached as cached
 use Rattle.wf_scene.specs.Cached.{handle_of, handles}
 use Rattle.wf_scene.specs.Elements.{new_element}
-use Rattle.wf_model.specs.declared.Device.{Device}
-use Rattle.wf_model.specs.declared.Context.{Context}
-use Rattle.wf_model.specs.declared.Source.{Source}
-use Rattle.wf_model.specs.Objects.{CoreState}
+use Rattle.wf_model.specs.Objects.{Context, CoreState, Device, Source}
 use Rattle.wf_model.specs.Outcome.{Outcome}
 use Rattle.wf_model.specs.Composition.{CoreSide, change_context, created, with_cached}
 use Rattle.wf_model.specs.Core.{room}

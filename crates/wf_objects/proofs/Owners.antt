@@ -7,8 +7,7 @@ use Rattle.std.proofs.lemmas.Option.{slice_get_read}
 use Rattle.wf_words.specs.Found.{any_found, passes}
 use Rattle.wf_words.specs.Places.{within}
 use Rattle.wf_scene.specs.Cached.{has_element}
-use Rattle.wf_model.specs.declared.Context.{Context}
-use Rattle.wf_model.specs.Objects.{CoreState}
+use Rattle.wf_model.specs.Objects.{Context, CoreState}
 use Rattle.wf_model.specs.Composition.{CoreSide}
 use Rattle.wf_model.specs.Core.{is_element_or_0}
 use Rattle.wf_objects.specs.Owners.{LivesAt, StandsAt, of_device, of_element}

@@ -3,9 +3,7 @@ use Rattle.std.proofs.Common.{◌≡◌, ℕ, ◌<◌, Bool, true, false, cond, 
 use Rattle.std.proofs.Common.{Option, Some, None, is_some, refl, sym, ap, ◌∙◌, map, set, slice_get, IfSome, arith, length-set}
 use Rattle.std.specs.List.{list_any}
 use Rattle.wf_stream.specs.Streams.{StoreView}
-use Rattle.wf_model.specs.declared.Source.{Source}
-use Rattle.wf_model.specs.Objects.{CoreState}
-use Rattle.wf_model.specs.declared.Context.{Context}
+use Rattle.wf_model.specs.Objects.{Context, CoreState, Source}
 use Rattle.wf_model.specs.Composition.{change_context, is_of_device, with_cached}
 use Rattle.wf_model.specs.Core.{without_source, without_those_of, without_context}
 use Rattle.wf_objects.specs.Fits.{Fits, HandlesFit, HasElements, element_live, elements_of}

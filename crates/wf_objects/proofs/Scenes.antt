@@ -17,8 +17,7 @@ use Rattle.wf_scene.specs.Cached as cached
 use Rattle.wf_scene.specs.Cached.{CachedScene, handles}
 use Rattle.wf_scene.specs.Values.{component}
 use Rattle.wf_calls.specs.declared.reply.Refusal.{Refusal}
-use Rattle.wf_model.specs.declared.Context.{Context}
-use Rattle.wf_model.specs.Objects.{CoreState}
+use Rattle.wf_model.specs.Objects.{Context, CoreState}
 use Rattle.wf_model.specs.Outcome.{Outcome}
 use Rattle.wf_model.specs.Composition.{CoreSide, change_context, with_cached}
 use Rattle.wf_model.specs.Core.{linked, with_active, with_committed}

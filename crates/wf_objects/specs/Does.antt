@@ -14,9 +14,7 @@ use Rattle.wf_calls.specs.Codes.{is_out_of_memory}
 use Rattle.wf_calls.specs.Replies.{refusal}
 use Rattle.wf_calls.specs.declared.code.Code.TheVariants as code
 use Rattle.wf_calls.specs.declared.reply.Refusal.{Refusal}
-use Rattle.wf_model.specs.declared.Context.{Context}
-use Rattle.wf_model.specs.declared.Source.{Source}
-use Rattle.wf_model.specs.Objects.{CoreState}
+use Rattle.wf_model.specs.Objects.{Context, CoreState, Source}
 use Rattle.wf_model.specs.Outcome.{Outcome, found}
 use Rattle.wf_model.specs.Composition.{CoreSide, change_context, context, created, device, element_context, with_cached}
 use Rattle.wf_model.specs.Core.{blank_scene, by_scene, contexts_full, linked, refusal_code, room, sources_full}

@@ -14,10 +14,7 @@ use Rattle.wf_stream.specs.Streams.{KeptStream, StoreView, buffers_at}
 use Rattle.wf_scene.specs.declared.Layer.{Layer}
 use Rattle.wf_scene.specs.Cached.{handles}
 use Rattle.wf_scene.specs.Layers.{holds_rect, is_placed_layer}
-use Rattle.wf_model.specs.declared.Device.{Device}
-use Rattle.wf_model.specs.declared.Context.{Context}
-use Rattle.wf_model.specs.declared.Source.{Source}
-use Rattle.wf_model.specs.Objects.{CoreState}
+use Rattle.wf_model.specs.Objects.{Context, CoreState, Device, Source}
 
 -- handles
 

@@ -3,8 +3,7 @@ use Rattle.std.specs.Prelude.{Bool, true, false, List}
 use Rattle.wf_life.specs.declared.Kind.{Kind}
 use Rattle.wf_life.specs.declared.Kind.TheVariants as kind
 use Rattle.wf_life.specs.Handles.{Live}
-use Rattle.wf_model.specs.declared.Source.{Source}
-use Rattle.wf_model.specs.Objects.{CoreState}
+use Rattle.wf_model.specs.Objects.{CoreState, Source}
 
 -- the kind of a link that is a source, or a mask
 abbrev pub link_kind : Bool → Kind

@@ -7,8 +7,7 @@ use Rattle.wf_stream.specs.Streams.{StoreView}
 use Rattle.wf_scene.specs.Cached.{has_element}
 use Rattle.wf_calls.specs.declared.code.Code.TheVariants as code
 use Rattle.wf_calls.specs.declared.reply.Refusal.{Refusal}
-use Rattle.wf_model.specs.declared.Context.{Context}
-use Rattle.wf_model.specs.Objects.{CoreState}
+use Rattle.wf_model.specs.Objects.{Context, CoreState}
 use Rattle.wf_model.specs.Outcome.{found}
 use Rattle.wf_model.specs.Composition.{CoreSide, device, context, element_context}
 use Rattle.wf_model.specs.Core.{owned_source}

@@ -2,9 +2,7 @@
 use Rattle.wf_objects.specs.declared.rows.Device.TheInside as device
 use Rattle.wf_objects.specs.declared.rows.Context.TheInside as context
 use Rattle.wf_objects.specs.declared.rows.Link.TheInside as link
-use Rattle.wf_model.specs.declared.Device.{Device}
-use Rattle.wf_model.specs.declared.Context.{Context}
-use Rattle.wf_model.specs.declared.Source.{Source}
+use Rattle.wf_model.specs.Objects.{Context, Device, Source}
 
 abbrev pub device_of : device.Inside → Device
 device_of x = record { handle = x.handle; register = x.register }

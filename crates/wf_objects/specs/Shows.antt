@@ -4,8 +4,7 @@ use Rattle.wf_words.specs.Refusals.{◌>>=◌, found_or}
 use Rattle.wf_words.specs.Keyed.{at_key}
 use Rattle.wf_calls.specs.declared.code.Code.{Code}
 use Rattle.wf_calls.specs.declared.code.Code.TheVariants as code
-use Rattle.wf_model.specs.declared.Context.{Context}
-use Rattle.wf_model.specs.Objects.{CoreState}
+use Rattle.wf_model.specs.Objects.{Context, CoreState}
 use Rattle.wf_model.specs.Frames.{next_context}
 use Rattle.wf_objects.specs.declared.shown.Shown.{Shown}
 use Rattle.wf_objects.specs.Owners.{of_device}

@@ -14,10 +14,8 @@ use Rattle.wf_scene.specs.Sight.{Sight}
 use Rattle.wf_scene.specs.Values.{is_count}
 use Rattle.wf_calls.specs.declared.code.Code.TheVariants as code
 use Rattle.wf_calls.specs.declared.reply.Refusal.{Refusal}
-use Rattle.wf_model.specs.declared.Context.{Context}
-use Rattle.wf_model.specs.declared.Source.{Source}
 use Rattle.wf_model.specs.Outcome.{found, refuse}
-use Rattle.wf_model.specs.Objects.{CoreState}
+use Rattle.wf_model.specs.Objects.{Context, CoreState, Source}
 use Rattle.wf_model.specs.Composition.{seen, seen_source, seen_stream, sight_of}
 use Rattle.wf_objects.specs.Fits.{HandlesFit, keyed, mask_live, of_kind, source_live}
 use Rattle.wf_objects.specs.Sides.{side_of}

@@ -12,7 +12,7 @@ pub(crate) struct Device {
 }
 
 impl Model for Device {
-    ghost use Rattle.wf_model.specs.declared.Device as plain;
+    ghost use Rattle.wf_model.specs.Objects as plain;
 
     ghost Value = { plain.Device };
 
@@ -37,7 +37,7 @@ pub(crate) struct Context {
 }
 
 impl Model for Context {
-    ghost use Rattle.wf_model.specs.declared.Context as plain;
+    ghost use Rattle.wf_model.specs.Objects as plain;
 
     ghost Value = { plain.Context };
 
@@ -55,7 +55,7 @@ pub(crate) struct Link {
 }
 
 impl Model for Link {
-    ghost use Rattle.wf_model.specs.declared.Source as plain;
+    ghost use Rattle.wf_model.specs.Objects as plain;
 
     ghost Value = { plain.Source };
 

@@ -8,7 +8,7 @@ use Rattle.wf_calls.specs.declared.call.Call.TheVariants as call
 use Rattle.wf_calls.specs.declared.call.Call.{Call}
 use Rattle.wf_calls.specs.declared.order.Turn.{Turn}
 use Rattle.wf_film.specs.Film.{Frame, frame_of}
-use Rattle.wf_model.specs.declared.Context.{Context}
+use Rattle.wf_model.specs.Objects.{Context}
 use Rattle.wf_model.specs.Display.{port_scene}
 use Rattle.wf_model.specs.Frames.{newest_images, newest_of, next_context, scene_streams}
 use Rattle.wf_model.specs.Picture.{picture}

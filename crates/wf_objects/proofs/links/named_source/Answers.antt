@@ -1,7 +1,7 @@
 use Rattle.std.proofs.Common.{◌≡◌, ◌∙◌, ◌+◌, ◌∷◌, List, Option, Some, drop, refl, sym, ap, arith}
 use Rattle.std.proofs.Math.Facts.{to_z-of_z}
 use Rattle.std.proofs.lemmas.List.{at_drop_more}
-use Rattle.wf_model.specs.declared.Source.{Source}
+use Rattle.wf_model.specs.Objects.{Source}
 use Rattle.wf_objects.specs.Sights.{named_source}
 use Rattle.wf_objects.proofs.links.named_source.Goals as goal
 

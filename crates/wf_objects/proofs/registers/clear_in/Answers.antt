@@ -1,5 +1,5 @@
 use Rattle.std.proofs.Common.{arith, if◌then◌else◌, ◌==◌, None, ap, ◌∙◌}
-use Rattle.wf_model.specs.declared.Device.{Device}
+use Rattle.wf_model.specs.Objects.{Device}
 use Rattle.wf_words.specs.Places.{map_step}
 use Rattle.wf_objects.proofs.registers.clear_in.Goals as goal
 

@@ -1,6 +1,6 @@
 use Rattle.std.proofs.Common.{arith, if◌then◌else◌, ◌==◌, ap, ◌∙◌}
 use Rattle.wf_model.specs.Composition.{recorded}
-use Rattle.wf_model.specs.declared.Device.{Device}
+use Rattle.wf_model.specs.Objects.{Device}
 use Rattle.wf_words.specs.Places.{map_step}
 use Rattle.wf_objects.proofs.registers.record_in.Goals as goal
 

@@ -4,8 +4,7 @@ use Rattle.std.proofs.lemmas.Bool.{lt-leb}
 use Rattle.wf_life.specs.declared.Kind.TheVariants as kind
 use Rattle.wf_stream.specs.Streams.{with_other}
 use Rattle.wf_scene.specs.Cached.{empty}
-use Rattle.wf_model.specs.declared.Context.{Context}
-use Rattle.wf_model.specs.Objects.{CoreState}
+use Rattle.wf_model.specs.Objects.{Context, CoreState}
 use Rattle.wf_model.specs.Core.{blank_scene}
 use Rattle.wf_objects.specs.Does.{Does, context_made}
 use Rattle.wf_objects.specs.Fits.{ContextFits}

@@ -5,8 +5,7 @@ use Rattle.wf_words.specs.Each.{each_at}
 use Rattle.wf_life.specs.declared.Kind.TheVariants as kind
 use Rattle.wf_stream.specs.Streams.{with_other}
 use Rattle.wf_scene.specs.Cached as cached
-use Rattle.wf_model.specs.declared.Context.{Context}
-use Rattle.wf_model.specs.Objects.{CoreState}
+use Rattle.wf_model.specs.Objects.{Context, CoreState}
 use Rattle.wf_objects.specs.Does.{Does, element_made, in_place}
 use Rattle.wf_objects.specs.Fits.{HasElements}
 use Rattle.wf_objects.specs.Rows.{context_of}

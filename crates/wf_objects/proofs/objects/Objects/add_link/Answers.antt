@@ -1,5 +1,5 @@
 use Rattle.std.proofs.Common.{◌++◌, ◌∷◌, [], ◌+◌, ◌∙◌, sym, refl}
-use Rattle.wf_model.specs.declared.Source.{Source}
+use Rattle.wf_model.specs.Objects.{Source}
 use Rattle.wf_model.specs.Core.{sources_full}
 use Rattle.wf_objects.specs.Does.{link_made}
 use Rattle.wf_objects.specs.Links.{link_kind, links, with_links}

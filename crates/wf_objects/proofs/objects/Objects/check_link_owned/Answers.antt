@@ -1,9 +1,7 @@
 use Rattle.std.proofs.Common.{◌≡◌, ◌∙◌, ℕ, ◌&&◌, ◌==◌, Bool, List, Err, sym, ap, refl}
 use Rattle.std.specs.List.{list_any}
 use Rattle.wf_words.specs.Found.{any_first, none_at, some_at}
-use Rattle.wf_model.specs.declared.Context.{Context}
-use Rattle.wf_model.specs.declared.Source.{Source}
-use Rattle.wf_model.specs.Objects.{CoreState}
+use Rattle.wf_model.specs.Objects.{Context, CoreState, Source}
 use Rattle.wf_model.specs.Composition.{device, is_of_device}
 use Rattle.wf_model.specs.Core.{owned_source}
 use Rattle.wf_objects.specs.Links.{links}

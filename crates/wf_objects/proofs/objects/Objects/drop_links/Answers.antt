@@ -1,6 +1,5 @@
 use Rattle.std.proofs.Common.{◌≡◌, ◌∙◌, List, sym, ap}
-use Rattle.wf_model.specs.declared.Source.{Source}
-use Rattle.wf_model.specs.Objects.{CoreState}
+use Rattle.wf_model.specs.Objects.{CoreState, Source}
 use Rattle.wf_model.specs.Core.{without_source, without_those_of}
 use Rattle.wf_objects.specs.Links.{links, with_links}
 use Rattle.wf_objects.proofs.Dropped.{then_lost}

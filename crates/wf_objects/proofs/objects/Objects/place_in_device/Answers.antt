@@ -1,6 +1,5 @@
 use Rattle.std.proofs.Common.{◌≡◌, ◌==◌, ◌∙◌, sym, ap, option_and_then, position, slice_get}
-use Rattle.wf_model.specs.declared.Context.{Context}
-use Rattle.wf_model.specs.Objects.{CoreState}
+use Rattle.wf_model.specs.Objects.{Context, CoreState}
 use Rattle.wf_objects.specs.Owners.{of_device}
 use Rattle.wf_objects.proofs.Lookups.{placed, not_placed, none_placed}
 use Rattle.wf_objects.proofs.Owners.{found_here}

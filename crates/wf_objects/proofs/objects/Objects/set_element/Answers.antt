@@ -1,8 +1,7 @@
 use Rattle.std.proofs.Common.{◌≡◌, ◌∙◌, Ok, set, subst, sym, ap}
 use Rattle.wf_scene.specs.Cached as cached
 use Rattle.wf_scene.specs.Values.{component}
-use Rattle.wf_model.specs.declared.Context.{Context}
-use Rattle.wf_model.specs.Objects.{CoreState}
+use Rattle.wf_model.specs.Objects.{Context, CoreState}
 use Rattle.wf_model.specs.Core.{linked}
 use Rattle.wf_objects.specs.Does.{Does, element_set, in_place}
 use Rattle.wf_objects.specs.Sides.{side_of}

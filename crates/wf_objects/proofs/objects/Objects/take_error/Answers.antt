@@ -1,7 +1,7 @@
 use Rattle.std.proofs.Common.{◌≡◌, ◌∙◌, sym, refl, arith}
 use Rattle.std.proofs.lemmas.List.{with_items_is}
 use Rattle.wf_words.specs.Keyed.{at_key}
-use Rattle.wf_model.specs.declared.Device.{Device}
+use Rattle.wf_model.specs.Objects.{Device}
 use Rattle.wf_objects.proofs.Fitting.{takes_error}
 use Rattle.wf_objects.proofs.objects.Objects.take_error.Goals as goal
 
