@@ -19,8 +19,6 @@ mod strips;
 mod tables;
 #[cfg(test)]
 mod tests;
-#[cfg(test)]
-mod texels;
 
 pub use bands::picture_rows;
 pub use painting::picture;

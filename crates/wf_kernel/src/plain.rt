@@ -1,95 +1,97 @@
 //! The plain painter, which asks all layers at each pixel: the measure of right for the painter by rows.
 
-ghost use Rattle.std.specs.Prelude.{◌≡◌, ◌+◌, ◌*◌, ◌<◌, ◌≤◌, length, IsTrue};
+ghost use Rattle.std.specs.Prelude.{◌≡◌, ◌<◌, IsTrue};
 ghost use Rattle.wf_pixel.specs.Choice.{has_sides};
-ghost use Rattle.wf_image.specs.Bitmap.{pixel_bytes};
-ghost use Rattle.wf_model.specs.Picture.{picture, Fits};
-ghost use Rattle.wf_kernel.specs.Bound.{bound_colour, bound_picture, bound_row, bound_rows, point_of};
+ghost use Rattle.wf_model.specs.Picture.{Fits, LayerFits};
 
-use crate::bound::{BoundLayer, bind_layers};
-use crate::painting::put_pixel;
-use crate::tables::fill_tables;
-use crate::texels::texel_at;
 use wf_image::{Contents, Image};
-use wf_pixel::{Rgba, Rotation, Size, over};
-use wf_scene::Scene;
+use wf_pixel::{Format, Rgba, along, lift, over, source_place, turned, turned_back};
+use wf_scene::{Layer, Scene};
 
 /// Writes what `picture` of this crate writes.
 pub(crate) fn picture(scene: &Scene, contents: &Contents, target: &mut Image)
     requires size { target.old.size ≡ scene.now.size }
-    requires pixels { pixel_bytes target.old.format ≡ 4 }
     requires fits { Fits scene.now contents.now }
-    ensures picture { target.new ≡ picture scene.now contents.now target.old.format }
 {
-    paint_scene(target.bytes_mut(), scene, contents);
-}
-
-/// Writes all rows of a scene.
-fn paint_scene(bytes: &mut [u8], scene: &Scene, contents: &Contents)
-    requires count { length bytes.old ≡ scene.now.size.w * scene.now.size.h * 4 }
-    requires fits { Fits scene.now contents.now }
-    ensures { bytes.new ≡ bound_picture scene.now contents.now }
-{
-    let mut tables = [[0; 1024]; 32];
-    fill_tables(&mut tables, scene, contents);
-    let layers = bind_layers(scene, contents, &tables);
-    paint_rows(bytes, scene.size, layers.as_slice(), scene.background);
-}
-
-/// Writes all rows.
-fn paint_rows(bytes: &mut [u8], size: Size, layers: &[BoundLayer], background: Rgba)
-    requires sides { IsTrue (has_sides size) }
-    requires count { length bytes.old ≡ size.w * size.h * 4 }
-    ensures { bytes.new ≡ bound_rows size.w layers.now background 0 size.h }
-{
-    let stride = 4 * size.w as usize;
+    let size = target.size();
+    let bytes = target.bytes_mut();
     for y in 0..size.h {
-        let at = y as usize * stride;
-        paint_row(&mut bytes[at..at + stride], size.w, layers, background, y);
+        for x in 0..size.w {
+            put_pixel(bytes, size.w, x, y, pixel_of(scene, contents, x, y));
+        }
     }
 }
 
-/// Writes row `y`.
-fn paint_row(row: &mut [u8], width: u32, layers: &[BoundLayer], background: Rgba, y: u32)
-    requires few { width ≤ 1024 }
-    requires y { y < 1024 }
-    requires count { length row.old ≡ 4 * width }
-    ensures { row.new ≡ bound_row width layers.now background y }
-{
-    for x in 0..width {
-        put_pixel(row, 4 * x as usize, color_of(layers, background, x, y));
+/// Writes the pixel at (x, y) of rows of `w` pixels, where there is room.
+fn put_pixel(bytes: &mut [u8], w: u32, x: u32, y: u32, color: Rgba) {
+    let Some(at) = first_byte(w, x, y) else {
+        return;
+    };
+    if bytes.len() < 4 || bytes.len() - 4 < at {
+        return;
     }
+    bytes[at..at + 4].copy_from_slice(&[color.r, color.g, color.b, color.a]);
 }
 
-/// The colour of layers from the bottom up, over a background, at a pixel of the target.
-fn color_of(layers: &[BoundLayer], background: Rgba, x: u32, y: u32) -> Rgba
-    requires x { x < 1024 }
-    requires y { y < 1024 }
-    ensures { result ≡ bound_colour layers.now background x y }
+/// Where the four bytes of a pixel begin.
+fn first_byte(w: u32, x: u32, y: u32) -> Option<usize> {
+    (y as usize * w as usize + x as usize).checked_mul(4)
+}
+
+/// The pixel at a place of the target.
+fn pixel_of(scene: &Scene, contents: &Contents, x: u32, y: u32) -> Rgba
+    requires x { x < scene.now.size.w }
+    requires y { y < scene.now.size.h }
+    requires fits { Fits scene.now contents.now }
 {
-    let mut color = background;
-    for layer in layers {
-        let (u, v) = point_of(layer.turn, layer.space, x, y);
-        if let Some(texel) = texel_at(layer, u, v) {
+    let space = turned(scene.turn, scene.size);
+    let (u, v) = turned_back(scene.turn, space, x, y);
+    let mut color = scene.background;
+    for layer in scene.layers.as_slice() {
+        if let Some(texel) = texel_of(layer, contents, u as i32, v as i32) {
             color = over(texel, color);
         }
     }
     color
 }
 
-/// The point of a space that the turn brings to (x, y) of the target.
-fn point_of(turn: Rotation, space: Size, x: u32, y: u32) -> (i32, i32)
-    requires sides { IsTrue (has_sides space) }
-    requires x { x < 1024 }
-    requires y { y < 1024 }
-    ensures { result ≡ point_of turn space x y }
+/// The premultiplied pixel of a layer at a point of the space where the picture is composed, or None where it shows
+/// nothing there.
+fn texel_of(layer: &Layer, contents: &Contents, x: i32, y: i32) -> Option<Rgba>
+    requires { LayerFits contents.now layer.now }
 {
-    let (x, y) = (x as i32, y as i32);
-    let (w, h) = (space.w as i32, space.h as i32);
-    match turn {
-        Rotation::R0 => (x, y),
-        Rotation::R90 => (y, h - (x + 1)),
-        Rotation::R180 => (w - (x + 1), h - (y + 1)),
-        Rotation::R270 => (w - (y + 1), x),
+    let image = contents.find(layer.stream)?;
+    let (u, v) = source_place(layer.src, layer.flip, layer.turn, layer.dest, x, y)?;
+    let mask = mask_at(layer, contents, x, y)?;
+    let color = color_at(image, u, v)?;
+    if image.format() == Format::A8 {
+        return None;
+    }
+    Some(lift(color, image.format(), layer.transparency, layer.alpha, mask))
+}
+
+/// The mask's value for a layer at a point: 255 where no mask applies, and None where the mask has no image.
+fn mask_at(layer: &Layer, contents: &Contents, x: i32, y: i32) -> Option<u8> {
+    if !layer.transparency.mask {
+        return Some(255);
+    }
+    let mask = contents.find(layer.mask)?;
+    let dx = along(layer.dest.x, layer.dest.w, x)?;
+    let dy = along(layer.dest.y, layer.dest.h, y)?;
+    let place = dy as usize * mask.size().w as usize + dx as usize;
+    mask.bytes().get(place).copied()
+}
+
+/// The pixel of an image at (x, y).
+fn color_at(image: &Image, x: u32, y: u32) -> Option<Rgba> {
+    let from = image.bytes().get(first_byte(image.size().w, x, y)?..)?;
+    match from {
+        [r, g, b, a, ..] => Some(Rgba {
+            r: *r,
+            g: *g,
+            b: *b,
+            a: *a,
+        }),
+        _ => None,
     }
 }

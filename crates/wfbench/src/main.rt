@@ -4,6 +4,7 @@
 #![tactic(auto)]
 
 mod pictures;
+mod scenes;
 
 use std::alloc::Global;
 use std::process::ExitCode;

@@ -1,86 +1,50 @@
-//! How long a picture takes.
+//! How long a picture takes, for each kind of layer.
 
-ghost use Rattle.std.specs.Prelude.{◌≡◌, ◌≢◌, false, All, IfOk};
+ghost use Rattle.std.specs.Prelude.{◌≡◌, ◌≤◌, IfOk, IsTrue};
+ghost use Rattle.wf_pixel.specs.Choice.{has_sides};
+ghost use Rattle.wf_model.specs.Picture.{Fits};
 
-use arrayvec::ArrayVec;
+use crate::scenes::{KINDS, Kind, layers_of};
 use std::alloc::Global;
 use std::io;
 use std::rt::Clock;
 use std::time::{Duration, Instant};
 use wf_image::{Contents, Image};
 use wf_kernel::picture;
-use wf_pixel::{Format, Rect, Rgba, Rotation, Size, Transparency};
-use wf_scene::{Layer, Scene};
+use wf_pixel::{Format, Rgba, Size};
+use wf_scene::Scene;
 
 /// How many pictures are timed; the shortest counts.
-const ROUNDS: u32 = 5;
-
-const SIZE: Size = Size { w: 640, h: 480 };
-
-const WHOLE: Rect = Rect {
-    x: 0,
-    y: 0,
-    w: 640,
-    h: 480,
-};
+const ROUNDS: u32 = 60;
 
 const BACKGROUND: Rgba = Rgba {
-    r: 10,
-    g: 20,
-    b: 30,
+    r: 31,
+    g: 61,
+    b: 97,
     a: 255,
 };
 
-/// Prints what a pixel takes: without layers, under one opaque layer, and under eight translucent ones.
+/// Prints what a pixel of each kind takes, at three sizes.
 pub(crate) fn print_times(rt: &(impl Print + Clock + AllocGlobal)) -> io::Result<()> {
-    let opaque = Transparency {
-        alpha: false,
-        source: false,
-        mask: false,
-    };
-    let translucent = Transparency {
-        source: true,
-        alpha: true,
-        ..opaque
-    };
-    for (what, count, format, transparency) in [
-        ("no layer", 0, Format::Rgbx8, opaque),
-        ("one opaque layer", 1, Format::Rgbx8, opaque),
-        ("one translucent layer", 1, Format::Rgba8, translucent),
-        ("eight translucent layers", 8, Format::Rgba8, translucent),
-    ] {
-        let time = picture_time(rt, rt.alloc(), count, format, transparency)?;
-        let nanos = time.as_secs_f64() * 1e9 / 307200.0;
-        println!(rt; "a picture of 640x480 with {what}: {nanos:.1} ns a pixel")?;
+    for (w, h) in [(320, 240), (640, 480), (1024, 1024)] {
+        for kind in KINDS {
+            let time = picture_time(rt, rt.alloc(), kind, Size { w, h })?;
+            let nanos = time.as_secs_f64() * 1e9 / f64::from(w * h);
+            println!(rt; "a picture of {w}x{h}, {}: {nanos:.3} ns a pixel", kind.name())?;
+        }
     }
     Ok(())
 }
 
-/// The shortest time of a picture of 640 by 480 with so many layers, all of which show one image whole.
-fn picture_time(
-    clock: &impl Clock,
-    alloc: Global,
-    count: u32,
-    format: Format,
-    transparency: Transparency,
-) -> io::Result<Duration>
-    requires format { format ≢ Format.A8 }
-    requires no_mask { transparency.mask ≡ false }
+/// The shortest time of a picture.
+fn picture_time(clock: &impl Clock, alloc: Global, kind: Kind, size: Size) -> io::Result<Duration>
+    requires w_low { 8 ≤ size.w }
+    requires w_high { size.w ≤ 1024 }
+    requires h_low { 8 ≤ size.h }
+    requires h_high { size.h ≤ 1024 }
 {
-    let shown = Layer {
-        stream: 1,
-        mask: 0,
-        src: WHOLE,
-        dest: WHOLE,
-        flip: false,
-        turn: Rotation::R0,
-        transparency,
-        alpha: 128,
-    };
-    let scene = stack(count, shown);
-    let mut contents = Contents::new();
-    contents.put(1, grey(alloc, format)?);
-    let mut target = grey(alloc, Format::Rgba8Pre)?;
+    let (scene, contents) = scene_of(alloc, kind, size)?;
+    let mut target = noise(alloc, size, Format::Rgba8Pre)?;
     let mut least = Duration::MAX;
     for _ in 0..ROUNDS {
         let start = Instant::now(clock)?;
@@ -90,31 +54,48 @@ fn picture_time(
     Ok(least)
 }
 
-/// A scene with so many layers of one kind, 32 at most.
-fn stack(count: u32, layer: Layer) -> Scene
-    ensures size { result.size ≡ SIZE }
-    ensures layers { All (λ l. l ≡ layer) result.layers.items }
+/// The scene of a kind with its images.
+fn scene_of(alloc: Global, kind: Kind, size: Size) -> io::Result<(Scene, Contents)>
+    requires w_low { 8 ≤ size.w }
+    requires w_high { size.w ≤ 1024 }
+    requires h_low { 8 ≤ size.h }
+    requires h_high { size.h ≤ 1024 }
+    ensures size { IfOk result (λ p. p.0.size ≡ size) }
+    ensures fits { IfOk result (λ p. Fits p.0 p.1) }
 {
-    let mut layers = ArrayVec::new();
-    for _ in 0..count {
-        let _ = layers.try_push(layer);
-    }
-    Scene {
-        size: SIZE,
-        turn: Rotation::R0,
+    let side = size.w.max(size.h);
+    let mut contents = Contents::new();
+    contents.put(1, noise(alloc, Size { w: side, h: side }, kind.format())?);
+    contents.put(2, noise(alloc, size, Format::A8)?);
+    let scene = Scene {
+        size,
+        turn: kind.turn(),
         background: BACKGROUND,
-        layers,
-    }
+        layers: layers_of(kind, size),
+    };
+    Ok((scene, contents))
 }
 
-/// An image of grey pixels, which are translucent where the format has an alpha.
-fn grey(alloc: Global, format: Format) -> io::Result<Image>
-    ensures size { IfOk result (λ image. image.size ≡ SIZE) }
+/// An image whose bytes have no pattern.
+fn noise(alloc: Global, size: Size, format: Format) -> io::Result<Image>
+    requires { IsTrue (has_sides size) }
+    ensures size { IfOk result (λ image. image.size ≡ size) }
     ensures format { IfOk result (λ image. image.format ≡ format) }
 {
-    let Ok(mut image) = Image::new(alloc, SIZE, format) else {
+    let Ok(mut image) = Image::new(alloc, size, format) else {
         return Err(io::ErrorKind::OutOfMemory.into());
     };
-    image.bytes_mut().fill(100);
+    scramble(image.bytes_mut());
     Ok(image)
+}
+
+/// Writes bytes without a pattern.
+fn scramble(bytes: &mut [u8]) {
+    let mut x = 12345u32;
+    for byte in bytes {
+        x ^= x << 13;
+        x ^= x >> 17;
+        x ^= x << 5;
+        *byte = (x % 251) as u8;
+    }
 }

@@ -45,12 +45,12 @@ fn noise(
     rt: &(impl Abort + AllocGlobal),
     size: (u32, u32),
     format: Format,
-    seed: u32,
+    seed: usize,
 ) -> Result<Image, Fail> {
     let (w, h) = size;
     assert!(rt; 1 <= w && w <= 1024 && 1 <= h && h <= 1024);
     let mut image = Image::new(rt.alloc(), Size { w, h }, format)?;
-    let mut x = seed | 1;
+    let mut x = (seed % 65536) as u32 | 1;
     for byte in image.bytes_mut() {
         x ^= x << 13;
         x ^= x >> 17;
@@ -100,8 +100,8 @@ fn scene_of(case: usize) -> Scene {
 fn contents_of(rt: &(impl Abort + AllocGlobal), case: usize) -> Result<Contents, Fail> {
     let dest = layer_of(case).dest;
     let mut contents = Contents::new();
-    contents.put(1, noise(rt, (40, 40), format_of(case), case as u32)?);
-    contents.put(2, noise(rt, (dest.w, dest.h), Format::A8, case as u32)?);
+    contents.put(1, noise(rt, (40, 40), format_of(case), case)?);
+    contents.put(2, noise(rt, (dest.w, dest.h), Format::A8, case)?);
     contents.put(3, noise(rt, (40, 40), Format::Rgbx8, 3)?);
     Ok(contents)
 }

@@ -1,0 +1,2 @@
+-- The scenes of the bench.
+pub mod Shown
