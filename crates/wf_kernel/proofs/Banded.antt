@@ -1,29 +1,6 @@
 -- Bands of whole rows.
-use Rattle.std.proofs.Common.{
-  ◌≡◌,
-  ℕ,
-  ◌+◌,
-  ◌-◌,
-  ◌*◌,
-  ◌/◌,
-  ◌%◌,
-  ◌<◌,
-  ◌≤◌,
-  List,
-  ◌++◌,
-  length,
-  drop,
-  get_or,
-  min,
-  sym,
-  ap,
-  ◌∙◌,
-  arith,
-  inl,
-  inr,
-  zero-add,
-  add-zero,
-}
+use Rattle.std.proofs.Common.{◌≡◌, ℕ, ◌+◌, ◌-◌, ◌*◌, ◌/◌, ◌%◌, ◌<◌, ◌≤◌, List, ◌++◌, length, drop, get_or, min, sym, ap, ◌∙◌, arith, inl}
+use Rattle.std.proofs.Common.{inr, zero-add, add-zero}
 use Rattle.std.specs.Prelude.{flat_map, IsTrue}
 use Rattle.std.specs.List.{range_with_len}
 use Rattle.std.proofs.lemmas.Nat.{div-add-mod', div-mul-add}

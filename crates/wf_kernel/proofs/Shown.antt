@@ -15,19 +15,8 @@ use Rattle.wf_model.specs.Picture.{mask_of, texel_of}
 use Rattle.wf_kernel.specs.Bound.{Bound, IsShowable, point_of, bound_texel}
 use Rattle.wf_kernel.specs.Placed.{placed, source_place, mask_value}
 use Rattle.wf_kernel.specs.Laid.{mode_of, fade_of, lifted_pixel, lifted_texel, placed_texel}
-use Rattle.wf_kernel.proofs.Placed.{
-  IsOutside,
-  beside,
-  above,
-  place_is,
-  placed_along,
-  back_low,
-  source_low,
-  holds_x,
-  holds_y,
-  beside_target,
-  above_target,
-}
+use Rattle.wf_kernel.proofs.Placed.{IsOutside, beside, above, place_is, placed_along, back_low, source_low, holds_x, holds_y, beside_target}
+use Rattle.wf_kernel.proofs.Placed.{above_target}
 
 -- the texel by the distances from the destination's corner, where the mask has this value
 abbrev pub texel_by : Layer → Bitmap → Option ℕ → Option ℕ → Option ℕ → Option Rgba

@@ -1,27 +1,6 @@
 -- Layers laid over a row from the bottom up give the colours that are asked from the top down.
-use Rattle.std.proofs.Common.{
-  ◌≡◌,
-  ℕ,
-  ◌+◌,
-  ◌*◌,
-  ◌<◌,
-  List,
-  [],
-  ◌∷◌,
-  ◌++◌,
-  length,
-  take,
-  drop,
-  get_or,
-  map,
-  refl,
-  sym,
-  ap,
-  ◌∙◌,
-  arith,
-  add-zero,
-  zero-add,
-}
+use Rattle.std.proofs.Common.{◌≡◌, ℕ, ◌+◌, ◌*◌, ◌<◌, List, [], ◌∷◌, ◌++◌, length, take, drop, get_or, map, refl, sym, ap, ◌∙◌, arith}
+use Rattle.std.proofs.Common.{add-zero, zero-add}
 use Rattle.std.specs.Prelude.{flat_map, reverse, Option}
 use Rattle.std.specs.List.{range_with_len}
 use Rattle.std.proofs.lemmas.List.{take_more, reverse-append}

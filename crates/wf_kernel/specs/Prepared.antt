@@ -1,24 +1,6 @@
 -- What is worked out of a layer once for all rows of its target.
-use Rattle.std.specs.Prelude.{
-  ◌≡◌,
-  ℕ,
-  ◌+◌,
-  ◌-◌,
-  ◌<◌,
-  ◌==◌,
-  Bool,
-  true,
-  false,
-  if◌then◌else◌,
-  pos,
-  Some,
-  List,
-  length,
-  slice_index,
-  slice_index_or,
-  nat_abs,
-  IsTrue,
-}
+use Rattle.std.specs.Prelude.{◌≡◌, ℕ, ◌+◌, ◌-◌, ◌<◌, ◌==◌, Bool, true, false, if◌then◌else◌, pos, Some, List, length, slice_index}
+use Rattle.std.specs.Prelude.{slice_index_or, nat_abs, IsTrue}
 use Rattle.std.proofs.Common.{subst}
 use Rattle.wf_pixel.specs.declared.Rotation.{Rotation}
 use Rattle.wf_pixel.specs.declared.Size.{Size}

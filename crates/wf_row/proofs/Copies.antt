@@ -1,30 +1,6 @@
 -- Opaque pixels.
-use Rattle.std.proofs.Common.{
-  ◌≡◌,
-  ℕ,
-  zero,
-  suc,
-  ◌+◌,
-  ◌*◌,
-  ◌<◌,
-  ◌≤◌,
-  List,
-  [],
-  ◌∷◌,
-  ◌++◌,
-  length,
-  take,
-  drop,
-  get_or,
-  bit_or,
-  refl,
-  sym,
-  ap,
-  ◌∙◌,
-  arith,
-  Fits,
-  w8,
-}
+use Rattle.std.proofs.Common.{◌≡◌, ℕ, zero, suc, ◌+◌, ◌*◌, ◌<◌, ◌≤◌, List, [], ◌∷◌, ◌++◌, length, take, drop, get_or, bit_or, refl, sym, ap}
+use Rattle.std.proofs.Common.{◌∙◌, arith, Fits, w8}
 use Rattle.std.specs.Simd.Lanes.{zip2, Each1, chunk, put_chunk}
 use Rattle.std.proofs.lemmas.Simd.{length-chunk, put_chunk_is, Each1-from_get_or}
 use Rattle.std.proofs.lemmas.List.{drop-drop}

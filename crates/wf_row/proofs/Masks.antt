@@ -1,27 +1,6 @@
 -- A row that is written piece by piece, with a mask of one byte a pixel beside it.
-use Rattle.std.proofs.Common.{
-  ◌≡◌,
-  ℕ,
-  zero,
-  suc,
-  ◌+◌,
-  ◌*◌,
-  ◌≤◌,
-  List,
-  [],
-  ◌∷◌,
-  ◌++◌,
-  length,
-  take,
-  drop,
-  Option,
-  refl,
-  sym,
-  ap,
-  ◌∙◌,
-  append_assoc,
-  arith,
-}
+use Rattle.std.proofs.Common.{◌≡◌, ℕ, zero, suc, ◌+◌, ◌*◌, ◌≤◌, List, [], ◌∷◌, ◌++◌, length, take, drop, Option, refl, sym, ap, ◌∙◌}
+use Rattle.std.proofs.Common.{append_assoc, arith}
 use Rattle.std.specs.Simd.Lanes.{chunk, put_chunk}
 use Rattle.std.proofs.Math.Seq.{take-add, drop-append_seam}
 use Rattle.std.proofs.lemmas.List.{take_at, take_all, drop_all, drop-drop, length-take-le, append-nil}

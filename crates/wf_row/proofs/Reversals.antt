@@ -1,29 +1,6 @@
 -- Pixels from the last one to the first.
-use Rattle.std.proofs.Common.{
-  ◌≡◌,
-  ℕ,
-  zero,
-  suc,
-  ◌+◌,
-  ◌-◌,
-  ◌*◌,
-  ◌≤◌,
-  List,
-  [],
-  ◌∷◌,
-  ◌++◌,
-  length,
-  take,
-  drop,
-  refl,
-  sym,
-  ap,
-  subst,
-  ◌∙◌,
-  arith,
-  append_assoc,
-  length-append,
-}
+use Rattle.std.proofs.Common.{◌≡◌, ℕ, zero, suc, ◌+◌, ◌-◌, ◌*◌, ◌≤◌, List, [], ◌∷◌, ◌++◌, length, take, drop, refl, sym, ap, subst, ◌∙◌}
+use Rattle.std.proofs.Common.{arith, append_assoc, length-append}
 use Rattle.std.specs.Simd.Lanes.{chunk, put_chunk, pick_l}
 use Rattle.std.proofs.lemmas.Simd.{pick_l_whole, chunk-drop, length-chunk, put_chunk_is}
 use Rattle.std.proofs.lemmas.List.{take_at, drop_all, drop-drop, append-nil, length-drop, take-append-drop, length-take-le}

@@ -1,37 +1,6 @@
 -- A row that is written piece by piece.
-use Rattle.std.proofs.Common.{
-  ◌≡◌,
-  ℕ,
-  zero,
-  suc,
-  ◌+◌,
-  ◌-◌,
-  ◌*◌,
-  ◌≤◌,
-  List,
-  [],
-  ◌∷◌,
-  ◌++◌,
-  length,
-  take,
-  drop,
-  get_or,
-  replicate,
-  Fits,
-  w8,
-  ◌<◌,
-  length-append,
-  length-drop,
-  Option,
-  Some,
-  None,
-  refl,
-  sym,
-  ap,
-  ◌∙◌,
-  append_assoc,
-  arith,
-}
+use Rattle.std.proofs.Common.{◌≡◌, ℕ, zero, suc, ◌+◌, ◌-◌, ◌*◌, ◌≤◌, List, [], ◌∷◌, ◌++◌, length, take, drop, get_or, replicate, Fits, w8}
+use Rattle.std.proofs.Common.{◌<◌, length-append, length-drop, Option, Some, None, refl, sym, ap, ◌∙◌, append_assoc, arith}
 use Rattle.std.specs.Simd.Lanes.{chunk, put_chunk, Each1}
 use Rattle.std.proofs.Math.Seq.{take-add, drop-append_seam}
 use Rattle.std.proofs.lemmas.List.{take_at, take_all, drop_all, drop-drop, length-take-le, map-append, length-map, append-nil}

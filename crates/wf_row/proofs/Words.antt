@@ -1,35 +1,6 @@
 -- What the operations of vectors do to lanes that are bytes.
-use Rattle.std.proofs.Common.{
-  ◌≡◌,
-  ℕ,
-  zero,
-  suc,
-  ◌+◌,
-  ◌-◌,
-  ◌*◌,
-  ◌/◌,
-  ◌%◌,
-  ◌^◌,
-  ◌<◌,
-  ◌≤◌,
-  List,
-  [],
-  ◌∷◌,
-  ◌++◌,
-  length,
-  replicate,
-  bit_and,
-  bit_or,
-  min,
-  map,
-  cond,
-  refl,
-  sym,
-  ap,
-  subst,
-  ◌∙◌,
-  arith,
-}
+use Rattle.std.proofs.Common.{◌≡◌, ℕ, zero, suc, ◌+◌, ◌-◌, ◌*◌, ◌/◌, ◌%◌, ◌^◌, ◌<◌, ◌≤◌, List, [], ◌∷◌, ◌++◌, length, replicate, bit_and}
+use Rattle.std.proofs.Common.{bit_or, min, map, cond, refl, sym, ap, subst, ◌∙◌, arith}
 use Rattle.std.specs.Simd.Lanes.{zip2, Each1, number_l, digits_l, pick_l, sel_l, top}
 use Rattle.std.proofs.lemmas.Simd.{pick_l_whole, length-zip2}
 use Rattle.std.proofs.lemmas.Nat.{mul-le, and_mask, and_le_r}
