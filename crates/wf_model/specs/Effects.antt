@@ -135,7 +135,7 @@ pub data Effect (h : State) (c : Call) (x : State × Reply) : Type 0 where
 module _ (h : State) (c : Call) (x : State × Reply) where
   refuses_so : (register : Register) (r : Refusal) → register_of c ≡ register → is_ok_code r.code ≡ false
       → x ≡ (offered register r.code h, bare (refused r)) → Effect h c x
-  refuses_so register r is honest left =
+  refuses_so own r is honest left =
       let code : x.1.code ≡ r.code = ap (λ (y : State × Reply). y.1.code) left in
       refuses (rw code honest) (ap (λ (y : State × Reply). y.0) left ∙ (rw (code, is) refl))
 
