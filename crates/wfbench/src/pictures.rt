@@ -30,7 +30,10 @@ pub(crate) fn print_times(rt: &(impl Print + Clock + AllocGlobal)) -> io::Result
         for kind in KINDS {
             let time = picture_time(rt, rt.alloc(), kind, Size { w, h })?;
             let nanos = time.as_secs_f64() * 1e9 / f64::from(w * h);
-            println!(rt; "a picture of {w}x{h}, {}: {nanos:.3} ns a pixel", kind.name())?;
+            println!(rt;
+                "a picture of {w}x{h}, {}: {nanos:.3} ns a pixel",
+                kind.name()
+            )?;
         }
     }
     Ok(())

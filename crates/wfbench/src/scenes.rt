@@ -114,13 +114,25 @@ pub(crate) fn layers_of(kind: Kind, size: Size) -> ArrayVec<Layer, 32>
     match kind {
         Kind::Nothing => ArrayVec::new(),
         Kind::Opaque => stack(1, size, layer(whole, whole, OPAQUE)),
-        Kind::Scaled => stack(1, size, layer(corner(size.w * 5 / 8, size.h * 5 / 8), whole, OPAQUE)),
+        Kind::Scaled => stack(
+            1,
+            size,
+            layer(corner(size.w * 5 / 8, size.h * 5 / 8), whole, OPAQUE),
+        ),
         Kind::Straight => stack(1, size, layer(whole, whole, both)),
         Kind::Premultiplied => stack(1, size, layer(whole, whole, source)),
         Kind::Masked => stack(1, size, layer(whole, whole, masked)),
         Kind::Shadow => stack(1, size, layer(corner(1, 1), whole, mask)),
-        Kind::Quarter => stack(1, size, turn_layer(Rotation::R90, layer(turned, whole, OPAQUE))),
-        Kind::Half => stack(1, size, turn_layer(Rotation::R180, layer(whole, whole, OPAQUE))),
+        Kind::Quarter => stack(
+            1,
+            size,
+            turn_layer(Rotation::R90, layer(turned, whole, OPAQUE)),
+        ),
+        Kind::Half => stack(
+            1,
+            size,
+            turn_layer(Rotation::R180, layer(whole, whole, OPAQUE)),
+        ),
         Kind::Windows => windows(size),
         Kind::Translucent => panes(size, both),
         Kind::Turned => stack(1, size, layer(turned, turned, OPAQUE)),
@@ -193,7 +205,11 @@ fn windows(size: Size) -> ArrayVec<Layer, 32>
     let mut layers = stack(1, size, layer(whole, whole, OPAQUE));
     for i in 1..16u32 {
         let part = corner(size.w * 3 / 4, size.h * 3 / 4);
-        let dest = moved(part, i * 29 % 64 * (size.w / 4) / 64, i * 19 % 64 * (size.h / 4) / 64);
+        let dest = moved(
+            part,
+            i * 29 % 64 * (size.w / 4) / 64,
+            i * 19 % 64 * (size.h / 4) / 64,
+        );
         add(&mut layers, size, layer(part, dest, OPAQUE));
     }
     layers
@@ -211,7 +227,11 @@ fn panes(size: Size, transparency: Transparency) -> ArrayVec<Layer, 32>
     let mut layers = ArrayVec::new();
     for i in 0..32u32 {
         let part = corner(size.w / 2, size.h / 2);
-        let dest = moved(part, i * 37 % 64 * (size.w / 2) / 64, i * 23 % 64 * (size.h / 2) / 64);
+        let dest = moved(
+            part,
+            i * 37 % 64 * (size.w / 2) / 64,
+            i * 23 % 64 * (size.h / 2) / 64,
+        );
         add(&mut layers, size, layer(part, dest, transparency));
     }
     layers
