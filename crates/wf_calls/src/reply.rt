@@ -2,7 +2,7 @@
 
 ghost use Rattle.std.specs.Prelude.{◌≡◌};
 ghost use Rattle.wf_calls.specs.Codes.{entry};
-ghost use Rattle.wf_calls.specs.Replies.{bare, done, gives_back_canvas, gives_back_job, gives_canvas, gives_job, refusal, refused};
+ghost use Rattle.wf_calls.specs.Replies.{bare, done, gives_back_canvas, gives_back_job, gives_canvas, gives_job, refusal, refused, told};
 
 use crate::call::Job;
 use crate::code::Code;
@@ -68,6 +68,17 @@ impl Answer {
             value: refusal.value,
         }
     }
+
+    /// The journal's entry of this answer to a client.
+    pub fn entry(&self, client: u8) -> Turn
+        ensures { result ≡ entry client (bare self.now) }
+    {
+        Turn {
+            client,
+            code: self.code.number(),
+            value: self.value,
+        }
+    }
 }
 
 impl Reply {
@@ -126,14 +137,20 @@ impl Reply {
         }
     }
 
+    /// The answer, without what comes with it.
+    fn told(&self) -> Answer
+        ensures { result ≡ told self.now }
+    {
+        Answer {
+            code: self.code,
+            value: self.value,
+        }
+    }
+
     /// The journal's entry of this reply to a client.
     pub fn entry(&self, client: u8) -> Turn
         ensures { result ≡ entry client self.now }
     {
-        Turn {
-            client,
-            code: self.code.number(),
-            value: self.value,
-        }
+        self.told().entry(client)
     }
 }

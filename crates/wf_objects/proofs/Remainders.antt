@@ -168,9 +168,6 @@ module _ (core : CoreState) (store : StoreView) (fits : Fits core store) (d : �
   rises : Rises (λ (x : Context). x.handle) 0 core.contexts
   rises = rises_contexts core store fits.handles
 
-  fewer_contexts : List Context
-  fewer_contexts = filter (λ (x : Context). not (x.handle == c.handle)) core.contexts
-
   -- a source or a mask that is not the context's has the owner that it had
   pub still_owned : (n : ℕ) → (not (is_of_device d (without_context c.handle core) n) && not (n == c.handle)) ≡ not (is_of_device d core n)
   still_owned n = by_test (n == c.handle) refl
@@ -210,10 +207,6 @@ module _ (core : CoreState) (store : StoreView) (fits : Fits core store) (d : �
       (one_fewer (λ (x : Context). x.handle) (λ (x : Context). x.device == d) core.contexts c rises found)
       ∙ ap (λ (ss : List Source). of (filter (λ (x : Context). not (x.device == d)) core.contexts) ss (gone core.masks)) (same core.sources)
       ∙ ap (of (filter (λ (x : Context). not (x.device == d)) core.contexts) (kept core.sources)) (same core.masks)
-
-  pub context_lives : list_any (λ (x : Context). x.handle == c.handle) core.contexts ≡ true
-  context_lives = any_by (λ (x : Context). x.device == d) (λ (x : Context). x.handle == c.handle) core.contexts c found
-      (eq-eqb c.handle c.handle refl)
 
   pub contexts_fewer : length (filter (λ (x : Context). not (x.handle == c.handle)) core.contexts) < length core.contexts
   contexts_fewer = shorter (λ (x : Context). x.handle == c.handle) core.contexts c
