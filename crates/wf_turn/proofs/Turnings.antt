@@ -3,19 +3,20 @@ use Rattle.std.proofs.Common.{◌≡◌, ◌∙◌, ℕ, Bool, true, false, ◌=
 use Rattle.std.specs.Option.{is_some, IfSome, IsSome, IsSomeAnd}
 use Rattle.wf_image.specs.Bitmap.{drawn}
 use Rattle.wf_calls.specs.declared.call.Job.{Job}
+use Rattle.wf_calls.specs.declared.order.Turn.{Turn}
 use Rattle.wf_calls.specs.declared.reply.Reply.{Reply}
 use Rattle.wf_calls.specs.declared.code.Code.{Code}
 use Rattle.wf_calls.specs.declared.code.Code.TheVariants as code
 use Rattle.wf_calls.specs.Codes.{code_number, entry, is_out_of_memory}
 use Rattle.wf_film.specs.Film.{Frame}
-use Rattle.wf_machine.specs.Object.{IsPaintable, MayAnswer, after}
+use Rattle.wf_machine.specs.Object.{IsPaintable}
 use Rattle.wf_model.specs.Frames.{is_running}
 use Rattle.wf_model.specs.State.{Running, State}
 use Rattle.wf_model.specs.Step.{step}
 use Rattle.wf_script.specs.declared.line.Line.{Line}
 use Rattle.wf_turn.specs.declared.stage.Wanted.{Wanted}
 use Rattle.wf_turn.specs.Play.{is_marked}
-use Rattle.wf_turn.specs.Playing.{Ends, TakesTurn, frames_if}
+use Rattle.wf_turn.specs.Playing.{Answers, Ends, TakesTurn, frames_if}
 use Rattle.wf_turn.specs.Program.{Program, first_line, handed, is_work, next, painted_job, place_of, took, worked}
 use Rattle.wf_turn.specs.Ready.{IsFit, IsWork}
 use Rattle.wf_turn.specs.Turns.{frames_of}
@@ -76,19 +77,22 @@ has_line p more = of_lines p.lines refl more
     of_lines [] is more = absurd cc
     of_lines (l ∷ ls) is more = (l.1, rw is refl)
 
-pub turn_taken : (client : ℕ) (h left : State) (p now : Program) (w : Wanted) (reply : Reply) → IsFit p → IfSome h.frame (λ f. Ends f p)
-    → next p ≡ Some w → left ≡ after h client w.call reply → MayAnswer h client w.call reply → now ≡ took (handed p) reply
-    → TakesTurn client h left p (worked now) (entry client reply) (is_work now) × IsWork now
-turn_taken client h left p now w reply fit alone asks left_is may now_is = (takes, subst IsWork (sym now_q) work)
+pub turn_taken : (client : ℕ) (h left : State) (p now : Program) (w : Wanted) (t : Turn) → IsFit p → IfSome h.frame (λ f. Ends f p)
+    → next p ≡ Some w → Answers client h left w.call (handed p) now t
+    → TakesTurn client h left p (worked now) t (is_work now) × IsWork now
+turn_taken client h left p now w t fit alone asks answers = (takes, subst IsWork (sym now_q) work)
   where
+    reply : Reply
+    reply = answers.reply
+
     q : Program
     q = took p reply
 
     now_q : now ≡ q
-    now_q = now_is ∙ took_handed p reply
+    now_q = answers.now_is ∙ took_handed p reply
 
     work : IsWork q
-    work = took_work p h client w reply fit.painted may asks
+    work = took_work p h client w reply fit.painted answers.may asks
 
     is_ready : (o : Option Running) → h.frame ≡ o → (w.wait && is_running h) ≡ false
     is_ready None free = ap (λ (o : Option Running). w.wait && is_some o) free ∙ and_false w.wait
@@ -96,12 +100,12 @@ turn_taken client h left p now w reply fit alone asks left_is may now_is = (take
         let e = ended p h client false w f runs (rw runs at alone) asks in
         ap (λ (b : Bool). b && is_running h) e.plain_is
 
-    takes : TakesTurn client h left p (worked now) (entry client reply) (is_work now)
+    takes : TakesTurn client h left p (worked now) t (is_work now)
     takes =
-        let marks : is_marked (entry client reply) ≡ is_out_of_memory reply.code = marked_is reply.code in
+        let marks : is_marked t ≡ is_out_of_memory reply.code = ap is_marked answers.entry_is ∙ marked_is reply.code in
         let W : Bool → State × Reply = λ m. step h client w.call m in
         let wanted = (W (is_out_of_memory reply.code)).1 in
-        let same : IsSame reply wanted = record { value = may.value; payload = may.payload } in
+        let same : IsSame reply wanted = record { value = answers.may.value; payload = answers.may.payload } in
         let both = same_outcome p reply wanted same in
         let now_w : worked now ≡ worked q = ap worked now_q in
         let work_is : is_work now ≡ is_work q = ap is_work now_q in
@@ -109,11 +113,12 @@ turn_taken client h left p now w reply fit alone asks left_is may now_is = (take
           wanted = w;
           asks = asks;
           ready = is_ready h.frame refl;
-          state = left_is ∙ ap (λ (m : Bool). (W m).0) (sym marks);
+          state = answers.left_is ∙ ap (λ (m : Bool). (W m).0) (sym marks);
           program = now_w ∙ ap (λ (x : Program × List Frame). x.0) both ∙ ap (λ (m : Bool). worked (took p (W m).1)) (sym marks);
           entry_is =
-              ap (λ (c : Code). record { client = client; code = code_number c; value = reply.value }) may.code
-              ∙ ap (λ (v : ℕ). record { client = client; code = code_number wanted.code; value = v }) may.value
+              answers.entry_is
+              ∙ ap (λ (c : Code). record { client = client; code = code_number c; value = reply.value }) answers.may.code
+              ∙ ap (λ (v : ℕ). record { client = client; code = code_number wanted.code; value = v }) answers.may.value
               ∙ ap (λ (m : Bool). entry client (W m).1) (sym marks);
           frames =
               ap (λ (m : Bool). frames_of (took p (W m).1)) marks

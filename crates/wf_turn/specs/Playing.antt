@@ -2,12 +2,14 @@
 use Rattle.std.specs.Prelude.{◌≡◌, ℕ, ◌+◌, ◌≤◌, Bool, false, ◌&&◌, List, [], ◌∷◌, ◌++◌, map, length, slice_get, slice_set, flat_map, Option}
 use Rattle.std.specs.Prelude.{Some, None, IfSome, IsSome, IsSomeAnd, IsTrue, not, ◌==◌, if◌then◌else◌}
 use Rattle.std.specs.List.{AllByRecursion}
+use Rattle.wf_calls.specs.declared.call.Call.{Call}
 use Rattle.wf_calls.specs.declared.call.Job.{Job}
 use Rattle.wf_calls.specs.declared.order.Turn.{Turn}
+use Rattle.wf_calls.specs.declared.reply.Reply.{Reply}
 use Rattle.wf_calls.specs.Codes.{entry}
 use Rattle.wf_film.specs.Film.{Frame, frame_bytes}
 use Rattle.wf_io.specs.Bytes.{Puts, PutsPart}
-use Rattle.wf_machine.specs.Object.{IsPaintable}
+use Rattle.wf_machine.specs.Object.{IsPaintable, MayAnswer, after}
 use Rattle.wf_model.specs.Frames.{is_of_frame, is_running}
 use Rattle.wf_model.specs.State.{Running, State}
 use Rattle.wf_model.specs.Step.{step}
@@ -122,6 +124,14 @@ pub record TakesTurn (client : ℕ) (h left : State) (p now : Program) (t : Turn
   pub entry_is : t ≡ entry client (step h client wanted.call (is_marked t)).1
   pub frames : frames_of (took p (step h client wanted.call (is_marked t)).1) ≡ frames_if painted now
   pub paintable : IsTrue painted → IsSomeAnd now.job IsPaintable
+
+-- the machine answers a call of a client, and the client's program takes the answer: what that leaves of both, and the entry
+pub record Answers (client : ℕ) (h left : State) (c : Call) (p now : Program) (t : Turn) : Type 0 where
+  pub reply : Reply
+  pub left_is : left ≡ after h client c reply
+  pub may : MayAnswer h client c reply
+  pub now_is : now ≡ took p reply
+  pub entry_is : t ≡ entry client reply
 
 -- one turn of the program of a client
 abbrev pub TakesTurnAt : ℕ → State → State → List Program → List Program → Turn → Type 0

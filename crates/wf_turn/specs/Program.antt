@@ -218,10 +218,14 @@ took_first p l reply = of_verb l.verb
     of_verb verb.Tick = took_job (ticking p) reply.payload (leg.Contexts 1 reply.value)
     of_verb _ = line_done p reply.value
 
+-- where a tick goes on after the answer to a question
+abbrev pub answered : Leg → ℕ → Leg
+answered (leg.Contexts asked last) value = leg.Contexts (asked + 1) value
+answered (leg.Ports port) value = leg.Ports (port + 1)
+
 -- the answer to a tick's question
 abbrev pub took_leg : Program → Reply → Leg → Program
-took_leg p reply (leg.Contexts asked last) = took_job p reply.payload (leg.Contexts (asked + 1) reply.value)
-took_leg p reply (leg.Ports port) = took_job p reply.payload (leg.Ports (port + 1))
+took_leg p reply l = took_job p reply.payload (answered l reply.value)
 
 abbrev pub took_at : Program → Line → Reply → Stage → Program
 took_at p l reply stage.Fresh = took_first p l reply

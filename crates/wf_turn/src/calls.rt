@@ -1,12 +1,22 @@
 //! The calls of lines that are one call and wait for nothing.
 
-ghost use Rattle.std.specs.Prelude.{◌≡◌};
-ghost use Rattle.wf_turn.specs.Calls.{context_call, element_call, plain_call, set_to, source_call};
+ghost use Rattle.std.specs.Prelude.{◌≡◌, true};
+ghost use Rattle.wf_turn.specs.Calls.{IsPut, context_call, element_call, plain_call, set_to, source_call};
 ghost use Rattle.wf_turn.specs.Program.{handle};
 
 use crate::program::Program;
 use wf_calls::Call;
 use wf_script::{Value, Verb};
+
+/// Puts a call where another one stood.
+#[inline(always)]
+fn put(place: &mut Call, call: Call) -> bool
+    ensures given { result ≡ true }
+    ensures put { place.new ≡ call }
+{
+    *place = call;
+    true
+}
 
 impl<'a> Program<'a> {
     /// What an attribute is set to: four numbers, of which a handle is the first.
@@ -19,155 +29,212 @@ impl<'a> Program<'a> {
         }
     }
 
-    /// The call of a line of a source or a mask, if it is such a line.
-    fn source_call(&self, verb: &'a Verb) -> Option<Call>
-        ensures { result ≡ source_call (handle self.now) verb.now }
+    /// The call of a line of a source or a mask, if it is such a line: it is put where a call stood.
+    fn source_call(&self, verb: &'a Verb, call: &mut Call) -> bool
+        ensures { IsPut (source_call (handle self.now) verb.now) call.new result }
     {
         match verb {
             Verb::SourceNew {
                 device,
                 context,
                 stream,
-            } => Some(Call::SourceNew {
-                device: self.handle(device),
-                context: self.handle(context),
-                stream: self.handle(stream),
-            }),
-            Verb::SourceDestroy { device, source } => Some(Call::SourceDestroy {
-                device: self.handle(device),
-                source: self.handle(source),
-            }),
+            } => put(
+                call,
+                Call::SourceNew {
+                    device: self.handle(device),
+                    context: self.handle(context),
+                    stream: self.handle(stream),
+                },
+            ),
+            Verb::SourceDestroy { device, source } => put(
+                call,
+                Call::SourceDestroy {
+                    device: self.handle(device),
+                    source: self.handle(source),
+                },
+            ),
             Verb::MaskNew {
                 device,
                 context,
                 stream,
-            } => Some(Call::MaskNew {
-                device: self.handle(device),
-                context: self.handle(context),
-                stream: self.handle(stream),
-            }),
-            Verb::MaskDestroy { device, mask } => Some(Call::MaskDestroy {
-                device: self.handle(device),
-                mask: self.handle(mask),
-            }),
-            _ => None,
+            } => put(
+                call,
+                Call::MaskNew {
+                    device: self.handle(device),
+                    context: self.handle(context),
+                    stream: self.handle(stream),
+                },
+            ),
+            Verb::MaskDestroy { device, mask } => put(
+                call,
+                Call::MaskDestroy {
+                    device: self.handle(device),
+                    mask: self.handle(mask),
+                },
+            ),
+            _ => false,
         }
     }
 
-    /// The call of a line of an element, a source or a mask, if it is such a line.
-    fn element_call(&self, verb: &'a Verb) -> Option<Call>
-        ensures { result ≡ element_call (handle self.now) verb.now }
+    /// The call of a line of an element, a source or a mask, if it is such a line: it is put where a call stood.
+    fn element_call(&self, verb: &'a Verb, call: &mut Call) -> bool
+        ensures { IsPut (element_call (handle self.now) verb.now) call.new result }
     {
         match verb {
-            Verb::ElementNew { device, context } => Some(Call::ElementNew {
-                device: self.handle(device),
-                context: self.handle(context),
-            }),
+            Verb::ElementNew { device, context } => put(
+                call,
+                Call::ElementNew {
+                    device: self.handle(device),
+                    context: self.handle(context),
+                },
+            ),
             Verb::ElementSet {
                 device,
                 element,
                 attr,
                 value,
-            } => Some(Call::ElementSet {
-                device: self.handle(device),
-                element: self.handle(element),
-                attr: *attr,
-                value: self.set_to(value),
-            }),
+            } => put(
+                call,
+                Call::ElementSet {
+                    device: self.handle(device),
+                    element: self.handle(element),
+                    attr: *attr,
+                    value: self.set_to(value),
+                },
+            ),
             Verb::ElementGet {
                 device,
                 element,
                 attr,
                 index,
-            } => Some(Call::ElementGet {
-                device: self.handle(device),
-                element: self.handle(element),
-                attr: *attr,
-                index: *index,
-            }),
+            } => put(
+                call,
+                Call::ElementGet {
+                    device: self.handle(device),
+                    element: self.handle(element),
+                    attr: *attr,
+                    index: *index,
+                },
+            ),
             Verb::ElementInsert {
                 device,
                 element,
                 below,
-            } => Some(Call::ElementInsert {
-                device: self.handle(device),
-                element: self.handle(element),
-                below: self.handle(below),
-            }),
-            Verb::ElementRemove { device, element } => Some(Call::ElementRemove {
-                device: self.handle(device),
-                element: self.handle(element),
-            }),
-            Verb::ElementAbove { device, element } => Some(Call::ElementAbove {
-                device: self.handle(device),
-                element: self.handle(element),
-            }),
-            Verb::ElementBelow { device, element } => Some(Call::ElementBelow {
-                device: self.handle(device),
-                element: self.handle(element),
-            }),
-            Verb::ElementDestroy { device, element } => Some(Call::ElementDestroy {
-                device: self.handle(device),
-                element: self.handle(element),
-            }),
-            _ => self.source_call(verb),
+            } => put(
+                call,
+                Call::ElementInsert {
+                    device: self.handle(device),
+                    element: self.handle(element),
+                    below: self.handle(below),
+                },
+            ),
+            Verb::ElementRemove { device, element } => put(
+                call,
+                Call::ElementRemove {
+                    device: self.handle(device),
+                    element: self.handle(element),
+                },
+            ),
+            Verb::ElementAbove { device, element } => put(
+                call,
+                Call::ElementAbove {
+                    device: self.handle(device),
+                    element: self.handle(element),
+                },
+            ),
+            Verb::ElementBelow { device, element } => put(
+                call,
+                Call::ElementBelow {
+                    device: self.handle(device),
+                    element: self.handle(element),
+                },
+            ),
+            Verb::ElementDestroy { device, element } => put(
+                call,
+                Call::ElementDestroy {
+                    device: self.handle(device),
+                    element: self.handle(element),
+                },
+            ),
+            _ => self.source_call(verb, call),
         }
     }
 
-    /// The call of a line of a context or of what is in it, if it is such a line.
-    fn context_call(&self, verb: &'a Verb) -> Option<Call>
-        ensures { result ≡ context_call (handle self.now) verb.now }
+    /// The call of a line of a context or of what is in it, if it is such a line: it is put where a call stood.
+    fn context_call(&self, verb: &'a Verb, call: &mut Call) -> bool
+        ensures { IsPut (context_call (handle self.now) verb.now) call.new result }
     {
         match verb {
-            Verb::ScreenContext { device, port } => Some(Call::ScreenContext {
-                device: self.handle(device),
-                port: *port,
-            }),
+            Verb::ScreenContext { device, port } => put(
+                call,
+                Call::ScreenContext {
+                    device: self.handle(device),
+                    port: *port,
+                },
+            ),
             Verb::ContextSet {
                 device,
                 context,
                 attr,
                 value,
-            } => Some(Call::ContextSet {
-                device: self.handle(device),
-                context: self.handle(context),
-                attr: *attr,
-                value: self.set_to(value),
-            }),
+            } => put(
+                call,
+                Call::ContextSet {
+                    device: self.handle(device),
+                    context: self.handle(context),
+                    attr: *attr,
+                    value: self.set_to(value),
+                },
+            ),
             Verb::ContextGet {
                 device,
                 context,
                 attr,
                 index,
-            } => Some(Call::ContextGet {
-                device: self.handle(device),
-                context: self.handle(context),
-                attr: *attr,
-                index: *index,
-            }),
-            Verb::Commit { device, context } => Some(Call::Commit {
-                device: self.handle(device),
-                context: self.handle(context),
-            }),
-            Verb::Activate { device, context } => Some(Call::Activate {
-                device: self.handle(device),
-                context: self.handle(context),
-            }),
-            Verb::Deactivate { device, context } => Some(Call::Deactivate {
-                device: self.handle(device),
-                context: self.handle(context),
-            }),
-            Verb::ContextDestroy { device, context } => Some(Call::ContextDestroy {
-                device: self.handle(device),
-                context: self.handle(context),
-            }),
-            _ => self.element_call(verb),
+            } => put(
+                call,
+                Call::ContextGet {
+                    device: self.handle(device),
+                    context: self.handle(context),
+                    attr: *attr,
+                    index: *index,
+                },
+            ),
+            Verb::Commit { device, context } => put(
+                call,
+                Call::Commit {
+                    device: self.handle(device),
+                    context: self.handle(context),
+                },
+            ),
+            Verb::Activate { device, context } => put(
+                call,
+                Call::Activate {
+                    device: self.handle(device),
+                    context: self.handle(context),
+                },
+            ),
+            Verb::Deactivate { device, context } => put(
+                call,
+                Call::Deactivate {
+                    device: self.handle(device),
+                    context: self.handle(context),
+                },
+            ),
+            Verb::ContextDestroy { device, context } => put(
+                call,
+                Call::ContextDestroy {
+                    device: self.handle(device),
+                    context: self.handle(context),
+                },
+            ),
+            _ => self.element_call(verb, call),
         }
     }
 
-    /// The call of a line that is one call and waits for nothing, if it is such a line.
-    pub(crate) fn plain_call(&self, verb: &'a Verb) -> Option<Call>
-        ensures { result ≡ plain_call (handle self.now) verb.now }
+    /// The call of a line that is one call and waits for nothing, if it is such a line: it is put where a call stood.
+    pub(crate) fn plain_call(&self, verb: &'a Verb, call: &mut Call) -> bool
+        ensures { IsPut (plain_call (handle self.now) verb.now) call.new result }
     {
         match verb {
             Verb::StreamNew {
@@ -175,24 +242,36 @@ impl<'a> Program<'a> {
                 height,
                 format,
                 buffers,
-            } => Some(Call::StreamNew {
-                width: *width,
-                height: *height,
-                format: *format,
-                buffers: *buffers,
-            }),
-            Verb::StreamDestroy { stream } => Some(Call::StreamDestroy {
-                stream: self.handle(stream),
-            }),
-            Verb::Stat { what } => Some(Call::Stat { what: *what }),
-            Verb::DeviceNew => Some(Call::DeviceNew),
-            Verb::DeviceDestroy { device } => Some(Call::DeviceDestroy {
-                device: self.handle(device),
-            }),
-            Verb::GetError { device } => Some(Call::GetError {
-                device: self.handle(device),
-            }),
-            _ => self.context_call(verb),
+            } => put(
+                call,
+                Call::StreamNew {
+                    width: *width,
+                    height: *height,
+                    format: *format,
+                    buffers: *buffers,
+                },
+            ),
+            Verb::StreamDestroy { stream } => put(
+                call,
+                Call::StreamDestroy {
+                    stream: self.handle(stream),
+                },
+            ),
+            Verb::Stat { what } => put(call, Call::Stat { what: *what }),
+            Verb::DeviceNew => put(call, Call::DeviceNew),
+            Verb::DeviceDestroy { device } => put(
+                call,
+                Call::DeviceDestroy {
+                    device: self.handle(device),
+                },
+            ),
+            Verb::GetError { device } => put(
+                call,
+                Call::GetError {
+                    device: self.handle(device),
+                },
+            ),
+            _ => self.context_call(verb, call),
         }
     }
 }

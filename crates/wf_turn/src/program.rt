@@ -1,10 +1,11 @@
 //! The program of a client: its lines one after another, as calls.
 
-ghost use Rattle.std.specs.Prelude.{◌≡◌, is_some, option_map, slice_get, IfOk, IfSome, IsSomeAnd, IsTrue, Some, None, if◌then◌else◌};
+ghost use Rattle.std.specs.Prelude.{◌≡◌, is_some, option_map, slice_get, IfOk, IfSome, IsSomeAnd, IsTrue, Some, None, true};
+ghost use Rattle.std.specs.Prelude.{if◌then◌else◌};
 ghost use Rattle.std.specs.List.{list_all};
 ghost use Rattle.std.specs.Option.{option_copied};
 ghost use Rattle.wf_script.specs.Script.{is_line};
-ghost use Rattle.wf_turn.specs.Calls.{plain_call};
+ghost use Rattle.wf_turn.specs.Calls.{IsPut, plain_call};
 ghost use Rattle.wf_turn.specs.Program.{asked_for, first_call, first_line, handed, handle, in_setup, kept_first, next, plain, place_of};
 ghost use Rattle.wf_turn.specs.Program.{program, taught, waiting};
 
@@ -62,6 +63,25 @@ fn waiting(call: Call) -> Wanted
     Wanted { call, wait: true }
 }
 
+/// Where a call is put that a program asks for: any call.
+#[inline(always)]
+pub(crate) fn unasked() -> Wanted {
+    Wanted {
+        call: Call::DeviceNew,
+        wait: false,
+    }
+}
+
+/// Puts what is asked for where something else stood.
+#[inline(always)]
+fn ask(place: &mut Wanted, asked: Wanted) -> bool
+    ensures given { result ≡ true }
+    ensures put { place.new ≡ asked }
+{
+    *place = asked;
+    true
+}
+
 /// What a tick asks for.
 fn asked_for(leg: Leg) -> Wanted
     ensures { result ≡ asked_for leg }
@@ -79,6 +99,15 @@ fn line_at(lines: &[Line], at: usize) -> Option<&Line>
     ensures sound { IfSome result (λ l. IsTrue (is_line l.now)) }
 {
     lines.get(at)
+}
+
+/// Puts what a tick asks for where something else stood.
+#[inline(never)]
+fn ask_leg(place: &mut Wanted, leg: Leg) -> bool
+    ensures given { result ≡ true }
+    ensures put { place.new ≡ asked_for leg }
+{
+    ask(place, asked_for(leg))
 }
 
 impl<'a> Program<'a> {
@@ -129,38 +158,94 @@ impl<'a> Program<'a> {
         line_at(self.script.lines(), self.at)
     }
 
-    /// The call that a line begins with, if it makes an event.
-    fn first_call(&mut self, verb: &'a Verb) -> Option<Wanted>
-        ensures wanted { result ≡ first_call self.old verb.now }
+    /// The call that a line begins with, if it makes an event: it is put where one stood.
+    fn first_call(&mut self, verb: &'a Verb, wanted: &mut Wanted) -> bool
+        ensures wanted { IsPut (first_call self.old verb.now) wanted.new result }
         ensures handed { self.new ≡ record self.old { canvas = kept_first verb.now self.old.canvas } }
     {
         match verb {
-            Verb::Acquire { stream } | Verb::Frame { stream, .. } => self.acquire(stream),
-            Verb::Post => Some(plain(Call::Post(self.canvas.take()?))),
-            Verb::Discard => Some(plain(Call::Discard(self.canvas.take()?))),
-            Verb::Paint(_) => None,
-            Verb::Tick => Some(waiting(Call::BeginNext { after: 0 })),
-            _ => self.one_call(verb),
+            Verb::Acquire { stream } | Verb::Frame { stream, .. } => self.acquire(stream, wanted),
+            Verb::Post => self.post(wanted),
+            Verb::Discard => self.discard(wanted),
+            Verb::Paint(_) => false,
+            Verb::Tick => ask(wanted, waiting(Call::BeginNext { after: 0 })),
+            _ => self.one_call(verb, wanted),
         }
     }
 
     /// What a line wants that is one call and waits for nothing, if it is such a line.
-    fn one_call(&self, verb: &'a Verb) -> Option<Wanted>
-        ensures { result ≡ option_map plain (plain_call (handle self.now) verb.now) }
+    fn one_call(&self, verb: &'a Verb, wanted: &mut Wanted) -> bool
+        ensures { IsPut (option_map plain (plain_call (handle self.now) verb.now)) wanted.new result }
     {
-        Some(plain(self.plain_call(verb)?))
+        wanted.wait = false;
+        self.plain_call(verb, &mut wanted.call)
     }
 
     /// Asks for a stream's write buffer, unless one is held.
-    fn acquire(&self, stream: &'a Option<Name>) -> Option<Wanted>
-        ensures { result ≡ (if is_some self.now.canvas then None else Some (plain (Call.Acquire (handle self.now stream.now)))) }
+    fn acquire(&self, stream: &'a Option<Name>, wanted: &mut Wanted) -> bool
+        ensures { IsPut (if is_some self.now.canvas then None else Some (plain (Call.Acquire (handle self.now stream.now)))) wanted.new result }
     {
         if self.canvas.is_some() {
-            return None;
+            return false;
         }
-        Some(plain(Call::Acquire {
-            stream: self.handle(stream),
-        }))
+        ask(
+            wanted,
+            plain(Call::Acquire {
+                stream: self.handle(stream),
+            }),
+        )
+    }
+
+    /// Hands the canvas out, to be posted.
+    #[inline(never)]
+    fn post(&mut self, wanted: &mut Wanted) -> bool
+        ensures wanted { IsPut (option_map (λ canvas. plain (Call.Post canvas)) self.old.canvas) wanted.new result }
+        ensures handed { self.new ≡ record self.old { canvas = None } }
+    {
+        match self.canvas.take() {
+            Some(canvas) => ask(wanted, plain(Call::Post(canvas))),
+            None => false,
+        }
+    }
+
+    /// Hands the canvas out, to be given back.
+    #[inline(never)]
+    fn discard(&mut self, wanted: &mut Wanted) -> bool
+        ensures wanted { IsPut (option_map (λ canvas. plain (Call.Discard canvas)) self.old.canvas) wanted.new result }
+        ensures handed { self.new ≡ record self.old { canvas = None } }
+    {
+        match self.canvas.take() {
+            Some(canvas) => ask(wanted, plain(Call::Discard(canvas))),
+            None => false,
+        }
+    }
+
+    /// Hands the Job out, to be ended.
+    #[inline(never)]
+    fn end(&mut self, wanted: &mut Wanted) -> bool
+        ensures wanted { IsPut (option_map (λ job. plain (Call.End job)) self.old.job) wanted.new result }
+        ensures handed { self.new ≡ record self.old { job = None } }
+    {
+        match self.job.take() {
+            Some(job) => ask(wanted, plain(Call::End(job))),
+            None => false,
+        }
+    }
+
+    /// The next call, as `next` gives it, if there is one: it is put where one stood.
+    pub(crate) fn next_into(&mut self, wanted: &mut Wanted) -> bool
+        ensures wanted { IsPut (next self.old) wanted.new result }
+        ensures handed { self.new ≡ handed self.old }
+    {
+        let Some(line) = self.first_line() else {
+            return false;
+        };
+        match self.stage {
+            Stage::Fresh => self.first_call(&line.verb, wanted),
+            Stage::Posting => self.post(wanted),
+            Stage::Ticking(leg) => ask_leg(wanted, leg),
+            Stage::Ending(_) => self.end(wanted),
+        }
     }
 
     /// The next call, or none where the client's lines are through. What the call carries goes out with it. No Job is
@@ -169,11 +254,11 @@ impl<'a> Program<'a> {
         ensures wanted { result ≡ next self.old }
         ensures handed { self.new ≡ handed self.old }
     {
-        match (self.first_line()?, self.stage) {
-            (line, Stage::Fresh) => self.first_call(&line.verb),
-            (_, Stage::Posting) => Some(plain(Call::Post(self.canvas.take()?))),
-            (_, Stage::Ticking(leg)) => Some(asked_for(leg)),
-            (_, Stage::Ending(_)) => Some(plain(Call::End(self.job.take()?))),
+        let mut wanted = unasked();
+        if self.next_into(&mut wanted) {
+            Some(wanted)
+        } else {
+            None
         }
     }
 

@@ -1,19 +1,20 @@
 //! The answers that a program takes.
 
-ghost use Rattle.std.specs.Prelude.{◌≡◌, ◌<◌, ◌≤◌, ◌+◌, ◌-◌, ◌^◌, ◌++◌, length, is_some, IsTrue};
+ghost use Rattle.std.specs.Prelude.{◌≡◌, ◌<◌, ◌≤◌, ◌+◌, ◌-◌, ◌^◌, ◌++◌, length, is_some, IsTrue, None, false};
 ghost use Rattle.std.specs.Option.{option_copied};
 ghost use Rattle.wf_image.specs.Paints.{is_paint};
+ghost use Rattle.wf_calls.specs.Replies.{bare};
 ghost use Rattle.wf_script.specs.Script.{is_line};
 ghost use Rattle.wf_turn.specs.Ready.{IsAnswered, IsAsking, IsWork};
 ghost use Rattle.wf_turn.specs.Names.{bound_name, bound_value};
-ghost use Rattle.wf_turn.specs.Program.{asked_next, at_port, given_canvas, go_on, line_done, port_count, took, took_canvas, took_first};
+ghost use Rattle.wf_turn.specs.Program.{answered, asked_next, at_port, given_canvas, go_on, line_done, port_count, took, took_canvas, took_first};
 ghost use Rattle.wf_turn.specs.Program.{took_frame, took_job, took_leg, is_work, ticking, worked};
 
 use crate::names::{Names, is_creation};
 use crate::program::Program;
 use crate::skipping::skip;
 use crate::stage::{Leg, Stage};
-use wf_calls::{Job, Payload, Reply};
+use wf_calls::{Answer, Job, Payload, Reply};
 use wf_image::{Canvas, Paint};
 use wf_kernel::picture;
 use wf_script::{Line, Verb};
@@ -159,24 +160,89 @@ impl<'a> Program<'a> {
         }
     }
 
+    /// Where a tick goes on after the answer to a question.
+    fn answered(&self, leg: Leg, value: u32) -> Leg
+        requires asking { IsAsking (port_count self.now) leg }
+        requires ports { port_count self.now ≤ 4 }
+        ensures leg { result ≡ answered leg value }
+        ensures answered { IsAnswered (port_count self.now) result }
+    {
+        match leg {
+            Leg::Contexts { asked, .. } => Leg::Contexts {
+                asked: asked + 1,
+                last: value,
+            },
+            Leg::Ports { port } => Leg::Ports { port: port + 1 },
+        }
+    }
+
     /// Takes the answer to a tick's question.
     fn took_leg(&mut self, leg: Leg, reply: Reply)
         requires asking { IsAsking (port_count self.old) leg }
         requires ports { port_count self.old ≤ 4 }
         ensures { self.new ≡ took_leg self.old reply leg }
     {
-        let next = match leg {
-            Leg::Contexts { asked, .. } => Leg::Contexts {
-                asked: asked + 1,
-                last: reply.value,
-            },
-            Leg::Ports { port } => Leg::Ports { port: port + 1 },
-        };
+        let next = self.answered(leg, reply.value);
         self.took_job(reply.payload, next);
     }
 
-    /// Takes the answer to the last call that was handed out.
-    pub fn took(&mut self, reply: Reply)
+    /// Goes on without a canvas: none came.
+    fn without_canvas(&mut self)
+        ensures { self.new ≡ took_canvas self.old Payload.Nothing }
+    {
+        self.canvas = None;
+        self.finish(0);
+    }
+
+    /// Goes on after the end of a frame.
+    #[inline(never)]
+    fn ended(&mut self, leg: Leg)
+        requires { IsAnswered (port_count self.old) leg }
+        ensures { self.new ≡ go_on (record self.old { job = None; unpainted = false }) leg }
+    {
+        self.job = None;
+        self.unpainted = false;
+        self.go_on(leg);
+    }
+
+    /// Takes the answer to the first call of a line, with which nothing comes.
+    fn took_first_answer(&mut self, line: &Line, answer: Answer)
+        requires line { IsTrue (is_line line.now) }
+        requires fresh { self.old.stage ≡ Stage.Fresh }
+        ensures { self.new ≡ took_first self.old line.now (bare answer) }
+    {
+        match &line.verb {
+            Verb::Acquire { .. } | Verb::Post | Verb::Discard => self.without_canvas(),
+            Verb::Frame { .. } => self.finish(0),
+            Verb::Tick => {
+                self.start_tick();
+                self.go_on(Leg::Contexts {
+                    asked: 1,
+                    last: answer.value,
+                });
+            }
+            _ => self.finish(answer.value),
+        }
+    }
+
+    /// Takes the answer to the last call that was handed out, with which nothing comes.
+    pub(crate) fn took_answer(&mut self, answer: Answer)
+        ensures { self.new ≡ took self.old (bare answer) }
+    {
+        let Some(line) = self.first_line() else {
+            return;
+        };
+        match self.stage {
+            Stage::Fresh => self.took_first_answer(line, answer),
+            Stage::Posting => self.without_canvas(),
+            Stage::Ticking(leg) => self.go_on(self.answered(leg, answer.value)),
+            Stage::Ending(leg) => self.ended(leg),
+        }
+    }
+
+    /// Takes an answer with which something comes.
+    #[inline(never)]
+    fn took_payload(&mut self, reply: Reply)
         ensures { self.new ≡ took self.old reply }
     {
         let Some(line) = self.first_line() else {
@@ -186,11 +252,24 @@ impl<'a> Program<'a> {
             Stage::Fresh => self.took_first(line, reply),
             Stage::Posting => self.took_canvas(reply.payload),
             Stage::Ticking(leg) => self.took_leg(leg, reply),
-            Stage::Ending(leg) => {
-                self.job = None;
-                self.unpainted = false;
-                self.go_on(leg);
-            }
+            Stage::Ending(leg) => self.ended(leg),
+        }
+    }
+
+    /// Takes the answer to the last call that was handed out.
+    pub fn took(&mut self, reply: Reply)
+        ensures { self.new ≡ took self.old reply }
+    {
+        match reply.payload {
+            Payload::Nothing => self.took_answer(Answer {
+                code: reply.code,
+                value: reply.value,
+            }),
+            payload => self.took_payload(Reply {
+                code: reply.code,
+                value: reply.value,
+                payload,
+            }),
         }
     }
 

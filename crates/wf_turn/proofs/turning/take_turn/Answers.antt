@@ -1,25 +1,54 @@
-use Rattle.std.proofs.Common.{◌∙◌, sym, ap, subst}
-use Rattle.wf_calls.specs.Codes.{entry}
-use Rattle.wf_calls.specs.declared.order.Turn.{Turn}
-use Rattle.wf_turn.specs.Playing.{TakesTurn}
-use Rattle.wf_turn.specs.Program.{Program, is_work, took, worked}
+use Rattle.std.proofs.Common.{◌≡◌, Some, subst, sym}
+use Rattle.wf_calls.specs.Replies.{bare}
+use Rattle.wf_turn.specs.Calls.{put_some}
+use Rattle.wf_turn.specs.Playing.{Answers, TakesTurn}
+use Rattle.wf_turn.specs.Program.{is_work, next, worked}
 use Rattle.wf_turn.specs.Ready.{IsWork}
 use Rattle.wf_turn.proofs.Turnings.{turn_taken}
 use Rattle.wf_turn.proofs.turning.take_turn.Goals as goal
 
-module _ (c : goal.After-took) where
-  taken : TakesTurn c.args.client c.args.machine.now c.run-reply.new.self c.args.program.now (worked c.took.new.self)
-      (entry c.args.client c.run-reply.result) (is_work c.took.new.self) × IsWork c.took.new.self
-  taken =
+-- the machine answered
+module _ (c : goal.Joined-wanted) where
+  answered : TakesTurn c.args.client c.args.machine.now c.answer.new.self c.args.program.now (worked c.took_answer.new.self) c.entry.result
+      (is_work c.took_answer.new.self) × IsWork c.took_answer.new.self
+  answered =
       let p = c.args.program.now in
-      turn_taken c.args.client c.args.machine.now c.run-reply.new.self p c.took.new.self c.in-Some.wanted c.run-reply.result c.requires.fit
-      c.requires.alone (sym c.next.ensures.wanted ∙ c.in-Some.is) c.run-reply.ensures.after c.run-reply.ensures.may
-      (c.took.ensures ∙ ap (λ (q : Program). took q c.run-reply.result) c.next.ensures.handed)
+      let asks : next p ≡ Some c.next_into.new.wanted =
+      put_some (next p) c.next_into.new.wanted c.next_into.result c.next_into.ensures.wanted c.if-not-next_into.false in
+      let answers : Answers c.args.client c.args.machine.now c.answer.new.self c.next_into.new.wanted.call c.next_into.new.self
+      c.took_answer.new.self c.entry.result =
+      record {
+        reply = bare c.in-Some.answer;
+        left_is = rw c.in-Some.is at c.answer.ensures.after;
+        may = rw c.in-Some.is at c.answer.ensures.may;
+        now_is = c.took_answer.ensures;
+        entry_is = c.entry.ensures;
+      } in
+      turn_taken c.args.client c.args.machine.now c.answer.new.self p c.took_answer.new.self c.next_into.new.wanted c.entry.result
+      c.requires.fit c.requires.alone asks (rw c.next_into.ensures.handed at answers)
 
-pub returns-clause-takes : goal.returns-clause-takes
-returns-clause-takes c =
-    subst (λ (t : Turn). TakesTurn c.args.client c.args.machine.now c.run-reply.new.self c.args.program.now (worked c.took.new.self) t
-    (is_work c.took.new.self)) (sym c.entry-turn.ensures) (taken c).0
+pub returns-in-Some-clause-takes : goal.returns-in-Some-clause-takes
+returns-in-Some-clause-takes c = (answered c).0
 
-pub returns-clause-work : goal.returns-clause-work
-returns-clause-work c = (taken c).1
+pub returns-in-Some-clause-work : goal.returns-in-Some-clause-work
+returns-in-Some-clause-work c = (answered c).1
+
+-- the call may carry an image
+module _ (c : goal.After-take_carrying_turn) where
+  carried : TakesTurn c.args.client c.args.machine.now c.take_carrying_turn.new.machine c.args.program.now
+      (worked c.take_carrying_turn.new.program) c.take_carrying_turn.result (is_work c.take_carrying_turn.new.program)
+      × IsWork c.take_carrying_turn.new.program
+  carried =
+      let p = c.args.program.now in
+      let asks : next p ≡ Some c.next_into.new.wanted =
+      put_some (next p) c.next_into.new.wanted c.next_into.result c.next_into.ensures.wanted c.if-not-next_into.false in
+      let same : c.answer.new.self ≡ c.args.machine.now = (rw c.in-None.is at c.answer.ensures.carries).1 in
+      turn_taken c.args.client c.args.machine.now c.take_carrying_turn.new.machine p c.take_carrying_turn.new.program
+      c.next_into.new.wanted c.take_carrying_turn.result c.requires.fit c.requires.alone asks
+      (rw (c.next_into.ensures.handed, same) at c.take_carrying_turn.ensures)
+
+pub returns-in-None-clause-takes : goal.returns-in-None-clause-takes
+returns-in-None-clause-takes c = (carried c).0
+
+pub returns-in-None-clause-work : goal.returns-in-None-clause-work
+returns-in-None-clause-work c = (carried c).1
