@@ -14,7 +14,8 @@ ghost use Rattle.wf_turn.specs.Ready.{IsWork};
 ghost use Rattle.wf_turn.specs.Serial.{IsFirst};
 ghost use Rattle.wf_turn.specs.Turns.{opening_show, shown};
 
-use crate::program::Program;
+use crate::program::{Program, unasked};
+use crate::stage::Wanted;
 use crate::turning::take_turn;
 use std::alloc::Global;
 use std::marker::Model;
@@ -28,12 +29,14 @@ use wf_words::NoMemory;
 /// How many clients there are beside the clock.
 const OTHERS: u8 = 7;
 
-/// The machine, the program of the clock, which is client 0, and those of the other clients of a script.
+/// The machine, the program of the clock, which is client 0, and those of the other clients of a script, and the place
+/// where each turn puts its call.
 #[derive(Drop)]
 pub(crate) struct Show<'a> {
     machine: Machine,
     clock: Program<'a>,
     others: Vec<Program<'a>>,
+    wanted: Wanted,
 }
 
 impl<'a> Model for Show<'a> {
@@ -110,15 +113,16 @@ fn take_turn_of(
     clock: &mut Program,
     others: &mut Vec<Program>,
     client: usize,
+    wanted: &mut Wanted,
 ) -> Turn
     requires within { client < 8 }
     requires ready { IsSomeAnd (slice_get (clock.old ∷ others.old.items) client) (IsReady machine.old) }
     ensures { TakesTurnAt client machine.old machine.new (clock.old ∷ others.old.items) (clock.new ∷ others.new.items) result }
 {
     if client == 0 {
-        take_turn(machine, clock, 0)
+        take_turn(machine, clock, 0, wanted)
     } else {
-        take_turn(machine, &mut others[client - 1], client as u8)
+        take_turn(machine, &mut others[client - 1], client as u8, wanted)
     }
 }
 
@@ -137,6 +141,7 @@ impl<'a> Show<'a> {
             machine,
             clock,
             others,
+            wanted: unasked(),
         })
     }
 
@@ -166,7 +171,13 @@ impl<'a> Show<'a> {
         ensures work { IfSome (slice_get self.new.programs client) IsWork }
     {
         let was_setup = self.clock.in_setup();
-        let turn = take_turn_of(&mut self.machine, &mut self.clock, &mut self.others, client);
+        let turn = take_turn_of(
+            &mut self.machine,
+            &mut self.clock,
+            &mut self.others,
+            client,
+            &mut self.wanted,
+        );
         hand_on(was_setup, &self.clock, &mut self.others);
         turn
     }
