@@ -7,7 +7,7 @@ play and any other. Nothing here judges a script: the program does.
 
 from typing import NamedTuple, Optional
 
-from lib.film import CODES, OK, Entry
+from lib.film import CODES, OK
 
 HEADER = "WFS1"
 CLIENTS = "01234567"
