@@ -10,7 +10,6 @@ A film is refused at its first fault, which has a place, the first byte that is 
 """
 
 import contextlib
-import sys
 from typing import NamedTuple, Optional
 
 # The codes of answers, each at its number.
@@ -35,6 +34,7 @@ MOST_PORTS = 4
 MOST_SIDE = 1024
 MOST_CLIENT = 7
 MOST_NUMBER = 2**32 - 1
+STANDARD_INPUT = 0
 
 
 class NoFilm(Exception):
@@ -169,8 +169,5 @@ class Reel:
 @contextlib.contextmanager
 def opened(name):
     """The film of this name, or the one of standard input for `-`."""
-    if name == "-":
-        yield Reel(sys.stdin.buffer)
-    else:
-        with open(name, "rb") as source:
-            yield Reel(source)
+    with open(STANDARD_INPUT if name == "-" else name, "rb", closefd=name != "-") as source:
+        yield Reel(source)

@@ -1,6 +1,8 @@
-"""What all tools over films share: how one ends."""
+"""What all tools over films share: how one ends, and how it writes."""
 
 import argparse
+import contextlib
+import os
 import signal
 import sys
 
@@ -16,11 +18,40 @@ class Refused(Exception):
     """What a tool doesn't do, and why."""
 
 
+class Ended(Exception):
+    """A tool ends with this status and says nothing."""
+
+    def __init__(self, status):
+        super().__init__(status)
+        self.status = status
+
+
 def words_of(text):
     """A reader of words, whose help is the tool's own text."""
     first, _, rest = text.partition("\n")
     form = argparse.RawDescriptionHelpFormatter
     return argparse.ArgumentParser(description=first, epilog=rest.strip("\n"), formatter_class=form)
+
+
+def stream(what):
+    """Standard output for bytes, which are nothing for a terminal."""
+    if sys.stdout.isatty():
+        raise Refused(f"{what} is for a pipe or a file, and standard output is a terminal")
+    return sys.stdout.buffer
+
+
+@contextlib.contextmanager
+def whole(path):
+    """A file to write, which stands at its path as soon as it is whole, and nowhere where that fails."""
+    if path.exists() and not path.is_file():
+        raise Refused(f"{path} is no file")
+    part = path.with_name(path.name + ".part")
+    try:
+        with open(part, "wb") as sink:
+            yield sink
+        os.replace(part, path)
+    finally:
+        part.unlink(missing_ok=True)
 
 
 def run(name, main):
@@ -31,6 +62,8 @@ def run(name, main):
     try:
         main()
         sys.stdout.flush()
+    except Ended as end:
+        status = end.status
     except NoFilm as fault:
         status, line = NO_FILM, str(fault)
     except (Refused, OSError) as fault:
