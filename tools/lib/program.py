@@ -1,10 +1,11 @@
-"""The built program, as the tools play it."""
+"""The built program, as the tools play it: the one that WFPLAY names, or that of this checkout."""
 
+import os
 import subprocess
 from pathlib import Path
 
 TOP = Path(__file__).resolve().parent.parent.parent
-PROGRAM = TOP / "crates/wfplay/out/wfplay"
+PROGRAM = Path(os.environ.get("WFPLAY") or TOP / "crates/wfplay/out/wfplay")
 SECONDS = 120
 
 

@@ -241,11 +241,11 @@ class Story:
         if step.what == NEXT_CONTEXT and value == 0:
             return "no more contexts"
         if step.what in (NEXT_CONTEXT, BEGIN):
-            return f"begin of {self.named(value)}"
+            return f"frame of {self.named(value)} begins"
         if step.what == PORT:
-            return f"begin of port {step.port}"
+            return f"frame of port {step.port} begins"
         if step.what == END:
-            return f"end of port {step.port}" if step.port else "end of its frame"
+            return f"frame of port {step.port} ends" if step.port else "frame ends"
         return step.what
 
     def meaning(self, step, entry):
