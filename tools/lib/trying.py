@@ -5,6 +5,7 @@ import importlib.machinery
 import importlib.util
 import io
 import json
+import os
 import re
 import struct
 import subprocess
@@ -12,7 +13,7 @@ import sys
 import zlib
 
 from lib.film import Film
-from lib.program import TOP, play
+from lib.program import PROGRAM, TOP, play
 
 TOOLS = TOP / "tools"
 SECONDS = 60
@@ -39,9 +40,10 @@ def said(module, *words):
 
 
 def ran(name, *words, data=b""):
-    """The status, the output and the notes of a tool as a program of its own, which reads a pipe."""
+    """The status, the output and the notes of a tool as a program of its own, which reads a pipe. It builds no program."""
     words = [str(TOOLS / name), *map(str, words)]
-    done = subprocess.run(words, input=data, capture_output=True, timeout=SECONDS, check=False)
+    around = os.environ | {"WFPLAY": str(PROGRAM)}
+    done = subprocess.run(words, input=data, capture_output=True, timeout=SECONDS, env=around, check=False)
     return done.returncode, done.stdout, done.stderr.decode()
 
 
