@@ -1,4 +1,4 @@
-use Rattle.std.proofs.Common.{◌≡◌, Some, subst, sym}
+use Rattle.std.proofs.Common.{◌≡◌, Some}
 use Rattle.wf_calls.specs.Replies.{bare}
 use Rattle.wf_turn.specs.Calls.{put_some}
 use Rattle.wf_turn.specs.Playing.{Answers, TakesTurn}
@@ -8,7 +8,7 @@ use Rattle.wf_turn.proofs.Turnings.{turn_taken}
 use Rattle.wf_turn.proofs.turning.take_turn.Goals as goal
 
 -- the machine answered
-module _ (c : goal.Joined-wanted) where
+module _ (c : goal.After-entry) where
   answered : TakesTurn c.args.client c.args.machine.now c.answer.new.self c.args.program.now (worked c.took_answer.new.self) c.entry.result
       (is_work c.took_answer.new.self) × IsWork c.took_answer.new.self
   answered =

@@ -27,7 +27,7 @@ loop-behind-preserved c =
       omega (arith, c.push_reserved.ensures.len, c.loop-behind.invariant.2),
     )
 
-module _ (c : goal.After-loop-behind) where
+module _ (c : goal.After-unasked) where
   seven : c.loop-behind.behind ≡ 7
   seven = omega (arith, c.loop-behind-test.false, c.loop-behind.auto.behind-end)
 
