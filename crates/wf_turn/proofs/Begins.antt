@@ -95,8 +95,8 @@ module _ (p : Program) (h : State) (client : ℕ) (m : Bool) (w : Wanted) (f : R
       let wanted : Some (plain (call.End j)) ≡ Some w = rw (is, at, job) at asks in
       let is_end : plain (call.End j) ≡ w = cc in
       record {
-        plain_is = ap (λ (y : Wanted). y.wait) (sym is_end);
-        free = subst (λ (y : Wanted). (step h client y.call m).0.frame ≡ None) is_end (rw (runs, own) refl);
+        plain_is = ap (λ y. y.wait) (sym is_end);
+        free = subst (λ y. (step h client y.call m).0.frame ≡ None) is_end (rw (runs, own) refl);
         shows =
             let q : Program = go_on (record p { job = None; unpainted = false }) leg in
             let goes : took p (step h client w.call m).1 ≡ q = rw (is, at) refl in

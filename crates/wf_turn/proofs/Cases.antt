@@ -57,23 +57,23 @@ module _ (p : Program) (T : Wanted → (Reply → Program) → Type 0) where
         → T (plain (call.End job)) (λ reply. go_on (record p { job = None; unpainted = false }) l)
 
   of_waiting : (w : Wanted) (c : Call) (now : Reply → Program) → Some (waiting c) ≡ Some w → T (waiting c) now → T w now
-  of_waiting w c now asks holds = (let is : waiting c ≡ w = cc in subst (λ (x : Wanted). T x now) is holds)
+  of_waiting w c now asks holds = (let is : waiting c ≡ w = cc in subst (λ x. T x now) is holds)
 
   of_test : (w : Wanted) (b : Bool) (c : Call) (now : Reply → Program) → cond b None (Some (plain c)) ≡ Some w → T (plain c) now → T w now
   of_test w true c now asks holds = absurd cc
-  of_test w false c now asks holds = (let is : plain c ≡ w = cc in subst (λ (x : Wanted). T x now) is holds)
+  of_test w false c now asks holds = (let is : plain c ≡ w = cc in subst (λ x. T x now) is holds)
 
   of_held : {A : Type 0} (w : Wanted) (o : Option A) (call_of : A → Call) (now : Reply → Program)
       → option_map (λ x. plain (call_of x)) o ≡ Some w → ((x : A) → o ≡ Some x → T (plain (call_of x)) now) → T w now
   of_held w None call_of now asks holds = absurd cc
-  of_held w (Some x) call_of now asks holds = (let is : plain (call_of x) ≡ w = cc in subst (λ (y : Wanted). T y now) is (holds x refl))
+  of_held w (Some x) call_of now asks holds = (let is : plain (call_of x) ≡ w = cc in subst (λ y. T y now) is (holds x refl))
 
   of_plain : (w : Wanted) → Cases → (o : Option Call) → option_map plain o ≡ Some w → IfSome o (λ c. moves_frame c ≡ false)
       → T w (λ reply. line_done p reply.value)
   of_plain w cases None asks still = absurd cc
   of_plain w cases (Some c) asks still =
       let is : plain c ≡ w = cc in
-      subst (λ (x : Wanted). T x (λ reply. line_done p reply.value)) is (cases.value c still)
+      subst (λ x. T x (λ reply. line_done p reply.value)) is (cases.value c still)
 
   canvas_goes : (w : Wanted) → Cases → (call_of : Canvas → Call) → ((c : Canvas) → moves_frame (call_of c) ≡ false)
       → option_map (λ c. plain (call_of c)) p.canvas ≡ Some w → T w (λ reply. took_canvas p reply.payload)

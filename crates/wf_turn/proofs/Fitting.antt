@@ -55,11 +55,11 @@ holds_done p v few = of_lines p.lines refl
   where
     of_lines : (ls : List (ℕ × Line)) → p.lines ≡ ls → Holds (line_done p v)
     of_lines [] is =
-        let same : line_done p v ≡ record p { lines = [] } = ap (λ (ms : List (ℕ × Line)). line_done (record p { lines = ms }) v) is in
+        let same : line_done p v ≡ record p { lines = [] } = ap (λ ms. line_done (record p { lines = ms }) v) is in
         subst Holds (sym same) (record { at = tt; ports = few })
     of_lines (l ∷ ls) is =
         let same : line_done p v ≡ before (record p { own = bound (bound_name l.1) v p.own }) ls =
-        ap (λ (ms : List (ℕ × Line)). line_done (record p { lines = ms }) v) is in
+        ap (λ ms. line_done (record p { lines = ms }) v) is in
         subst Holds (sym same) (holds_before (record p { own = bound (bound_name l.1) v p.own }) ls few)
 
 holds_ports : (p : Program) (port : ℕ) → port_count p ≤ 4 → Holds (at_port p port)

@@ -35,11 +35,11 @@ module _ (P : Program
     where
       of_lines : (ls : List (ℕ × Line)) → p.lines ≡ ls → P (line_done p v)
       of_lines [] is =
-          let same : line_done p v ≡ record p { lines = [] } = ap (λ (ms : List (ℕ × Line)). line_done (record p { lines = ms }) v) is in
+          let same : line_done p v ≡ record p { lines = [] } = ap (λ ms. line_done (record p { lines = ms }) v) is in
           subst P (sym same) (keeps p [] p.own p.canvas p.job p.unpainted p.stage p.tick holds)
       of_lines (l ∷ ls) is =
           let same : line_done p v ≡ before (record p { own = bound (bound_name l.1) v p.own }) ls =
-          ap (λ (ms : List (ℕ × Line)). line_done (record p { lines = ms }) v) is in
+          ap (λ ms. line_done (record p { lines = ms }) v) is in
           subst P (sym same) (keeps p (skipped p.canvas ls).1 (bound (bound_name l.1) v p.own) (skipped p.canvas ls).0 p.job p.unpainted
           stage.Fresh p.tick holds)
 

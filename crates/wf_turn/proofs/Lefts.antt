@@ -24,7 +24,7 @@ use Rattle.wf_turn.specs.Quota.{left, leg_left, line_quota, lines_left, stage_le
 use Rattle.wf_turn.specs.Ready.{IsAsking, IsAt, IsFit}
 
 one_line : (l : ℕ × Line) (ls : List (ℕ × Line)) → lines_left (l ∷ ls) ≡ line_quota l.1.verb + lines_left ls
-one_line l ls = sum_by-cons (λ (m : ℕ × Line). line_quota m.1.verb) l ls
+one_line l ls = sum_by-cons (λ m. line_quota m.1.verb) l ls
 
 left_skipped : (p : Program) (canvas : Option Canvas) (ls : List (ℕ × Line))
     → left (record p { canvas = (skipped canvas ls).0; lines = (skipped canvas ls).1; stage = stage.Fresh }) ≤ lines_left ls
@@ -118,10 +118,10 @@ left_took p l reply fit is = of_lines p.lines refl
     of_lines : (ls : List (ℕ × Line)) → p.lines ≡ ls → left (worked (took p reply)) + 1 ≤ left p
     of_lines [] none = (let no : None ≡ Some l = ap first_of (sym none) ∙ is in absurd cc)
     of_lines (m ∷ ls) some =
-        let same : p ≡ record p { lines = m ∷ ls } = ap (λ (ms : List (ℕ × Line)). record p { lines = ms }) some in
+        let same : p ≡ record p { lines = m ∷ ls } = ap (λ ms. record p { lines = ms }) some in
         let at : IsAt (record p { lines = m ∷ ls }) m.1 p.stage =
-        subst (λ (ms : List (ℕ × Line)). IfSome (first_of ms) (λ k. IsAt (record p { lines = ms }) k p.stage)) some fit.at in
+        subst (λ ms. IfSome (first_of ms) (λ k. IsAt (record p { lines = ms }) k p.stage)) some fit.at in
         let less = left_at p m ls p.stage reply at fit.ports in
         let full : left (worked (took (record p { lines = m ∷ ls }) reply)) + 1 ≤ left (record p { lines = m ∷ ls }) =
         rw (left_worked (took (record p { lines = m ∷ ls }) reply)) (omega (arith, less)) in
-        subst (λ (q : Program). left (worked (took q reply)) + 1 ≤ left q) (sym same) full
+        subst (λ q. left (worked (took q reply)) + 1 ≤ left q) (sym same) full

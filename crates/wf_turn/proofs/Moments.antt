@@ -58,13 +58,13 @@ module _ (show : Show) (client : ℕ) (m : Bool) (p : Program) (stands : program
     begun (leg.Contexts asked last) tick at asks b is =
         let own = next_is last h b is in
         let t = entry client (start b h).1 in
-        subst (λ (k : JobKind). AreBegun t (shown k tick (painted_job (job_of b h)))) (sym (ap (λ (x : Beginning). x.kind) own.is))
+        subst (λ k. AreBegun t (shown k tick (painted_job (job_of b h)))) (sym (ap (λ x. x.kind) own.is))
         (All-nil (λ f. Begins f show t))
     begun (leg.Ports port) tick at asks b is =
         let own = port_is (pos port) h b is in
         let its = port_beginning (pos port) own.scene in
         let t = entry client (start its h).1 in
-        subst (λ (x : Beginning). AreBegun (entry client (start x h).1) (shown x.kind tick (painted_job (job_of x h)))) (sym own.is)
+        subst (λ x. AreBegun (entry client (start x h).1) (shown x.kind tick (painted_job (job_of x h)))) (sym own.is)
         (All-cons (λ f. Begins f show t) (frame_of port tick (painted_job (job_of its h)).image) []
         (record {
           asks = record { program = p; own = stands; next_is = asks };
@@ -113,7 +113,7 @@ turn_adds show client m done are taken =
     let t = turn_of show client m done taken in
     let reply : Reply = (step show.state client t.wanted.call m).1 in
     let own : t.program.unpainted ≡ false = each_at (Holds IsPainted) show.programs client t.program are t.own in
-    subst (λ (x : Show × Turn). Adds show x.0 x.1) t.is
+    subst (λ x. Adds show x.0 x.1) t.is
     (record {
       painted = handed_hold IsPainted show.programs client (worked (took t.program reply)) (worked_painted (took t.program reply)) are;
       frames = frames_of (took t.program reply);
@@ -142,7 +142,7 @@ module _ (script : PlainScript) (order : List Turn) where
 
   pub of_moments : All (IsOfMoment script order) (frames_after (replay script order))
   of_moments =
-      elim (replay script order) as (λ (o : Option Show). replay script order ≡ o → All (IsOfMoment script order) (frames_after o)) [
+      elim (replay script order) as (λ o. replay script order ≡ o → All (IsOfMoment script order) (frames_after o)) [
         | None ↦ λ none. All-nil (IsOfMoment script order)
         | Some last ↦
             λ is. (order_keeps script order AreOfMoments turn_keeps

@@ -64,12 +64,12 @@ opening_painted script = opening_hold IsPainted refl script 0 8
 
 -- one client more
 pub range_more : (n : ℕ) → range_with_len 1 (n + 1) ≡ range_with_len 1 n ++ (n + 1) ∷ []
-range_more n = from 1 n ∙ ap (λ (k : ℕ). range_with_len 1 n ++ k ∷ []) (omega arith)
+range_more n = from 1 n ∙ ap (λ k. range_with_len 1 n ++ k ∷ []) (omega arith)
   where
     from : (a n : ℕ) → range_with_len a (n + 1) ≡ range_with_len a n ++ (a + n) ∷ []
-    from a zero = (let here : a ≡ a + 0 = omega arith in ap (λ (k : ℕ). k ∷ []) here)
+    from a zero = (let here : a ≡ a + 0 = omega arith in ap (λ k. k ∷ []) here)
     from a (suc n) =
         let shift : suc n + 1 ≡ suc (n + 1) = omega arith in
         let at : a + 1 + n ≡ a + suc n = omega arith in
-        ap (range_with_len a) shift ∙ ap (λ (ns : List ℕ). a ∷ ns) (from (a + 1) n)
-        ∙ ap (λ (k : ℕ). a ∷ range_with_len (a + 1) n ++ k ∷ []) at
+        ap (range_with_len a) shift ∙ ap (λ ns. a ∷ ns) (from (a + 1) n)
+        ∙ ap (λ k. a ∷ range_with_len (a + 1) n ++ k ∷ []) at

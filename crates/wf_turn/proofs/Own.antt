@@ -75,7 +75,7 @@ all_shaped (p ∷ xs) apart whole within =
     more n i found =
         elim (p.0 == n) as (λ b. (p.0 == n) ≡ b → image_of n (p ∷ xs) ≡ Some i) [
           | true ↦ λ here. absurd (let same : p.0 ≡ n = grind (arith, nat_tests, here) in
-              let no : image_of n xs ≡ None = subst (λ (k : ℕ). image_of k xs ≡ None) same apart.0 in cc)
+              let no : image_of n xs ≡ None = subst (λ k. image_of k xs ≡ None) same apart.0 in cc)
           | false ↦ λ other. rw other found
         ] refl
 

@@ -35,11 +35,11 @@ wanted_job is_new (payload.Canvas canvas) job same = absurd cc
 carried : (wanted given : Reply) (job : Job) → JobIsOk wanted → IsAnswer wanted given → given.payload ≡ payload.Job job → IsPaintable job
 carried wanted given job ok answer has =
     let same : SamePayload (is_ok_code given.code) wanted.payload (payload.Job job) =
-    subst (λ (x : Payload). SamePayload (is_ok_code given.code) wanted.payload x) has answer.payload in
+    subst (λ x. SamePayload (is_ok_code given.code) wanted.payload x) has answer.payload in
     let j = wanted_job (is_ok_code given.code) wanted.payload job same in
     let is : is_ok_code given.code ≡ true = ap is_ok_code (answer.code ∙ ok j.0 j.1) in
     let carries : CarriesPaintable (is_ok_code given.code) (payload.Job job) =
-    subst (λ (x : Payload). CarriesPaintable (is_ok_code given.code) x) has answer.paintable in
+    subst (λ x. CarriesPaintable (is_ok_code given.code) x) has answer.paintable in
     rw is at carries
 
 -- a Job that comes with the answer to a call that begins a frame can be painted

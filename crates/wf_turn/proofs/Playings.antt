@@ -53,10 +53,10 @@ module _ {K : Type 0} (took : K → List ℕ → Type 0) where
       record {
         frames = so_far.frames ++ one.frames;
         run =
-            subst (λ (ts : List Turn). IsRun (with_frames [] start) ts (with_frames (so_far.frames ++ one.frames) now)) (sym one.after_is)
+            subst (λ ts. IsRun (with_frames [] start) ts (with_frames (so_far.frames ++ one.frames) now)) (sym one.after_is)
             (run_more (with_frames [] start) (with_frames so_far.frames last) (with_frames (so_far.frames ++ one.frames) now) played
             one.turn so_far.run (next_behind so_far.frames one.frames last now one.turn one.next));
-        put = subst (λ (bytes : List ℕ). Puts took a c bytes) (sym (flat_one so_far.frames one.frames))
+        put = subst (λ bytes. Puts took a c bytes) (sym (flat_one so_far.frames one.frames))
             (puts_both took a b c (flat_map frame_bytes so_far.frames) (flat_map frame_bytes one.frames) so_far.put one.put);
         written_is = omega (
           arith,
@@ -87,8 +87,8 @@ module _ {K : Type 0} (took : K → List ℕ → Type 0) where
         own = stop.own;
         played_is = stop.after_is;
         part =
-            subst (λ (bytes : List ℕ). PutsPart took a c was bytes written)
-            (sym (flat_one so_far.frames (stop.frame ∷ []) ∙ ap (λ (bytes : List ℕ). flat_map frame_bytes so_far.frames ++ bytes) one))
+            subst (λ bytes. PutsPart took a c was bytes written)
+            (sym (flat_one so_far.frames (stop.frame ∷ []) ∙ ap (λ bytes. flat_map frame_bytes so_far.frames ++ bytes) one))
             (stops_late took a b c was middle (flat_map frame_bytes so_far.frames) (frame_bytes stop.frame) written so_far.put
             so_far.written_is stop.part);
         least = omega (arith, so_far.written_is, stop.part.least);
@@ -126,24 +126,24 @@ stopped took k a was written show middle now client t u painted ended played fir
     elim (one_shown true middle.programs client) [
       | inl none ↦
           absurd (let short = part.short in let nothing : length (flat_map frame_bytes (shown_by true middle.programs client))
-          ≡ 0 = ap (λ (fs : List Frame). length (flat_map frame_bytes fs)) none in omega (arith, part.least, short, nothing))
+          ≡ 0 = ap (λ fs. length (flat_map frame_bytes fs)) none in omega (arith, part.least, short, nothing))
       | inr one ↦ of_frame one.0 one.1
     ]
   where
     of_frame : (f : Frame) → shown_by true middle.programs client ≡ f ∷ [] → StopsTurn took k a was written show now played after
     of_frame f is =
-        let shows : shown_by painted middle.programs client ≡ f ∷ [] = ap (λ (b : Bool). shown_by b middle.programs client) paints ∙ is in
+        let shows : shown_by painted middle.programs client ≡ f ∷ [] = ap (λ b. shown_by b middle.programs client) paints ∙ is in
         let runs : IsSome middle.state.frame = of_running middle.state.frame refl shows in
         record {
           begins = t;
           ends = u;
           frame = f;
           middle = middle;
-          begun = subst (λ (fs : List Frame). TurnsTo show t fs middle) shows begins.next;
-          ended = subst (λ (fs : List Frame). TurnsTo middle u fs now) (ends.ended runs) ends.next;
+          begun = subst (λ fs. TurnsTo show t fs middle) shows begins.next;
+          ended = subst (λ fs. TurnsTo middle u fs now) (ends.ended runs) ends.next;
           own = ends.client_is ∙ sym begins.client_is;
-          after_is = after_is ∙ ap (λ (ts : List Turn). ts ++ u ∷ []) first_is ∙ append_assoc played (t ∷ []) (u ∷ []);
-          part = subst (λ (bytes : List ℕ). PutsPart took k a was bytes written) (ap (λ (fs : List Frame). flat_map frame_bytes fs) is
+          after_is = after_is ∙ ap (λ ts. ts ++ u ∷ []) first_is ∙ append_assoc played (t ∷ []) (u ∷ []);
+          part = subst (λ bytes. PutsPart took k a was bytes written) (ap (λ fs. flat_map frame_bytes fs) is
               ∙ append-nil (frame_bytes f)) part;
         }
       where

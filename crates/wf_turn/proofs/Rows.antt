@@ -176,5 +176,5 @@ not_at_creation begins =
     let own : Some (program created 0) ≡ Some begins.asks.program = begins.asks.own in
     let is : program created 0 ≡ begins.asks.program = cc in
     let next : next (program created 0) ≡ Some (waiting (call.BeginPort (pos 1))) =
-    subst (λ (p : Program). next p ≡ Some (waiting (call.BeginPort (pos 1)))) (sym is) begins.asks.next_is in
+    subst (λ p. next p ≡ Some (waiting (call.BeginPort (pos 1)))) (sym is) begins.asks.next_is in
     absurd cc

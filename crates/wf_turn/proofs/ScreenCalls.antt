@@ -87,8 +87,8 @@ module _ (n : ℕ) (Composed : ℕ → Bitmap → Type 0) where
           (and_parts (s.buffers.out && same_size canvas.image.size s.buffers.size) (same_format canvas.image.format s.buffers.format)
           out).0 in
           let draws : is_target canvas.stream h.frame ≡ true =
-          subst (λ (k : ℕ). is_target k h.frame ≡ true) own.1
-          ((own.0 (subst (λ (k : ℕ). nat_le k n ≡ true) (sym own.1) screen)).drawn first.0) in
+          subst (λ k. is_target k h.frame ≡ true) own.1
+          ((own.0 (subst (λ k. nat_le k n ≡ true) (sym own.1) screen)).drawn first.0) in
           (let no : not true ≡ true = rw draws at parts.0 in cc)
 
       of_range : (b : Bool) → nat_le canvas.stream n ≡ b → nat_le canvas.stream n ≡ false
@@ -114,7 +114,7 @@ module _ (n : ℕ) (Composed : ℕ → Bitmap → Type 0) where
           → o ≡ Some s
       live_at None same = absurd cc
       live_at (Some t) same =
-          ap (λ (x : KeptStream). Some x) (of_tests t (refuse code.Busy t.buffers.out) (λ _. refuse code.NoBuffer (is_blocked t.buffers))
+          ap (λ x. Some x) (of_tests t (refuse code.Busy t.buffers.out) (λ _. refuse code.NoBuffer (is_blocked t.buffers))
           same)
 
   settled : (b : Bool) (h : State) → AreScreens h → AreScreens (settle_if b h)
@@ -141,21 +141,21 @@ module _ (n : ℕ) (Composed : ℕ → Bitmap → Type 0) where
   effect_keeps : (h : State) (c : Call) (x : State × Reply) → Effect h c x → Carries c → AreScreens h → AreScreens x.0
   effect_keeps h c x (refuses honest left) carries are = subst AreScreens (sym left) (offered_keeps (register_of c) x.1.code h are)
   effect_keeps h c x (composes made core value is) carries are =
-      subst (λ (y : State × Reply). AreScreens y.0) (sym is) (record { streams = are.streams; numbered = are.numbered })
-  effect_keeps h c x (makes new is) carries are = subst (λ (y : State × Reply). AreScreens y.0) (sym is) (made_keeps new h are)
+      subst (λ y. AreScreens y.0) (sym is) (record { streams = are.streams; numbered = are.numbered })
+  effect_keeps h c x (makes new is) carries are = subst (λ y. AreScreens y.0) (sym is) (made_keeps new h are)
   effect_keeps h c x (unnames handle is) carries are =
-      subst (λ (y : State × Reply). AreScreens y.0) (sym is)
+      subst (λ y. AreScreens y.0) (sym is)
       (record { streams = unnamed_fine n Composed handle h.frame h.streams are.streams; numbered = are.numbered })
   effect_keeps h c x (acquires handle s at is) carries are =
-      subst (λ (y : State × Reply). AreScreens y.0) (sym is) (changed_keeps s.number acquired h (acquired_apart handle s h are at) are)
+      subst (λ y. AreScreens y.0) (sym is) (changed_keeps s.number acquired h (acquired_apart handle s h are at) are)
   effect_keeps h c x (returns canvas f way out is) carries are =
-      subst (λ (y : State × Reply). AreScreens y.0) (sym is) (changed_keeps canvas.stream f h (clients_canvas canvas h are out) are)
+      subst (λ y. AreScreens y.0) (sym is) (changed_keeps canvas.stream f h (clients_canvas canvas h are out) are)
   effect_keeps h c x (begins b free begun is) carries are =
-      subst (λ (y : State × Reply). AreScreens y.0) (sym is)
+      subst (λ y. AreScreens y.0) (sym is)
       (record { streams = begun_fine n Composed (job_of b h) h (not_some h.frame free) are.streams; numbered = are.numbered })
   effect_keeps h c x (ends job r call_is runs own is) carries are =
-      subst (λ (y : State × Reply). AreScreens y.0) (sym is) (ended_keeps job r h runs own (carries job call_is) are)
-  effect_keeps h c x (tells value is) carries are = subst (λ (y : State × Reply). AreScreens y.0) (sym is) are
+      subst (λ y. AreScreens y.0) (sym is) (ended_keeps job r h runs own (carries job call_is) are)
+  effect_keeps h c x (tells value is) carries are = subst (λ y. AreScreens y.0) (sym is) are
 
   pub step_keeps : (h : State) (client : ℕ) (c : Call) (m : Bool) → Carries c → AreScreens h → AreScreens (step h client c m).0
   unfolding step

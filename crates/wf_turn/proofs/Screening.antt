@@ -64,7 +64,7 @@ module _ (n : ℕ) (Composed : ℕ → Bitmap → Type 0) where
   other k g out f s fine =
       elim (s.number == k) as (λ b. (s.number == k) ≡ b → Fine f (cond b (record s { buffers = g s.buffers }) s)) [
         | true ↦ λ here screen. absurd (let no : nat_le k n
-            ≡ true = subst (λ (x : ℕ). nat_le x n ≡ true) (eqb-true s.number k here) screen in cc)
+            ≡ true = subst (λ x. nat_le x n ≡ true) (eqb-true s.number k here) screen in cc)
         | false ↦ λ apart. fine
       ] refl
 
@@ -174,8 +174,8 @@ module _ (n : ℕ) (Composed : ℕ → Bitmap → Type 0) where
       of_stream (Some s) at =
           let own = at_number f k ss s are at in
           let newest_is : newest s.buffers ≡ Some image = rw at at has in
-          subst (λ (x : ℕ). Composed x image) own.1 (newest_composed f s image
-          (own.0 (subst (λ (x : ℕ). nat_le x n ≡ true) (sym own.1) screen)) newest_is)
+          subst (λ x. Composed x image) own.1 (newest_composed f s image
+          (own.0 (subst (λ x. nat_le x n ≡ true) (sym own.1) screen)) newest_is)
 
   pub newest_home : (f : Option Running) (ns : List ℕ) (ss : List KeptStream) → AreFine f ss → AreHome (newest_images ns ss)
   newest_home f [] ss are = tt
@@ -192,8 +192,8 @@ module _ (n : ℕ) (Composed : ℕ → Bitmap → Type 0) where
         | true ↦ λ here. (
             let same : x.1 ≡ image = (let is : Some x.1 ≡ Some image = rw here at has in cc) in
             let number : x.0 ≡ k = eqb-true x.0 k here in
-            subst (λ (i : Bitmap). Composed k i) same (subst (λ (m : ℕ). Composed m x.1) number
-            (are.0 (subst (λ (m : ℕ). nat_le m n ≡ true) (sym number) screen))))
+            subst (λ i. Composed k i) same (subst (λ m. Composed m x.1) number
+            (are.0 (subst (λ m. nat_le m n ≡ true) (sym number) screen))))
         | false ↦ λ apart. home_composed xs k image are.1 screen (rw apart at has)
       ] refl
 
@@ -229,7 +229,7 @@ module _ (n : ℕ) (Composed : ℕ → Bitmap → Type 0) where
             record {
               bare = is.bare;
               drawn = λ out. absurd (let no : false ≡ true = out in cc);
-              ready = subst (λ (m : ℕ). Composed m image) (sym number) (composed (subst (λ (m : ℕ). nat_le m n ≡ true) number screen));
+              ready = subst (λ m. Composed m image) (sym number) (composed (subst (λ m. nat_le m n ≡ true) number screen));
               read = is.read;
             })
         | false ↦ λ apart screen. (let is = fine screen in

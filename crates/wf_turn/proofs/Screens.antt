@@ -88,8 +88,8 @@ module _ (n : ℕ) (Composed : ℕ → Bitmap → Type 0) where
         let own = next_is last h b is in
         let c = own.context in
         let its = context_beginning c.handle c.target c.committed own.buffers in
-        let told : Tells (start its h).1 = subst (λ (x : Beginning). Tells (start x h).1) own.is tells in
-        subst (λ (x : Beginning). BringsHome n Composed (painted_job (job_of x h))) (sym own.is)
+        let told : Tells (start its h).1 = subst (λ x. Tells (start x h).1) own.is tells in
+        subst (λ x. BringsHome n Composed (painted_job (job_of x h))) (sym own.is)
         (record {
           contents = contents_home c.committed;
           image = λ screen. told c.target (painted_job (job_of its h)).image (record {
@@ -105,7 +105,7 @@ module _ (n : ℕ) (Composed : ℕ → Bitmap → Type 0) where
         })
     begun_brings (leg.Ports port) asks b is tells =
         let own = port_is (pos port) h b is in
-        subst (λ (x : Beginning). BringsHome n Composed (painted_job (job_of x h))) (sym own.is)
+        subst (λ x. BringsHome n Composed (painted_job (job_of x h))) (sym own.is)
         (record { contents = contents_home own.scene; image = tt })
 
     abbrev Comes : Wanted → (Reply → Program) → Type 0
@@ -128,7 +128,7 @@ module _ (n : ℕ) (Composed : ℕ → Bitmap → Type 0) where
         (asked_for l).call m begins (λ a tells job has. absurd cc)
         (λ b is tells job has. (
         let same : job_of b h ≡ job = cc in
-        subst (λ (j : Job). BringsHome n Composed (painted_job j)) same (begun_brings l asks b is tells)))
+        subst (λ j. BringsHome n Composed (painted_job j)) same (begun_brings l asks b is tells)))
 
     begin_brings : (w : Wanted) → next p ≡ Some w → Comes w (took p)
     begin_brings w asks =
@@ -156,12 +156,12 @@ module _ (n : ℕ) (Composed : ℕ → Bitmap → Type 0) where
       let reply : Reply = (step show.state client t.wanted.call m).1 in
       let brings : Brings p.job p.unpainted = each_at (Holds Brings) show.programs client p are.programs t.own in
       let own_tells : Tells show client m p t.stands are.state reply =
-      subst (λ (x : Show × Turn). (stream : ℕ) (image : Bitmap) → Composes stream image show x.1 → Composed stream image)
+      subst (λ x. (stream : ℕ) (image : Bitmap) → Composes stream image show x.1 → Composed stream image)
       (sym t.is) tells in
       let will : WillBring (took p reply).job (took p reply).unpainted =
       took_holds WillBring tt p t.wanted reply (rw brings.0 brings.1)
       (λ begins job has. begin_brings show client m p t.stands are.state t.wanted t.asks t.asks begins own_tells job has) t.asks in
-      subst (λ (x : Show × Turn). AreComposed x.0) t.is
+      subst (λ x. AreComposed x.0) t.is
       (record {
         state = step_keeps n Composed show.state client t.wanted.call m (next_carries p t.wanted brings t.asks) are.state;
         programs = handed_hold Brings show.programs client (worked (took p reply)) (worked_brings (took p reply) will) are.programs;

@@ -9,6 +9,6 @@ use Rattle.wf_turn.specs.Program.{Program}
 pub script_at : (script : PlainScript) (ps : List Program) (i : ℕ) (d : Program) → i < length ps → All (λ p. p.script ≡ script) ps
     → (get_or ps i d).script ≡ script
 script_at script [] i d within all = absurd (omega (arith, within))
-script_at script (p ∷ ps) zero d within all = All-head (λ (q : Program). q.script ≡ script) p ps all
+script_at script (p ∷ ps) zero d within all = All-head (λ q. q.script ≡ script) p ps all
 script_at script (p ∷ ps) (suc i) d within all = script_at script ps i d (omega (arith, within))
-    (All-tail (λ (q : Program). q.script ≡ script) p ps all)
+    (All-tail (λ q. q.script ≡ script) p ps all)

@@ -91,10 +91,10 @@ turn_taken client h left p now w reply fit alone asks left_is may now_is = (take
     work = took_work p h client w reply fit.painted may asks
 
     is_ready : (o : Option Running) → h.frame ≡ o → (w.wait && is_running h) ≡ false
-    is_ready None free = ap (λ (o : Option Running). w.wait && is_some o) free ∙ and_false w.wait
+    is_ready None free = ap (λ o. w.wait && is_some o) free ∙ and_false w.wait
     is_ready (Some f) runs =
         let e = ended p h client false w f runs (rw runs at alone) asks in
-        ap (λ (b : Bool). b && is_running h) e.plain_is
+        ap (λ b. b && is_running h) e.plain_is
 
     takes : TakesTurn client h left p (worked now) (entry client reply) (is_work now)
     takes =
@@ -109,17 +109,17 @@ turn_taken client h left p now w reply fit alone asks left_is may now_is = (take
           wanted = w;
           asks = asks;
           ready = is_ready h.frame refl;
-          state = left_is ∙ ap (λ (m : Bool). (W m).0) (sym marks);
-          program = now_w ∙ ap (λ (x : Program × List Frame). x.0) both ∙ ap (λ (m : Bool). worked (took p (W m).1)) (sym marks);
+          state = left_is ∙ ap (λ m. (W m).0) (sym marks);
+          program = now_w ∙ ap (λ x. x.0) both ∙ ap (λ m. worked (took p (W m).1)) (sym marks);
           entry_is =
-              ap (λ (c : Code). record { client = client; code = code_number c; value = reply.value }) may.code
-              ∙ ap (λ (v : ℕ). record { client = client; code = code_number wanted.code; value = v }) may.value
-              ∙ ap (λ (m : Bool). entry client (W m).1) (sym marks);
+              ap (λ c. record { client = client; code = code_number c; value = reply.value }) may.code
+              ∙ ap (λ v. record { client = client; code = code_number wanted.code; value = v }) may.value
+              ∙ ap (λ m. entry client (W m).1) (sym marks);
           frames =
-              ap (λ (m : Bool). frames_of (took p (W m).1)) marks
-              ∙ sym (ap (λ (x : Program × List Frame). x.1) both)
+              ap (λ m. frames_of (took p (W m).1)) marks
+              ∙ sym (ap (λ x. x.1) both)
               ∙ work_frames q
-              ∙ ap (λ (b : Bool). frames_if b (worked q)) (sym work_is)
+              ∙ ap (λ b. frames_if b (worked q)) (sym work_is)
               ∙ ap (frames_if (is_work now)) (sym now_w);
-          paintable = λ is. subst (λ (x : Program). IsSomeAnd x.job IsPaintable) (sym now_w) (still_paintable q work (sym work_is ∙ is));
+          paintable = λ is. subst (λ x. IsSomeAnd x.job IsPaintable) (sym now_w) (still_paintable q work (sym work_is ∙ is));
         }

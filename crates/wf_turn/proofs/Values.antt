@@ -26,8 +26,8 @@ found_at name (n ∷ names) [] = nowhere (cond (bytes_eq n name) (Some zero) (ne
     nowhere (Some i) = refl
 found_at name (n ∷ names) (v ∷ values) =
     elim (bytes_eq n name) as (λ b. value_at (v ∷ values) (cond b (Some zero) (next_place (place_in name names)))
-    ≡ option_map (λ (row : Name × ℕ). row.1) (cond b (Some (n, v))
-    (find (λ (row : Name × ℕ). bytes_eq row.0 name) (zip names values)))) [
+    ≡ option_map (λ row. row.1) (cond b (Some (n, v))
+    (find (λ row. bytes_eq row.0 name) (zip names values)))) [
       | true ↦ refl
       | false ↦ next (place_in name names) ∙ found_at name names values
     ]
@@ -42,10 +42,10 @@ pub names_more : (client : ℕ) (lines : List Line) (i : ℕ) (l : Line) → i <
 names_more client lines i l within is =
     ap (bound_names client) (take_more lines i l within)
     ∙ filter_map-append (bound_by client) (take i lines) (get_or lines i l ∷ [])
-    ∙ ap (λ (names : List Name). bound_names client (take i lines) ++ names) (of_one (get_or lines i l)
-    ∙ ap (λ (m : Line). option_to_list (bound_by client m)) (sym is))
+    ∙ ap (λ names. bound_names client (take i lines) ++ names) (of_one (get_or lines i l)
+    ∙ ap (λ m. option_to_list (bound_by client m)) (sym is))
   where
-    one : (o : Option Name) → filter_map (λ (p : Option Name). p) (o ∷ []) ≡ option_to_list o
+    one : (o : Option Name) → filter_map (λ p. p) (o ∷ []) ≡ option_to_list o
     one None = refl
     one (Some n) = refl
 
@@ -71,5 +71,5 @@ pub names_step : (client : ℕ) (lines : List Line) (i : ℕ) (l : Line) (old ne
     → old ≡ bound_names client (take i lines) → o ≡ bound_by client l → i < length lines → l ≡ get_or lines i l
     → new ≡ bound_names client (take (i + 1) lines)
 names_step client lines i l old new o is was one within at =
-    is ∙ ap (λ (names : List Name). names ++ option_to_list o) was
-    ∙ ap (λ (p : Option Name). bound_names client (take i lines) ++ option_to_list p) one ∙ sym (names_more client lines i l within at)
+    is ∙ ap (λ names. names ++ option_to_list o) was
+    ∙ ap (λ p. bound_names client (take i lines) ++ option_to_list p) one ∙ sym (names_more client lines i l within at)

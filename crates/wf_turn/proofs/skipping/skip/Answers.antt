@@ -16,7 +16,7 @@ loop-at-preserved c =
     record {
       within = omega (arith, c.loop-at-test.true);
       later = omega (arith, was.later);
-      same = was.same ∙ step.0 ∙ ap (λ (canvas : Option Canvas). skipped canvas (lines_from c.args.client (c.loop-at.at + 1) lines))
+      same = was.same ∙ step.0 ∙ ap (λ canvas. skipped canvas (lines_from c.args.client (c.loop-at.at + 1) lines))
           (sym c.pass.ensures);
       names = step.1 ∙ was.names;
     }

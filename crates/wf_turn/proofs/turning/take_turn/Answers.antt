@@ -14,11 +14,11 @@ module _ (c : goal.After-took) where
       let p = c.args.program.now in
       turn_taken c.args.client c.args.machine.now c.run-reply.new.self p c.took.new.self c.in-Some.wanted c.run-reply.result c.requires.fit
       c.requires.alone (sym c.next.ensures.wanted ∙ c.in-Some.is) c.run-reply.ensures.after c.run-reply.ensures.may
-      (c.took.ensures ∙ ap (λ (q : Program). took q c.run-reply.result) c.next.ensures.handed)
+      (c.took.ensures ∙ ap (λ q. took q c.run-reply.result) c.next.ensures.handed)
 
 pub returns-clause-takes : goal.returns-clause-takes
 returns-clause-takes c =
-    subst (λ (t : Turn). TakesTurn c.args.client c.args.machine.now c.run-reply.new.self c.args.program.now (worked c.took.new.self) t
+    subst (λ t. TakesTurn c.args.client c.args.machine.now c.run-reply.new.self c.args.program.now (worked c.took.new.self) t
     (is_work c.took.new.self)) (sym c.entry-turn.ensures) (taken c).0
 
 pub returns-clause-work : goal.returns-clause-work

@@ -14,7 +14,7 @@ returns-then-is_some-clause-places c =
     let text = c.as_str-text.result.now in
     let is : is_some (told self text) ≡ true = sym (ap is_some c.get.ensures.value) ∙ sym (copied_some c.get.result) ∙ sym c.is_some.ensures
     ∙ c.if-is_some.true in
-    subst (λ (n : Name). (q : Name) → told self q ≡ place_in q (names_of self ++ n ∷ [])) c.as_str-text.ensures
+    subst (λ n. (q : Name) → told self q ≡ place_in q (names_of self ++ n ∷ [])) c.as_str-text.ensures
     (told_again (told self) text (names_of self) c.requires.index is)
 
 pub returns-clause-places : goal.returns-clause-places
@@ -24,9 +24,9 @@ returns-clause-places c =
     let is : is_some (told self text) ≡ false = sym (ap is_some c.get.ensures.value) ∙ sym (copied_some c.get.result)
     ∙ sym c.is_some.ensures ∙ c.if-is_some.false in
     let place : c.len.result ≡ length (names_of self) =
-    omega (arith, c.len.ensures, length-map self.names.items (λ (n : Bor Name). n.now)) in
-    subst (λ (n : Name). (q : Name) → told (record self { places = c.insert.new.self }) q ≡ place_in q (names_of self ++ n ∷ []))
+    omega (arith, c.len.ensures, length-map self.names.items (λ n. n.now)) in
+    subst (λ n. (q : Name) → told (record self { places = c.insert.new.self }) q ≡ place_in q (names_of self ++ n ∷ []))
     c.as_str-text.ensures
     (told_new (told self) (told (record self { places = c.insert.new.self })) text (names_of self) c.requires.index is
     (λ q. btree_map_updates_str text self.places c.insert.new.self (Some c.len.result) c.in_ok-insert.ensures.updates q
-    ∙ ap (λ (k : ℕ). cond (bytes_eq text q) (Some k) (told self q)) place))
+    ∙ ap (λ k. cond (bytes_eq text q) (Some k) (told self q)) place))

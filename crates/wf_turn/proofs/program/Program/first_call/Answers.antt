@@ -26,5 +26,5 @@ pub returns-in_default-clause-wanted : goal.returns-in_default-clause-wanted
 returns-in_default-clause-wanted c = c.one_call.ensures ∙ (of_verb c c.args.verb.now refl).0
 
 pub returns-in_default-clause-handed : goal.returns-in_default-clause-handed
-returns-in_default-clause-handed c = ap (λ (canvas : Option Canvas). record c.args.self.now { canvas = canvas })
+returns-in_default-clause-handed c = ap (λ canvas. record c.args.self.now { canvas = canvas })
     (of_verb c c.args.verb.now refl).1
