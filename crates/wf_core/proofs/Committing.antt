@@ -7,7 +7,6 @@ use Rattle.wf_stream.specs.Streams.{StoreView}
 use Rattle.wf_scene.specs.Cached.{CachedScene}
 use Rattle.wf_scene.specs.Consistent.{consistent}
 use Rattle.wf_scene.specs.Layers.{is_placed_layer}
-use Rattle.wf_scene.specs.Sight.{Sight}
 use Rattle.wf_scene.specs.declared.Scene.{Scene}
 use Rattle.wf_scene.specs.declared.look.Fault.{Fault}
 use Rattle.wf_calls.specs.declared.reply.Refusal.{Refusal}
@@ -32,8 +31,8 @@ module _ (core : CoreState) (store : StoreView) (fits : Fits core store) (place 
   told : (m : Result Scene Refusal) → m ≡ fault_as_refusal (consistent (sight_in store) scene)
       → fault_as_refusal (consistent (sight_of (side_of core store)) c.cached) ≡ m
   told m is =
-      ap (λ (s : CachedScene). fault_as_refusal (consistent (sight_of (side_of core store)) s)) same
-      ∙ sym (ap (λ (sight : Sight). fault_as_refusal (consistent sight scene)) (sights core store fits.handles)) ∙ sym is
+      ap (λ s. fault_as_refusal (consistent (sight_of (side_of core store)) s)) same
+      ∙ sym (ap (λ sight. fault_as_refusal (consistent sight scene)) (sights core store fits.handles)) ∙ sym is
 
   -- the context with the scene that is taken fits
   pub scene_fits : (s : Scene) → Ok s ≡ fault_as_refusal (consistent (sight_in store) scene)
@@ -46,7 +45,7 @@ module _ (core : CoreState) (store : StoreView) (fits : Fits core store) (place 
       record { target = fit.target; size = sound.0; layers = sound.1 }
     where
       without_code : (m : Result Scene Fault) → fault_as_refusal m ≡ Ok s → m ≡ Ok s
-      without_code (Ok t) at = (let same : t ≡ s = cc in ap (λ (x : Scene). Ok x) same)
+      without_code (Ok t) at = (let same : t ≡ s = cc in ap (λ x. Ok x) same)
       without_code (Err f) at = absurd cc
 
   module _ (d h : ℕ) (at : at_place (Ok place) core.contexts ≡ owned_context d h (side_of core store)) (here : StandsAt h place core) where

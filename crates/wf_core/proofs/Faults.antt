@@ -66,8 +66,8 @@ module _ (sight : Sight) where
       by_rule later (Some r) at found =
           let told : Fault = record { place = place; rule = r } in
           let same : told ≡ f = cc in
-          let here : place ≡ f.place = ap (λ (x : Fault). x.place) same in
-          let rule : r ≡ f.rule = ap (λ (x : Fault). x.rule) same in (
+          let here : place ≡ f.place = ap (λ x. x.place) same in
+          let rule : r ≡ f.rule = ap (λ x. x.rule) same in (
             omega (arith, here),
             omega (arith, rule, few_rules (has_source sight e) (is_inside sight e) (has_destination e) (is_covered sight e) r at),
           )
@@ -85,7 +85,7 @@ as_many (h ∷ order) elements = by_element (as_many order elements) (element_at
 -- the fault of a scene that is not consistent
 told_fault : (o : Option Fault) (s : Scene) (f : Fault) → unless o s ≡ Err f → o ≡ Some f
 told_fault None s f is = absurd cc
-told_fault (Some g) s f is = let same : g ≡ f = cc in ap (λ (x : Fault). Some x) same
+told_fault (Some g) s f is = let same : g ≡ f = cc in ap (λ x. Some x) same
 
 pub small_fault : (sight : Sight) (c : CachedScene) (f : Fault) → IsOrderly c → Err f ≡ consistent sight c → (f.place ≤ 32) × (f.rule ≤ 4)
 small_fault sight c f orderly is =

@@ -8,7 +8,6 @@ use Rattle.wf_words.specs.Keyed.{at_key}
 use Rattle.wf_pixel.specs.declared.Size.{Size}
 use Rattle.wf_pixel.specs.Choice.{is_a8, same_size}
 use Rattle.wf_pixel.specs.Place.{size_of}
-use Rattle.wf_stream.specs.Buffers.{Buffers}
 use Rattle.wf_stream.specs.Streams.{KeptStream, StoreView, buffers_at, stream_at, has_number}
 use Rattle.wf_scene.specs.declared.element.Element.{Element}
 use Rattle.wf_scene.specs.declared.look.Seen.{Seen}
@@ -30,23 +29,23 @@ use Rattle.wf_words.specs.Options.{from_some}
 seen_shape : (mask : Bool) (streams : List KeptStream) (sources : List Source) (h : ℕ) (s : Seen)
     → AllByRecursion (Shows mask streams) sources → seen sources streams h ≡ Some s
     → IsSomeAnd (buffers_at s.stream streams) (λ b. (is_a8 b.format ≡ mask) × (b.size ≡ s.size))
-seen_shape mask streams sources h s shows is = of_object (at_key (λ (x : Source). x.handle) h sources) refl is
+seen_shape mask streams sources h s shows is = of_object (at_key (λ x. x.handle) h sources) refl is
   where
-    of_object : (o : Option Source) → at_key (λ (x : Source). x.handle) h sources ≡ o → seen_source streams o ≡ Some s
+    of_object : (o : Option Source) → at_key (λ x. x.handle) h sources ≡ o → seen_source streams o ≡ Some s
         → IsSomeAnd (buffers_at s.stream streams) (λ b. (is_a8 b.format ≡ mask) × (b.size ≡ s.size))
     of_object None at told = absurd cc
     of_object (Some x) at told =
         let k = behind (stream_at x.stream streams) s told in
-        let shown = each_found (Shows mask streams) (λ (y : Source). y.handle == h) sources x shows at in
+        let shown = each_found (Shows mask streams) (λ y. y.handle == h) sources x shows at in
         let format : is_a8 k.0.buffers.format ≡ mask = rw k.1 at shown in
-        let number : s.stream ≡ x.stream = ap (λ (y : Seen). y.stream) k.2 ∙ has_number x.stream streams k.0 k.1 in
-        rw (number, k.1) (format, sym (ap (λ (y : Seen). y.size) k.2))
+        let number : s.stream ≡ x.stream = ap (λ y. y.stream) k.2 ∙ has_number x.stream streams k.0 k.1 in
+        rw (number, k.1) (format, sym (ap (λ y. y.size) k.2))
 
 same_sides : (s t : Size) → same_size s t ≡ true → s ≡ t
 same_sides s t is =
     let parts = and_parts (s.w == t.w) (s.h == t.h) is in
     let size : ℕ → ℕ → Size = λ w h. record { w = w; h = h } in
-    ap (λ (w : ℕ). size w s.h) (eqb-true s.w t.w parts.0) ∙ ap (size t.w) (eqb-true s.h t.h parts.1)
+    ap (λ w. size w s.h) (eqb-true s.w t.w parts.0) ∙ ap (size t.w) (eqb-true s.h t.h parts.1)
 
 module _ (core : CoreState) (store : StoreView) (fits : Fits core store) where
   abbrev sight : Sight
@@ -54,22 +53,22 @@ module _ (core : CoreState) (store : StoreView) (fits : Fits core store) where
 
   -- the source of an element that keeps all rules
   source_fits : (e : Element) (o : Option Seen) → sight.source e.source ≡ o → is_some o ≡ true
-      → option_map_or (λ (s : Seen). holds_rect s.size e.style.src) o false ≡ true
+      → option_map_or (λ s. holds_rect s.size e.style.src) o false ≡ true
       → IsSomeAnd (buffers_at (stream_of o) store.streams) (λ b. (is_a8 b.format ≡ false) × IsTrue (holds_rect b.size e.style.src))
   source_fits e None at some inside = absurd cc
   source_fits e (Some s) at some inside =
-      from_some (λ (b : Buffers). (is_a8 b.format ≡ false) × (b.size ≡ s.size)) (λ (b : Buffers). (is_a8 b.format ≡ false)
+      from_some (λ b. (is_a8 b.format ≡ false) × (b.size ≡ s.size)) (λ b. (is_a8 b.format ≡ false)
       × IsTrue (holds_rect b.size e.style.src)) (buffers_at s.stream store.streams)
       (seen_shape false store.streams core.sources e.source s fits.streams.sources at)
-      (λ b is. (is.0, ap (λ (z : Size). holds_rect z e.style.src) is.1 ∙ inside))
+      (λ b is. (is.0, ap (λ z. holds_rect z e.style.src) is.1 ∙ inside))
 
   -- its mask
   mask_fits : (e : Element) (o : Option Seen) → sight.mask e.mask ≡ o
-      → option_map_or (λ (m : Seen). same_size m.size (size_of e.style.dest)) o false ≡ true
+      → option_map_or (λ m. same_size m.size (size_of e.style.dest)) o false ≡ true
       → IsSomeAnd (buffers_at (stream_of o) store.streams) (λ b. (is_a8 b.format ≡ true) × (b.size ≡ size_of e.style.dest))
   mask_fits e None at covered = absurd cc
   mask_fits e (Some m) at covered =
-      from_some (λ (b : Buffers). (is_a8 b.format ≡ true) × (b.size ≡ m.size)) (λ (b : Buffers). (is_a8 b.format ≡ true)
+      from_some (λ b. (is_a8 b.format ≡ true) × (b.size ≡ m.size)) (λ b. (is_a8 b.format ≡ true)
       × (b.size ≡ size_of e.style.dest)) (buffers_at m.stream store.streams)
       (seen_shape true store.streams core.masks e.mask m fits.streams.masks at)
       (λ b is. (is.0, is.1 ∙ same_sides m.size (size_of e.style.dest) covered))
@@ -85,7 +84,7 @@ module _ (core : CoreState) (store : StoreView) (fits : Fits core store) where
       }
     where
       masked : (b : Bool) → b ≡ true
-          → (not b || option_map_or (λ (m : Seen). same_size m.size (size_of e.style.dest)) (sight.mask e.mask) false) ≡ true
+          → (not b || option_map_or (λ m. same_size m.size (size_of e.style.dest)) (sight.mask e.mask) false) ≡ true
           → IsSomeAnd (buffers_at (cond b (stream_of (sight.mask e.mask)) 0) store.streams) (λ x. (is_a8 x.format ≡ true)
           × (x.size ≡ size_of e.style.dest))
       masked true is covered = mask_fits e (sight.mask e.mask) refl covered
@@ -103,8 +102,8 @@ module _ (core : CoreState) (store : StoreView) (fits : Fits core store) where
       → (s.size ≡ c.size) × AllByRecursion (LayerFits store.streams) s.layers.items
   consistent_fits c s is placed =
       let ok = no_fault sight c s is in (
-        ap (λ (x : Scene). x.size) ok.1,
-        subst (λ (x : Scene). AllByRecursion (LayerFits store.streams) x.layers.items) (sym ok.1)
+        ap (λ x. x.size) ok.1,
+        subst (λ x. AllByRecursion (LayerFits store.streams) x.layers.items) (sym ok.1)
             (layers_fit (inserted_elements c) (faultless sight 1 (inserted_elements c) ok.0)
-            (subst (λ (x : Scene). list_all is_placed_layer x.layers.items ≡ true) ok.1 placed)),
+            (subst (λ x. list_all is_placed_layer x.layers.items ≡ true) ok.1 placed)),
       )

@@ -36,5 +36,5 @@ pub screen_kept : (screen : Option ℕ) (streams : List KeptStream) (seen : Seen
     → IfSome screen (IsOfPixels streams) → IsSomeAnd (buffers_at seen.stream streams) (λ b. (b.size ≡ seen.size) × (is_a8 b.format ≡ false))
 screen_kept screen streams seen s pixels =
     let of_pixels : is_a8 s.stream.buffers.format ≡ false = rw (s.given, s.kept) at pixels in
-    let number : seen.stream ≡ s.number = ap (λ (y : Seen). y.stream) s.is ∙ has_number s.number streams s.stream s.kept in
-    rw (number, s.kept) (ap (λ (y : Seen). y.size) (sym s.is), of_pixels)
+    let number : seen.stream ≡ s.number = ap (λ y. y.stream) s.is ∙ has_number s.number streams s.stream s.kept in
+    rw (number, s.kept) (ap (λ y. y.size) (sym s.is), of_pixels)

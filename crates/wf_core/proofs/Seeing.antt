@@ -21,30 +21,30 @@ pub seen_number : (n : ℕ) (streams : List KeptStream) (b : Buffers) (size : Si
     → Some (record { stream = n; size = size; format = format }) ≡ seen_stream (stream_at n streams)
 seen_number n streams b size format is size-is format-is = of_stream (stream_at n streams) refl is
   where
-    of_stream : (o : Option KeptStream) → stream_at n streams ≡ o → Some b ≡ option_map (λ (s : KeptStream). s.buffers) o
+    of_stream : (o : Option KeptStream) → stream_at n streams ≡ o → Some b ≡ option_map (λ s. s.buffers) o
         → Some (record { stream = n; size = size; format = format }) ≡ seen_stream o
     of_stream None at same = absurd cc
     of_stream (Some s) at same =
         let here : b ≡ s.buffers = cc in
         let number : s.number ≡ n = has_number n streams s at in
         let shown : ℕ → Size → Format → Option Seen = λ m z f. Some (record { stream = m; size = z; format = f }) in
-        ap (λ (m : ℕ). shown m size format) (sym number) ∙ ap (λ (z : Size). shown s.number z format) (size-is
-        ∙ ap (λ (x : Buffers). x.size) here) ∙ ap (λ (f : Format). shown s.number s.buffers.size f) (format-is
-        ∙ ap (λ (x : Buffers). x.format) here)
+        ap (λ m. shown m size format) (sym number) ∙ ap (λ z. shown s.number z format) (size-is
+        ∙ ap (λ x. x.size) here) ∙ ap (λ f. shown s.number s.buffers.size f) (format-is
+        ∙ ap (λ x. x.format) here)
 
 -- the stream of a live handle is that of its number
 pub by_handle : (handle n high : ℕ) (streams : List KeptStream) → IsNumbered 0 streams high → Some n ≡ number_of handle streams
     → stream_at n streams ≡ stream_of handle streams
 by_handle handle n high streams rising is = of_stream (stream_of handle streams) refl is
   where
-    of_stream : (o : Option KeptStream) → stream_of handle streams ≡ o → Some n ≡ option_map (λ (s : KeptStream). s.number) o
+    of_stream : (o : Option KeptStream) → stream_of handle streams ≡ o → Some n ≡ option_map (λ s. s.number) o
         → stream_at n streams ≡ o
     of_stream None at same = absurd cc
     of_stream (Some s) at same =
         let here : s.number ≡ n = cc in
-        let found = found_above (λ (x : KeptStream). x.number) (λ (x : KeptStream). (x.handle == handle) && not (handle == 0)) 0 streams s
+        let found = found_above (λ x. x.number) (λ x. (x.handle == handle) && not (handle == 0)) 0 streams s
         (rises_streams 0 high streams rising) at in
-        ap (λ (m : ℕ). stream_at m streams) (sym here) ∙ found.1
+        ap (λ m. stream_at m streams) (sym here) ∙ found.1
 
 -- the stream that is seen
 pub behind : (o : Option KeptStream) (seen : Seen) → seen_stream o ≡ Some seen → (s : KeptStream) × (o ≡ Some s)
@@ -58,8 +58,8 @@ pub seen_again : (n : ℕ) (streams : List KeptStream) (o : Option Seen) → o �
 seen_again n streams None is = tt
 seen_again n streams (Some seen) is =
     let s = behind (stream_at n streams) seen (sym is) in
-    let number : seen.stream ≡ n = ap (λ (y : Seen). y.stream) s.2 ∙ has_number n streams s.0 s.1 in
-    ap (λ (m : ℕ). seen_stream (stream_at m streams)) number ∙ sym is
+    let number : seen.stream ≡ n = ap (λ y. y.stream) s.2 ∙ has_number n streams s.0 s.1 in
+    ap (λ m. seen_stream (stream_at m streams)) number ∙ sym is
 
 -- a new link to the stream that is seen
 module _ (mask : Bool) (d h n place : ℕ) (core : CoreState) (store : StoreView) (seen : Seen)
@@ -69,6 +69,6 @@ module _ (mask : Bool) (d h n place : ℕ) (core : CoreState) (store : StoreView
   link_is m =
       let w = side_of core store in
       let s = behind (stream_of n store.streams) seen (sym sees) in
-      let unfit : is_unfit mask s.0.buffers.format ≡ false = ap (λ (y : Seen). is_unfit mask y.format) (sym s.2) ∙ fit in
+      let unfit : is_unfit mask s.0.buffers.format ≡ false = ap (λ y. is_unfit mask y.format) (sym s.2) ∙ fit in
       past_context d h place core store _ at less
-      ∙ rw (s.1, unfit) (ap (λ number. link_made mask h number m w) (ap (λ (y : Seen). y.stream) (sym s.2)))
+      ∙ rw (s.1, unfit) (ap (λ number. link_made mask h number m w) (ap (λ y. y.stream) (sym s.2)))

@@ -26,7 +26,7 @@ module _ {O C R E : Type 0} (after : O → ℕ → C → R → O) (may : O → �
       let d = (r.each j u e).holder has in let of_j = (r.each j u e).hands 0 d.0 d.1 in let count = r.count in let lt = of_j.2 in
       let h = all d.0.client (omega arith) in let of_id = (r.each id v at).hands h.0 h.1 h.2 in
       let same : j ≡ id = sym of_j.1 ∙ (ap r.seats (sym h.3) ∙ of_id.1) in
-      subst HasObject (ap (λ (x : View O C R). x.stage) (some-injective u v (sym e ∙ (ap (get_elem? s.views) same ∙ at))) ∙ idle) has
+      subst HasObject (ap (λ x. x.stage) (some-injective u v (sym e ∙ (ap (get_elem? s.views) same ∙ at))) ∙ idle) has
 
   -- the slot has an object, and that with its journal ends the history behind the seat's hands
   pub closes : (id : ℕ) (v : View O C R) (ws : List ℕ) (xs : List (Slot O E)) → Final (Seen (Kept after may entry key) id v) ws xs
@@ -57,7 +57,7 @@ module _ {O C R E : Type 0} (after : O → ℕ → C → R → O) (may : O → �
       → Ends after may entry key hands h.object h.journal.items → Ends after may entry key hands h'.object h'.journal.items
   unfolding home_or
   taken hands xs h h' x a b e ends =
-      subst (λ (y : Home O E). Ends after may entry key hands y.object y.journal.items)
+      subst (λ y. Ends after may entry key hands y.object y.journal.items)
       (ap (home_or h) (some-injective (Some h) (Some h') (sym a ∙ (b ∙ ap some e)))) ends
 
   -- the slot is not empty
@@ -73,11 +73,11 @@ module _ {O C R E : Type 0} (after : O → ℕ → C → R → O) (may : O → �
   closing desk ks object journal all own ends = let each = each_pass ks ends.history ends.known in record {
     history = ends.history;
     legal = ends.legal;
-    begins = read_all (λ (k : Known O C R). IsPrefix k.seen ends.history) ks (λ i k e. (each i k e).1);
-    mine = read_all (λ (k : Known O C R). k.mine ≡ events_of k.client ends.history) ks (λ i k e. (each i k e).0);
+    begins = read_all (λ k. IsPrefix k.seen ends.history) ks (λ i k e. (each i k e).1);
+    mine = read_all (λ k. k.mine ≡ events_of k.client ends.history) ks (λ i k e. (each i k e).0);
     no_other = ends.no_other;
     whole = whole ks ends.history (length key.quotas.items)
-        (λ c lt. any_read (λ (k : Known O C R). k.client ≡ c) ks (all.each c lt))
+        (λ c lt. any_read (λ k. k.client ≡ c) ks (all.each c lt))
         (λ i k e. let p = each i k e in (p.1, sym (own i k e) ∙ p.0))
         ends.no_other;
     object_is = ends.object_is;

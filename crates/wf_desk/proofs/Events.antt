@@ -16,7 +16,7 @@ module _ {O C R E : Type 0} (after : O → ℕ → C → R → O) (may : O → �
   pub has_room : (key : Key O) (history : List (Event C R)) (h : Home O E) (left : ℕ) → Fits after entry key history h
       → length history + left ≤ sum key.quotas.items → 0 < left → length h.journal.items < vec_capacity h.journal
   has_room key history h left fits room some_left =
-      let a : length h.journal.items ≡ length history = ap length fits.1 ∙ length-map history (λ (e : Event C R). entry e.client e.reply) in
+      let a : length h.journal.items ≡ length history = ap length fits.1 ∙ length-map history (λ e. entry e.client e.reply) in
       let b = fits.2 in omega arith
 
   -- what the object in hand may answer is what the replay of all events before may answer
@@ -29,10 +29,10 @@ module _ {O C R E : Type 0} (after : O → ℕ → C → R → O) (may : O → �
       → h'.object ≡ after h.object e.client e.call e.reply → h'.journal.items ≡ h.journal.items ++ entry e.client e.reply ∷ []
       → vec_capacity h'.journal ≡ vec_capacity h.journal → Fits after entry k w.seen h'
   answered k v w h h' e is fits object items room =
-      subst (λ (z : View O C R). Fits after entry k z.seen h') (sym is) (
-        object ∙ (ap (λ (o : O). after o e.client e.call e.reply) fits.0 ∙ sym (replay_snoc after may k.opening.value v.seen e)),
-        items ∙ (ap (λ (l : List E). l ++ entry e.client e.reply ∷ []) fits.1
-            ∙ sym (map-append (λ (y : Event C R). entry y.client y.reply) v.seen (e ∷ []))),
+      subst (λ z. Fits after entry k z.seen h') (sym is) (
+        object ∙ (ap (λ o. after o e.client e.call e.reply) fits.0 ∙ sym (replay_snoc after may k.opening.value v.seen e)),
+        items ∙ (ap (λ l. l ++ entry e.client e.reply ∷ []) fits.1
+            ∙ sym (map-append (λ y. entry y.client y.reply) v.seen (e ∷ []))),
         (let b = fits.2 in let c = room in omega arith),
       )
 
@@ -41,7 +41,7 @@ module _ {O C R E : Type 0} (after : O → ℕ → C → R → O) (may : O → �
       → IsLegal after may key.opening.value before → may h.object e.client e.call e.reply
       → IsLegal after may key.opening.value (before ++ e ∷ [])
   legal_after key before h e fits legal allowed =
-      legal_snoc after may key.opening.value before e legal (subst (λ (o : O). may o e.client e.call e.reply) fits.0 allowed)
+      legal_snoc after may key.opening.value before e legal (subst (λ o. may o e.client e.call e.reply) fits.0 allowed)
 
   pub finds_same : (v v' : View O C R) (history history' : List (Event C R)) (h h' : Home O E) → v ≡ v' → history ≡ history' → h ≡ h'
       → Finds after may entry v history h → Finds after may entry v' history' h'
@@ -58,7 +58,7 @@ module _ {O C R E : Type 0} (after : O → ℕ → C → R → O) (may : O → �
       → Fits after entry k history h × IsLegal after may k.opening.value history
   unfolding key_or
   finds_at v history h f k named =
-      subst (λ (q : Key O). Fits after entry q history h
+      subst (λ q. Fits after entry q history h
       × IsLegal after may q.opening.value history) (ap (key_or k) (sym f.1 ∙ named)) (f.2, f.3)
 
   -- the object that was not ready is put back as it was
@@ -66,7 +66,7 @@ module _ {O C R E : Type 0} (after : O → ℕ → C → R → O) (may : O → �
       → Finds after may entry v v.seen h
       → (h' : Home O E) × (l ≡ (0, Some h') ∷ []) × (k : Key O) × (w.key ≡ Some k) × Fits after entry k w.seen h'
   home_back v w h l same held f =
-      (h, held, f.0, ap (λ (y : View O C R). y.key) same ∙ f.1, subst (λ (y : View O C R). Fits after entry f.0 y.seen h) (sym same) f.2)
+      (h, held, f.0, ap (λ y. y.key) same ∙ f.1, subst (λ y. Fits after entry f.0 y.seen h) (sym same) f.2)
 
   slot_or : Slot O E → List (ℕ × Slot O E) → Slot O E
   slot_or d [] = d

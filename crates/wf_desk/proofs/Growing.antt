@@ -53,13 +53,13 @@ module _ {O C R E : Type 0} (after : O → ℕ → C → R → O) (may : O → �
         → may (replay after q.opening.value v.seen) e.client e.call e.reply
         → Allows Rule slots id (v, cs) 0 (λ x. (x + 1) % 18446744073709551616) (grew (e ∷ []) (step slots 0 1 0 none) (v, cs))
     grows slots cs d e q named one client left allowed s r wide at _ =
-        let x : ℕ = get_or s.words 0 0 in let is : x ≡ length r.history = ap (λ (ws : List ℕ). get_or ws 0 0) r.words in
+        let x : ℕ = get_or s.words 0 0 in let is : x ≡ length r.history = ap (λ ws. get_or ws 0 0) r.words in
         let k = r.each id v at in let st = holds_at after may entry key id n v has s r at in let bound = r.bound in let room = r.room in
         let log : Log = r.history ++ e ∷ [] in
         let own : r.drawer r.spent ≡ id = ap r.drawer (sym st.0) ∙ st.2 in let w : V = grown v e in
         let below = weights_at s.views id v at in
         let up : (x + 1) % 18446744073709551616 ≡ length log = let l = length_snoc r.history e in omega arith in
-        let mine = k.hands 0 d (ap (λ (l : List (Hand C R)). get_elem? l 0) one) in (
+        let mine = k.hands 0 d (ap (λ l. get_elem? l 0) one) in (
           w,
           keeps,
           tt,
@@ -70,7 +70,7 @@ module _ {O C R E : Type 0} (after : O → ℕ → C → R → O) (may : O → �
             drawer = r.drawer;
             seats = r.seats;
             next = r.next;
-            words = ap (λ (ws : List ℕ). set ws 0 ((x + 1) % 18446744073709551616)) r.words ∙ ap (λ (y : ℕ). y ∷ r.drawn ∷ r.spent ∷ []) up;
+            words = ap (λ ws. set ws 0 ((x + 1) % 18446744073709551616)) r.words ∙ ap (λ y. y ∷ r.drawn ∷ r.spent ∷ []) up;
             order = r.order;
             line = let q = queue_set s.views id v w at in let l = r.line in omega arith;
             small = r.small;
@@ -88,17 +88,17 @@ module _ {O C R E : Type 0} (after : O → ℕ → C → R → O) (may : O → �
                     st.0,
                     st.1,
                     st.2,
-                    ap (λ (l : Log). l ++ e ∷ []) st.3,
+                    ap (λ l. l ++ e ∷ []) st.3,
                   );
-                  seen = ([], ap (λ (l : Log). l ++ e ∷ []) (sym st.3) ∙ sym (append-nil (v.seen ++ e ∷ [])));
+                  seen = ([], ap (λ l. l ++ e ∷ []) (sym st.3) ∙ sym (append-nil (v.seen ++ e ∷ [])));
                   told = prefix_more v.told r.history (e ∷ []) k.told;
                   hands = λ i g f. subst (IsHand log r.seats r.next id) (only e d one i g f) (
-                    ap (λ (l : Log). l ++ e ∷ []) mine.0 ∙ sym (events_of-own d.client r.history e (sym client)),
+                    ap (λ l. l ++ e ∷ []) mine.0 ∙ sym (events_of-own d.client r.history e (sym client)),
                     mine.1,
                     mine.2,
                     prefix_more d.seen r.history (e ∷ []) mine.3,
                   );
-                  holder = λ _. (_, ap (λ (l : List (Hand C R)). get_elem? (with_event e l) 0) one);
+                  holder = λ _. (_, ap (λ l. get_elem? (with_event e l) 0) one);
                   root = k.root;
                 }
                 (λ j u other f. let q = r.each j u f in record {
@@ -122,7 +122,7 @@ module _ {O C R E : Type 0} (after : O → ℕ → C → R → O) (may : O → �
           λ e' f. (
             is ∙ ap length (sym st.3),
             (let at_x = is in omega arith),
-            ap (λ (y : Event C R). (grown v y, cs)) (some-injective e e' (ap (λ (l : Log). get_elem? l 0) f)),
+            ap (λ y. (grown v y, cs)) (some-injective e e' (ap (λ l. get_elem? l 0) f)),
           ),
         )
       where
@@ -132,7 +132,7 @@ module _ {O C R E : Type 0} (after : O → ℕ → C → R → O) (may : O → �
 
         only : (e : Event C R) (d : Hand C R) → v.hands ≡ d ∷ [] → (i : ℕ) (g : Hand C R) → get_elem? (with_event e v.hands) i ≡ some g
             → Grown e d ≡ g
-        only e d one i g f = alone e d i g (subst (λ (l : List (Hand C R)). get_elem? (with_event e l) i ≡ some g) one f)
+        only e d one i g f = alone e d i g (subst (λ l. get_elem? (with_event e l) i ≡ some g) one f)
 
   -- the same, for the event that the step announces
   pub records : (slots id n : ℕ) (me : M) (es : Log) (e : Event C R) (d : Hand C R) (q : Key O) → es ≡ e ∷ [] → me.0.key ≡ Some q
@@ -140,7 +140,7 @@ module _ {O C R E : Type 0} (after : O → ℕ → C → R → O) (may : O → �
       → me.0.hands ≡ d ∷ [] → d.client ≡ e.client → 0 < me.0.left → may (replay after q.opening.value me.0.seen) e.client e.call e.reply
       → Allows Rule slots id me 0 (λ y. (y + 1) % 18446744073709551616) (grew es (step slots 0 1 0 none) me)
   records slots id n me es e d q is named has one client left allowed =
-      subst (λ (l : Log). Allows Rule slots id me 0 (λ y. (y + 1) % 18446744073709551616) (grew l (step slots 0 1 0 none) me)) (sym is)
+      subst (λ l. Allows Rule slots id me 0 (λ y. (y + 1) % 18446744073709551616) (grew l (step slots 0 1 0 none) me)) (sym is)
       (grows id n me.0 has slots me.1 d e q named one client left allowed)
 
   -- an idle seat looks at the history so far
@@ -152,7 +152,7 @@ module _ {O C R E : Type 0} (after : O → ℕ → C → R → O) (may : O → �
         keeps,
         tt,
         moves after may entry key s r id me.0 at w refl (set s.words 0 (get_or s.words 0 0)) s.homes r.drawn r.spent r.drawer
-            (ap (λ (ws : List ℕ). set ws 0 (get_or ws 0 0)) r.words) r.order (omega arith) r.small
+            (ap (λ ws. set ws 0 (get_or ws 0 0)) r.words) r.order (omega arith) r.small
             record {
               key_is = k.key_is;
               stands = subst (Stands r.drawn r.spent r.drawer r.history id r.history) (sym idle) tt;
@@ -169,6 +169,6 @@ module _ {O C R E : Type 0} (after : O → ℕ → C → R → O) (may : O → �
           k.seen,
           k.told,
           (λ i h e. (k.hands i h e).0),
-          λ y f. subst (λ (z : Key O). IsLegal after may z.opening.value r.history) (sym (k.key_is y f)) r.legal,
+          λ y f. subst (λ z. IsLegal after may z.opening.value r.history) (sym (k.key_is y f)) r.legal,
         ),
       )

@@ -1,5 +1,5 @@
 -- Lists, histories that grow by one event, and sums over seats.
-use Rattle.std.proofs.Common.{◌≡◌, ◌≢◌, ℕ, ◌+◌, ◌≤◌, Bool, true, false, cond, List, [], ◌∷◌, ◌++◌, map, length, set, append_assoc, refl}
+use Rattle.std.proofs.Common.{◌≡◌, ◌≢◌, ℕ, ◌+◌, ◌≤◌, true, false, cond, List, [], ◌∷◌, ◌++◌, map, length, set, append_assoc, refl}
 use Rattle.std.proofs.Common.{sym, ap, ◌∙◌, arith, eq-eqb, ne_eqb, eqb, zero, suc, inl, inr, ◌⊎◌}
 use Rattle.std.proofs.lemmas.List.{append-nil, length-append}
 use mathlib.Core.Option.{some, some-ne-none, some-injective}
@@ -44,7 +44,7 @@ module _ {C R : Type 0} where
   prefix_all xs = ([], sym (append-nil xs))
 
   pub prefix_more : (xs ys zs : List (Event C R)) → IsPrefix xs ys → IsPrefix xs (ys ++ zs)
-  prefix_more xs ys zs p = (p.0 ++ zs, ap (λ (l : List (Event C R)). l ++ zs) p.1 ∙ append_assoc xs p.0 zs)
+  prefix_more xs ys zs p = (p.0 ++ zs, ap (λ l. l ++ zs) p.1 ∙ append_assoc xs p.0 zs)
 
   pub events_of-append : (c : ℕ) (xs ys : List (Event C R)) → events_of c (xs ++ ys) ≡ events_of c xs ++ events_of c ys
   events_of-append c [] ys = refl
@@ -56,11 +56,11 @@ module _ {C R : Type 0} where
 
   -- after an event of the client, and of another
   pub events_of-own : (c : ℕ) (xs : List (Event C R)) (e : Event C R) → e.client ≡ c → events_of c (xs ++ e ∷ []) ≡ events_of c xs ++ e ∷ []
-  events_of-own c xs e h = events_of-append c xs (e ∷ []) ∙ ap (λ (b : Bool). events_of c xs ++ cond b (e ∷ []) []) (eq-eqb e.client c h)
+  events_of-own c xs e h = events_of-append c xs (e ∷ []) ∙ ap (λ b. events_of c xs ++ cond b (e ∷ []) []) (eq-eqb e.client c h)
 
   pub events_of-other : (c : ℕ) (xs : List (Event C R)) (e : Event C R) → e.client ≢ c → events_of c (xs ++ e ∷ []) ≡ events_of c xs
   events_of-other c xs e h =
-      events_of-append c xs (e ∷ []) ∙ (ap (λ (b : Bool). events_of c xs ++ cond b (e ∷ []) []) (ne_eqb e.client c h)
+      events_of-append c xs (e ∷ []) ∙ (ap (λ b. events_of c xs ++ cond b (e ∷ []) []) (ne_eqb e.client c h)
       ∙ append-nil (events_of c xs))
 
   -- an event of the client stands last
@@ -77,7 +77,7 @@ module _ {C R : Type 0} where
         before = l.before;
         last = l.last;
         after = l.after ++ p.0;
-        parts = p.1 ∙ (ap (λ (h : List (Event C R)). h ++ p.0) l.parts ∙ append_assoc l.before (l.last ∷ l.after) p.0);
+        parts = p.1 ∙ (ap (λ h. h ++ p.0) l.parts ∙ append_assoc l.before (l.last ∷ l.after) p.0);
         place_is = l.place_is;
         own = l.own;
         none_after = events_of-append c l.after p.0 ∙ λ i. l.none_after i ++ none_ i;
@@ -116,7 +116,7 @@ module _ {O C R : Type 0} where
       → queue (set vs i w) + ticket_count v.stage ≡ queue vs + ticket_count w.stage
   queue_set [] i v w e = absurd (some-ne-none v (sym e))
   queue_set (x ∷ vs) zero v w e = let h : ticket_count x.stage ≡ ticket_count v.stage =
-      ap (λ (y : View O C R). ticket_count y.stage) (some-injective x v e) in omega arith
+      ap (λ y. ticket_count y.stage) (some-injective x v e) in omega arith
   queue_set (x ∷ vs) (suc i) v w e = let h = queue_set vs i v w e in omega arith
 
   pub queue_snoc : (vs : List (View O C R)) (w : View O C R) → queue (vs ++ w ∷ []) ≡ queue vs + ticket_count w.stage

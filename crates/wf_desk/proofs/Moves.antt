@@ -27,13 +27,13 @@ module _ {O C R : Type 0} where
       → (j : ℕ) (u : View O C R) → get_elem? (set vs me w) j ≡ some u → K j u
   seats_stay K vs me w mine others j u e =
       ⊎_elim (λ (t : (j ≡ me) × (w ≡ u)). subst (λ (x : ℕ × View O C R). K x.0 x.1) (λ i. (sym t.0 i, t.1 i)) mine)
-      (λ (t : (j ≢ me) × (get_elem? vs j ≡ some u)). others j u t.0 t.1) (at_set vs me j w u e)
+      (λ t. others j u t.0 t.1) (at_set vs me j w u e)
 
   -- none has the object now, so none had it before, where the seat that changed did not
   pub none_before : (vs : List (View O C R)) (me : ℕ) (v w : View O C R) → get_elem? vs me ≡ some v → (HasObject v.stage → ⊥)
       → NoneHas (set vs me w) → NoneHas vs
   none_before vs me v w at not free j u e has = dite (ℕ_discrete j me)
-      (λ same. not (subst (λ (x : View O C R). HasObject x.stage) (some-injective u v (sym e ∙ (ap (get_elem? vs) same ∙ at))) has))
+      (λ same. not (subst (λ x. HasObject x.stage) (some-injective u v (sym e ∙ (ap (get_elem? vs) same ∙ at))) has))
       (λ other. free j u (set_else vs me j w other ∙ e) has)
 
 module _ {O C R E : Type 0} (after : O → ℕ → C → R → O) (may : O → ℕ → C → R → Type 0) (entry : ℕ → R → E) (key : Key O) where
@@ -95,5 +95,5 @@ module _ {O C R E : Type 0} (after : O → ℕ → C → R → O) (may : O → �
       → Rule record { words = set s.words i (get_or s.words i 0); homes = s.homes; views = set s.views id v }
   unmoved s r id v at not i same =
       moves s r id v at v refl (set s.words i (get_or s.words i 0)) s.homes r.drawn r.spent r.drawer
-      (ap (λ (ws : List ℕ). set ws i (get_or ws i 0)) r.words ∙ same) r.order (omega arith) r.small (r.each id v at)
+      (ap (λ ws. set ws i (get_or ws i 0)) r.words ∙ same) r.order (omega arith) r.small (r.each id v at)
       (λ j u other e k. k) (λ free. r.home (none_before s.views id v v at not free))

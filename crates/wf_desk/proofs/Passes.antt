@@ -4,13 +4,12 @@ use Rattle.std.proofs.lemmas.Option.{none-some}
 use lib.ListN.{get_elem?}
 use Rattle.atomic_table.specs.declared.shared.Seat.{Seat}
 use Rattle.wf_desk.specs.declared.event.Event.{Event}
-use Rattle.wf_desk.specs.declared.view.Hand.{Hand}
 use Rattle.wf_desk.specs.declared.view.View.{View}
 use Rattle.wf_desk.specs.declared.view.Key.{Key}
 use Rattle.wf_desk.specs.History.{IsLegal, IsPrefix, IsLastAt, events_of, replay, event}
 use Rattle.wf_desk.specs.Pass.{IsOwn, Made}
 use Rattle.wf_desk.specs.Rule.{Slot}
-use Rattle.wf_desk.specs.Plays.{Sat, Makes, at_stage, with_event, AllMine, pass_of, head_of, noting}
+use Rattle.wf_desk.specs.Plays.{Makes, at_stage, with_event, AllMine, pass_of, head_of, noting}
 use Rattle.wf_desk.specs.Inside.{opening_of, known, Sits}
 use Rattle.wf_desk.proofs.Logs.{events_of-own, last_here, last_stays}
 
@@ -35,36 +34,36 @@ module _ {O C R E : Type 0} (after : O → ℕ → C → R → O) (may : O → �
       → (history : List (Event C R))
       → AllMine history seat.me.0.hands → events_of client history ≡ events_of client seat.me.0.seen
   all_mine seat client left place s history all =
-      let d = s.hand in let here = all 0 d.0 (ap (λ (l : List (Hand C R)). get_elem? l 0) d.1) in
-      ap (λ (c : ℕ). events_of c history) (sym d.2) ∙ (sym here ∙ d.3)
+      let d = s.hand in let here = all 0 d.0 (ap (λ l. get_elem? l 0) d.1) in
+      ap (λ c. events_of c history) (sym d.2) ∙ (sym here ∙ d.3)
 
   module _ (Holds : O → Type 0) (seat seat' : Seat (Slot O E) (View O C R)) (client left place at : ℕ) (call : C) (reply : R)
       (s : Sits after may seat client left place) (m : Makes after may Holds seat.me.0 client call reply at seat'.me) where
     one_more : events_of client seat'.me.0.seen ≡ events_of client seat.me.0.seen ++ event client call reply ∷ []
     one_more =
-        ap (λ (y : Sat O C R E). events_of client y.0.seen) m.is
+        ap (λ y. events_of client y.0.seen) m.is
         ∙ (events_of-own client m.before (event client call reply) refl
-        ∙ ap (λ (l : List (Event C R)). l ++ event client call reply ∷ []) (all_mine seat client left place s m.before m.mine))
+        ∙ ap (λ l. l ++ event client call reply ∷ []) (all_mine seat client left place s m.before m.mine))
 
     -- after its event a pass is a pass
     pub sits_after : Sits after may seat' client (left - 1) at
     sits_after = let d = s.hand in record {
-      key = (s.key.0, ap (λ (y : Sat O C R E). y.0.key) m.is ∙ s.key.1);
-      idle = ap (λ (y : Sat O C R E). y.0.stage) m.is;
-      free = ap (λ (y : Sat O C R E). y.1) m.is;
+      key = (s.key.0, ap (λ y. y.0.key) m.is ∙ s.key.1);
+      idle = ap (λ y. y.0.stage) m.is;
+      free = ap (λ y. y.1) m.is;
       hand = (
         _,
-        ap (λ (y : Sat O C R E). y.0.hands) m.is ∙ ap (with_event (event client call reply)) d.1,
+        ap (λ y. y.0.hands) m.is ∙ ap (with_event (event client call reply)) d.1,
         d.2,
-        ap (λ (l : List (Event C R)). l ++ event client call reply ∷ []) d.3 ∙ sym one_more,
+        ap (λ l. l ++ event client call reply ∷ []) d.3 ∙ sym one_more,
       );
-      left_is = ap (λ (y : Sat O C R E). y.0.left) m.is ∙ ap (λ (n : ℕ). n - 1) s.left_is;
-      plain = ap (λ (y : Sat O C R E). y.0.root) m.is ∙ s.plain;
-      legal = λ o f. of_opening (λ (x : O). IsLegal after may x seat'.me.0.seen) seat.me.0.key
-          (λ k named. subst (λ (y : Sat O C R E). IsLegal after may k.opening.value y.0.seen) (sym m.is) (m.legal k named))
-          o (sym (ap (λ (y : Sat O C R E). opening_of y.0.key) m.is) ∙ f);
+      left_is = ap (λ y. y.0.left) m.is ∙ ap (λ n. n - 1) s.left_is;
+      plain = ap (λ y. y.0.root) m.is ∙ s.plain;
+      legal = λ o f. of_opening (λ x. IsLegal after may x seat'.me.0.seen) seat.me.0.key
+          (λ k named. subst (λ y. IsLegal after may k.opening.value y.0.seen) (sym m.is) (m.legal k named))
+          o (sym (ap (λ y. opening_of y.0.key) m.is) ∙ f);
       last = λ _. subst (λ (z : List (Event C R) × ℕ). IsLastAt client z.0 z.1)
-          (λ i. (ap (λ (y : Sat O C R E). y.0.seen) (sym m.is) i, sym m.at_is i))
+          (λ i. (ap (λ y. y.0.seen) (sym m.is) i, sym m.at_is i))
           (last_here client m.before (event client call reply) refl);
     }
 
@@ -74,15 +73,15 @@ module _ {O C R E : Type 0} (after : O → ℕ → C → R → O) (may : O → �
     made_after some_left same_table = record {
       desk = same_table;
       client = refl;
-      opening = ap (λ (y : Sat O C R E). opening_of y.0.key) m.is;
+      opening = ap (λ y. opening_of y.0.key) m.is;
       left = omega arith;
       mine = one_more;
       before = m.before;
       goes_on = m.goes_on;
-      seen = ap (λ (y : Sat O C R E). y.0.seen) m.is;
+      seen = ap (λ y. y.0.seen) m.is;
       place = m.at_is;
-      holds = of_opening (λ (o : O). Holds (replay after o m.before)) seat.me.0.key m.holds;
-      allowed = of_opening (λ (o : O). may (replay after o m.before) client call reply) seat.me.0.key m.allowed;
+      holds = of_opening (λ o. Holds (replay after o m.before)) seat.me.0.key m.holds;
+      allowed = of_opening (λ o. may (replay after o m.before) client call reply) seat.me.0.key m.allowed;
     }
 
   -- a pass that was told of more of the history
@@ -92,7 +91,7 @@ module _ {O C R E : Type 0} (after : O → ℕ → C → R → O) (may : O → �
       → AllMine history seat.me.0.hands
       → ((k : Key O) → seat.me.0.key ≡ Some k → IsLegal after may k.opening.value history) → Sits after may seat' client left place
   sits_told seat seat' client left place s w history is longer all legal =
-      subst (λ (m : Sat O C R E). Sits after may record {
+      subst (λ m. Sits after may record {
         marker = seat'.marker;
         table_id = seat'.table_id;
         id = seat'.id;
@@ -106,9 +105,9 @@ module _ {O C R E : Type 0} (after : O → ℕ → C → R → O) (may : O → �
         hand = (d.0, d.1, d.2, d.3 ∙ sym same);
         left_is = s.left_is;
         plain = s.plain;
-        legal = of_opening (λ (x : O). IsLegal after may x history) seat.me.0.key legal;
+        legal = of_opening (λ x. IsLegal after may x history) seat.me.0.key legal;
         last = λ some. last_stays client seat.me.0.seen history place longer same
-            (s.last (subst (λ (l : List (Event C R)). 0 < length l) same some));
+            (s.last (subst (λ l. 0 < length l) same some));
       })
 
   -- all but what it has seen stays with such a pass
@@ -129,7 +128,7 @@ module _ {O C R E : Type 0} (after : O → ℕ → C → R → O) (may : O → �
   pub sits_same : (seat seat' : Seat (Slot O E) (View O C R)) (client left place : ℕ) → Sits after may seat client left place
       → seat'.me ≡ seat.me → Sits after may seat' client left place
   sits_same seat seat' client left place s same =
-      subst (λ (m : Sat O C R E). Sits after may record {
+      subst (λ m. Sits after may record {
         marker = seat'.marker;
         table_id = seat'.table_id;
         id = seat'.id;
@@ -151,7 +150,7 @@ module _ {O C R E : Type 0} (after : O → ℕ → C → R → O) (may : O → �
       → v.key ≡ Some key
       → v.next ≡ client → head_of v.quotas ≡ left → Sits after may seat client left 0
   sits_fresh seat v key client left is named next quota =
-      subst (λ (m : Sat O C R E). Sits after may record {
+      subst (λ m. Sits after may record {
         marker = seat.marker;
         table_id = seat.table_id;
         id = seat.id;

@@ -1,5 +1,5 @@
 -- Seats that are cut in two and made one keep the rule, and so does a new table.
-use Rattle.std.proofs.Common.{◌≡◌, ◌≢◌, ℕ, ◌+◌, ◌<◌, ◌≤◌, eqb, Bool, true, List, [], ◌∷◌, ◌++◌, length, set, sum, sym, refl, ap, ◌∙◌, subst}
+use Rattle.std.proofs.Common.{◌≡◌, ◌≢◌, ℕ, ◌+◌, ◌<◌, ◌≤◌, eqb, true, List, [], ◌∷◌, ◌++◌, length, set, sum, sym, refl, ap, ◌∙◌, subst}
 use Rattle.std.proofs.Common.{◌⊎◌, ⊎_elim, arith, Option, Some, None, vec_capacity, cond, inl, inr, le_refl, le_of_eq, length-set, eq-eqb}
 use Rattle.std.proofs.Common.{ne_eqb, le_trans, zero, suc}
 use Rattle.std.proofs.lemmas.Bool.{false≢true}
@@ -41,7 +41,7 @@ module _ {O C R E : Type 0} (after : O → ℕ → C → R → O) (may : O → �
   at_end [] a b zero e = inr (refl, some-injective a b e)
   at_end [] a b (suc j) e = absurd (some-ne-none b (sym e))
   at_end (x ∷ xs) a b zero e = inl e
-  at_end (x ∷ xs) a b (suc j) e = ⊎_elim inl (λ (t : (j ≡ length xs) × (a ≡ b)). inr (ap suc t.0, t.1)) (at_end xs a b j e)
+  at_end (x ∷ xs) a b (suc j) e = ⊎_elim inl (λ t. inr (ap suc t.0, t.1)) (at_end xs a b j e)
 
   below : (l : List V) (i : ℕ) (a : V) → get_elem? l i ≡ some a → i < length l
   below [] i a e = absurd (some-ne-none a (sym e))
@@ -74,7 +74,7 @@ module _ {O C R E : Type 0} (after : O → ℕ → C → R → O) (may : O → �
     room = let h = weights_set s.views id v l at in let g = weights_snoc (set s.views id l) x in let room = r.room in omega arith;
     unborn = λ c le. r.unborn c (le_trans more le);
     each = λ j u e. ⊎_elim (λ was. seats_stay (Knows key r.drawn r.spent r.drawer r.history seat' next') s.views id l left others j u was)
-        (λ (t : (j ≡ length (set s.views id l)) × (x ≡ u)). subst
+        (λ t. subst
         (λ (z : ℕ × V). Knows key r.drawn r.spent r.drawer r.history seat' next' z.0 z.1)
         (λ i. (sym (t.0 ∙ length-set s.views id l) i, t.1 i)) right)
         (at_end (set s.views id l) x u j e);
@@ -104,18 +104,18 @@ module _ {O C R E : Type 0} (after : O → ℕ → C → R → O) (may : O → �
       → IsHand log (deal_seat next new seat) (next + 1) j h
   unfolding deal_seat
   dealt_hand log seat next new j h k = let lt = k.2 in
-      (k.0, ap (λ (b : Bool). cond b new (seat h.client)) (ne_eqb h.client next (λ e. omega arith)) ∙ k.1, omega arith, k.3)
+      (k.0, ap (λ b. cond b new (seat h.client)) (ne_eqb h.client next (λ e. omega arith)) ∙ k.1, omega arith, k.3)
 
   split_weight : (qs : List ℕ) → sum (tail_of qs) + head_of qs ≡ sum qs
   split_weight [] = refl
-  split_weight (q ∷ qs) = let h = sum_by-cons (λ (x : ℕ). x) q qs in let h2 : sum (q ∷ qs) ≡ q + sum qs = h in omega arith
+  split_weight (q ∷ qs) = let h = sum_by-cons (λ x. x) q qs in let h2 : sum (q ∷ qs) ≡ q + sum qs = h in omega arith
 
   pub deals : (id : ℕ) (v : V) (q : ℕ) (qs : List ℕ) → v.stage ≡ Idle → v.root ≡ true → v.quotas ≡ q ∷ qs
       → Splits Rule id v (dealt v) (pass_of v)
   unfolding deal_seat
   deals id v q qs idle root more s r at = let k = r.each id v at in let new : ℕ = length s.views in let seat : ℕ
       → ℕ = deal_seat r.next new r.seats in let here = k.root root in let longer : length v.quotas ≡ suc (length qs) = ap length more in
-      let shorter : length (tail_of v.quotas) ≡ length qs = ap (λ (l : List ℕ). length (tail_of l)) more in
+      let shorter : length (tail_of v.quotas) ≡ length qs = ap (λ l. length (tail_of l)) more in
       cuts s r id v at idle (dealt v) (pass_of v) idle refl (let h = split_weight v.quotas in
       omega arith) seat (r.next + 1) (omega arith) (let a = here.1 in let b = here.2 in omega arith)
       record {
@@ -125,7 +125,7 @@ module _ {O C R E : Type 0} (after : O → ℕ → C → R → O) (may : O → �
         told = k.told;
         hands = λ i h e. dealt_hand r.history r.seats r.next new id h (k.hands i h e);
         holder = k.holder;
-        root = λ _. (here.0, ap (λ (n : ℕ). n + 1) here.1, (let b = here.2 in omega arith));
+        root = λ _. (here.0, ap (λ n. n + 1) here.1, (let b = here.2 in omega arith));
       }
       record {
         key_is = k.key_is;
@@ -134,7 +134,7 @@ module _ {O C R E : Type 0} (after : O → ℕ → C → R → O) (may : O → �
         told = (r.history, refl);
         hands = λ i h e. subst (IsHand r.history seat (r.next + 1) new) (first (pass_of v) i h e) (
           sym (r.unborn v.next (le_of_eq (sym here.1))),
-          ap (λ (b : Bool). cond b new (r.seats v.next)) (eq-eqb v.next r.next here.1),
+          ap (λ b. cond b new (r.seats v.next)) (eq-eqb v.next r.next here.1),
           (let q = here.1 in omega arith),
           (r.history, refl),
         );
@@ -164,7 +164,7 @@ module _ {O C R E : Type 0} (after : O → ℕ → C → R → O) (may : O → �
   unfolding join_seat
   kept_hand log seat next id other j h apart k = (
     k.0,
-    ap (λ (b : Bool). cond b id (seat h.client)) (ne_eqb (seat h.client) other (λ e. apart (sym k.1 ∙ e))) ∙ k.1,
+    ap (λ b. cond b id (seat h.client)) (ne_eqb (seat h.client) other (λ e. apart (sym k.1 ∙ e))) ∙ k.1,
     k.2,
     k.3,
   )
@@ -172,7 +172,7 @@ module _ {O C R E : Type 0} (after : O → ℕ → C → R → O) (may : O → �
   moved_hand : (log : Log) (seat : ℕ → ℕ) (next id other : ℕ) (h : Hand C R) → IsHand log seat next other h
       → IsHand log (join_seat id other seat) next id h
   unfolding join_seat
-  moved_hand log seat next id other h k = (k.0, ap (λ (b : Bool). cond b id (seat h.client)) (eq-eqb (seat h.client) other k.1), k.2, k.3)
+  moved_hand log seat next id other h k = (k.0, ap (λ b. cond b id (seat h.client)) (eq-eqb (seat h.client) other k.1), k.2, k.3)
 
   glues : (s : State S V) (r : Rule s) (id : ℕ) (v : V) → get_elem? s.views id ≡ some v → v.stage ≡ Idle → (other : ℕ) (w both : V)
       → ¬ (other ≡ id) → get_elem? (set s.views id both) other ≡ some w → w.stage ≡ Idle
@@ -210,7 +210,7 @@ module _ {O C R E : Type 0} (after : O → ℕ → C → R → O) (may : O → �
               root = λ e. absurd (false≢true e);
             }
             (λ j u not_other e. ⊎_elim (λ (t : (j ≡ id) × (both ≡ u)). subst (λ (z : ℕ × V). K z.0 z.1) (λ i. (sym t.0 i, t.1 i)) mine)
-            (λ (t : (j ≢ id) × (get_elem? s.views j ≡ some u)). let q = r.each j u t.1 in
+            (λ t. let q = r.each j u t.1 in
             record {
               key_is = q.key_is;
               stands = q.stands;
@@ -302,5 +302,5 @@ module _ {O C R E : Type 0} (after : O → ℕ → C → R → O) (may : O → �
       → h.journal.items ≡ [] → sum key.quotas.items ≤ vec_capacity h.journal → sum key.quotas.items < 4294967296
       → Rule (opening (0 ∷ 0 ∷ 0 ∷ []) slots (starting key))
   opens_with before slots h none_ is object empty room small =
-      subst (λ (l : List S). Rule (opening (0 ∷ 0 ∷ 0 ∷ []) l (starting key))) (sym (is ∙ ap (λ (l : List S). l ++ Some h ∷ []) none_))
+      subst (λ l. Rule (opening (0 ∷ 0 ∷ 0 ∷ []) l (starting key))) (sym (is ∙ ap (λ l. l ++ Some h ∷ []) none_))
       (opens h object empty room small)

@@ -1,5 +1,5 @@
 -- The steps on the two words of tickets keep the rule: a ticket is drawn, the object is taken out, a ticket is spent.
-use Rattle.std.proofs.Common.{◌≡◌, ◌≢◌, ℕ, ◌+◌, ◌%◌, ◌<◌, ◌≤◌, eqb, Bool, List, [], ◌∷◌, length, get_or, set, sum, sym, refl, ap, ◌∙◌}
+use Rattle.std.proofs.Common.{◌≡◌, ◌≢◌, ℕ, ◌+◌, ◌%◌, ◌<◌, ◌≤◌, eqb, List, [], ◌∷◌, length, get_or, set, sum, sym, refl, ap, ◌∙◌}
 use Rattle.std.proofs.Common.{subst, arith, Some, cond, eq-eqb, ne_eqb}
 use mathlib.Core.Logic.{dite}
 use mathlib.Core.Option.{some, none, some-injective}
@@ -27,9 +27,9 @@ module _ {A : Type 0} where
       → Stands drawn spent drawer history j seen stage → Stands new spent (λ n. cond (eqb n old) id (drawer n)) history j seen stage
   drawn_stands drawn spent id old new drawer history seen j Idle same up k = tt
   drawn_stands drawn spent id old new drawer history seen j (Waits n) same up k =
-      let lt = k.1 in (k.0, omega arith, ap (λ (b : Bool). cond b id (drawer n)) (ne_eqb n old (λ e. omega arith)) ∙ k.2)
+      let lt = k.1 in (k.0, omega arith, ap (λ b. cond b id (drawer n)) (ne_eqb n old (λ e. omega arith)) ∙ k.2)
   drawn_stands drawn spent id old new drawer history seen j (Has n) same up k =
-      let lt = k.1 in (k.0, omega arith, ap (λ (b : Bool). cond b id (drawer n)) (ne_eqb n old (λ e. omega arith)) ∙ k.2, k.3)
+      let lt = k.1 in (k.0, omega arith, ap (λ b. cond b id (drawer n)) (ne_eqb n old (λ e. omega arith)) ∙ k.2, k.3)
 
   -- no other seat than the one whose ticket is the next has the object
   pub one_has : (drawn spent : ℕ) (drawer : ℕ → ℕ) (history seen : List A) (id j : ℕ) (stage : Stage) → drawer spent ≡ id → j ≢ id
@@ -67,7 +67,7 @@ module _ {O C R E : Type 0} (after : O → ℕ → C → R → O) (may : O → �
   pub draws : (slots id : ℕ) (me : M) (old new : ℕ) → me.0.stage ≡ Idle → new ≡ old + 1 → new < 18446744073709551616
       → Allows Rule slots id me 1 (λ n. either (eqb n old) new n) (drew (step slots 1 old new none) me)
   draws slots id me old new idle up small s r wide at _ =
-      let x : ℕ = get_or s.words 1 0 in let is : x ≡ r.drawn = ap (λ (ws : List ℕ). get_or ws 1 0) r.words in let order = r.order in
+      let x : ℕ = get_or s.words 1 0 in let is : x ≡ r.drawn = ap (λ ws. get_or ws 1 0) r.words in let order = r.order in
       dite (ℕ_discrete x old)
       (λ hit. let w : V = at_stage me.0 (Waits old) me.0.seen in let k = r.each id me.0 at in
       let drawer : ℕ → ℕ = λ n. cond (eqb n old) id (r.drawer n) in (
@@ -76,11 +76,11 @@ module _ {O C R E : Type 0} (after : O → ℕ → C → R → O) (may : O → �
         tt,
         subst (λ b. Rule (stepped s 1 (either b new x) id me.1 w keeps)) (sym (eq-eqb x old hit))
             (moves after may entry key s r id me.0 at w refl (set s.words 1 new) s.homes new r.spent drawer
-            (ap (λ (ws : List ℕ). set ws 1 new) r.words) (omega arith)
+            (ap (λ ws. set ws 1 new) r.words) (omega arith)
             (let none_ : ticket_count me.0.stage ≡ 0 = ap ticket_count idle in let b : r.drawn ≡ old = sym is ∙ hit in omega arith) small
             record {
               key_is = k.key_is;
-              stands = (omega arith, omega arith, ap (λ (b : Bool). cond b id (r.drawer old)) (eq-eqb old old refl));
+              stands = (omega arith, omega arith, ap (λ b. cond b id (r.drawer old)) (eq-eqb old old refl));
               seen = k.seen;
               told = k.told;
               hands = k.hands;
@@ -113,14 +113,14 @@ module _ {O C R E : Type 0} (after : O → ℕ → C → R → O) (may : O → �
       go (Waits m) k f h = h
       go (Has m) k f h =
           let same : j ≡ id = sym k.2 ∙ (ap r.drawer (k.0 ∙ turn) ∙ own) in
-          subst HasObject (ap (λ (x : V). x.stage) (some-injective u v (sym e ∙ (ap (get_elem? s.views) same ∙ at))) ∙ is)
+          subst HasObject (ap (λ x. x.stage) (some-injective u v (sym e ∙ (ap (get_elem? s.views) same ∙ at))) ∙ is)
           (subst HasObject (sym f) tt)
 
   -- a load of the tickets spent by a waiting seat, which takes the object out where its own is the next
   pub serves : (slots id : ℕ) (me : M) (n : ℕ) (d : Hand C R) → me.0.hands ≡ d ∷ [] → me.0.stage ≡ Waits n → me.1 ≡ []
       → Allows Rule slots id me 2 (λ x. x) (took after may entry (step slots 2 0 0 none) me)
   serves slots id me n d one waits empty s r wide at _ =
-      let x : ℕ = get_or s.words 2 0 in let is : x ≡ r.spent = ap (λ (ws : List ℕ). get_or ws 2 0) r.words in let k = r.each id me.0 at in
+      let x : ℕ = get_or s.words 2 0 in let is : x ≡ r.spent = ap (λ ws. get_or ws 2 0) r.words in let k = r.each id me.0 at in
       let stands : Stands r.drawn r.spent r.drawer r.history id me.0.seen (Waits n) =
       subst (Stands r.drawn r.spent r.drawer r.history id me.0.seen) waits k.stands in
       let not : HasObject me.0.stage → ⊥ = λ h. subst HasObject waits h in
@@ -131,7 +131,7 @@ module _ {O C R E : Type 0} (after : O → ℕ → C → R → O) (may : O → �
         takes 0 (Some home.0),
         home.1,
         moves after may entry key s r id me.0 at w refl (set s.words 2 x) (set s.homes 0 none) r.drawn r.spent r.drawer
-            (ap (λ (ws : List ℕ). set ws 2 (get_or ws 2 0)) r.words) r.order
+            (ap (λ ws. set ws 2 (get_or ws 2 0)) r.words) r.order
             (let one : ticket_count me.0.stage ≡ 1 = ap ticket_count waits in omega arith) r.small
             record {
               key_is = k.key_is;
@@ -139,7 +139,7 @@ module _ {O C R E : Type 0} (after : O → ℕ → C → R → O) (may : O → �
               seen = prefix_all r.history;
               told = k.told;
               hands = k.hands;
-              holder = λ _. (d, ap (λ (l : List (Hand C R)). get_elem? l 0) one);
+              holder = λ _. (d, ap (λ l. get_elem? l 0) one);
               root = k.root;
             }
             (λ j u other e st. st) (λ none_. absurd (none_ id w (set_at s.views id me.0 w at) tt)),
@@ -153,9 +153,9 @@ module _ {O C R E : Type 0} (after : O → ℕ → C → R → O) (may : O → �
             (
               y,
               f,
-              subst (λ (z : Key O). Fits after entry z r.history home.0) (sym (k.key_is y f)) home.2,
-              subst (λ (z : Key O). IsLegal after may z.opening.value r.history) (sym (k.key_is y f)) r.legal,
-              subst (λ (z : Key O). length r.history + me.0.left ≤ sum z.quotas.items) (sym (k.key_is y f)) (omega arith),
+              subst (λ z. Fits after entry z r.history home.0) (sym (k.key_is y f)) home.2,
+              subst (λ z. IsLegal after may z.opening.value r.history) (sym (k.key_is y f)) r.legal,
+              subst (λ z. length r.history + me.0.left ≤ sum z.quotas.items) (sym (k.key_is y f)) (omega arith),
             ),
           )),
           (λ no. absurd (no (subst (IsTurn x) (sym waits) hit))),
@@ -179,7 +179,7 @@ module _ {O C R E : Type 0} (after : O → ℕ → C → R → O) (may : O → �
       → Allows Rule slots id (v, (0, Some h) ∷ []) 2 (λ x. (x + 1) % 18446744073709551616)
       (rested (step slots 2 1 0 none) (v, (0, Some h) ∷ []))
   rests slots id n v h q has one_slot named fits s r wide at _ =
-      let x : ℕ = get_or s.words 2 0 in let is : x ≡ r.spent = ap (λ (ws : List ℕ). get_or ws 2 0) r.words in
+      let x : ℕ = get_or s.words 2 0 in let is : x ≡ r.spent = ap (λ ws. get_or ws 2 0) r.words in
       let k = r.each id v at in let st = holds_at id n v has s r at in
       let a = st.0 in let b = st.1 in let small = r.small in let own : r.drawer r.spent ≡ id = ap r.drawer (sym a) ∙ st.2 in
       let w : V = at_stage v Idle v.seen in let up : (x + 1) % 18446744073709551616 ≡ r.spent + 1 = omega arith in (
@@ -188,8 +188,8 @@ module _ {O C R E : Type 0} (after : O → ℕ → C → R → O) (may : O → �
         tt,
         moves after may entry key s r id v at w refl (set s.words 2 ((x + 1) % 18446744073709551616)) (set s.homes 0 (some (Some h)))
             r.drawn (r.spent + 1) r.drawer
-            (ap (λ (ws : List ℕ). set ws 2 ((x + 1) % 18446744073709551616)) r.words
-            ∙ ap (λ (y : ℕ). length r.history ∷ r.drawn ∷ y ∷ []) up) (omega arith)
+            (ap (λ ws. set ws 2 ((x + 1) % 18446744073709551616)) r.words
+            ∙ ap (λ y. length r.history ∷ r.drawn ∷ y ∷ []) up) (omega arith)
             (let one : ticket_count v.stage ≡ 1 = ap ticket_count has in omega arith) small
             record { key_is = k.key_is; stands = tt; seen = k.seen; told = k.told; hands = k.hands; holder = λ h. absurd h; root = k.root }
             (λ j u other e st'. spent_stands r.drawn r.spent id r.drawer r.history u.seen j u.stage own other
@@ -207,6 +207,6 @@ module _ {O C R E : Type 0} (after : O → ℕ → C → R → O) (may : O → �
       → Fits after entry q me.0.seen h
       → Allows Rule slots id me 2 (λ x. (x + 1) % 18446744073709551616) (rested (step slots 2 1 0 none) me)
   leaves slots id n me h q named one has holds fits =
-      subst (λ (l : List (ℕ × S)). Allows Rule slots id (me.0, l) 2 (λ x. (x + 1) % 18446744073709551616)
+      subst (λ l. Allows Rule slots id (me.0, l) 2 (λ x. (x + 1) % 18446744073709551616)
       (rested (step slots 2 1 0 none) (me.0, l))) (sym holds)
       (rests slots id n me.0 h q has one named fits)

@@ -22,7 +22,7 @@ module _ {A : Type 0} where
   last_of : (xs : List A) → (xs ≡ []) ⊎ ((ys : List A) × (y : A) × (xs ≡ ys ++ y ∷ []))
   last_of [] = inl refl
   last_of (x ∷ xs) =
-      ⊎_elim (λ (e : xs ≡ []). inr ([], x, ap (λ (l : List A). x ∷ l) e))
+      ⊎_elim (λ e. inr ([], x, ap (λ l. x ∷ l) e))
       (λ (t : (ys : List A) × (y : A) × (xs ≡ ys ++ y ∷ [])). inr (x ∷ t.0, t.1, ap (λ (l : List A). x ∷ l) t.2)) (last_of xs)
 
   ending : A → List A → A
@@ -72,16 +72,16 @@ module _ {C R : Type 0} where
       → history ≡ ys ++ e ∷ []
       → e.client ≡ c → events_of c seen ≡ events_of c history → seen ≡ history
   seen_all c seen zs history e ys parts end own same = ⊎_elim
-      (λ (n : zs ≡ []). sym (parts ∙ (ap (λ (l : List (Event C R)). seen ++ l) n ∙ append-nil seen)))
+      (λ n. sym (parts ∙ (ap (λ l. seen ++ l) n ∙ append-nil seen)))
       (λ (t : (us : List (Event C R)) × (z : Event C R) × (zs ≡ us ++ z ∷ [])).
       let last : e ≡ t.1 = same_last ys (seen ++ t.0) e t.1 (sym end
-      ∙ (parts ∙ (ap (λ (l : List (Event C R)). seen ++ l) t.2 ∙ sym (append_assoc seen t.0 (t.1 ∷ []))))) in
+      ∙ (parts ∙ (ap (λ l. seen ++ l) t.2 ∙ sym (append_assoc seen t.0 (t.1 ∷ []))))) in
       let a : length (events_of c history) ≡ length (events_of c seen) + length (events_of c zs) =
-      ap (λ (l : List (Event C R)). length (events_of c l)) parts
+      ap (λ l. length (events_of c l)) parts
       ∙ (ap length (events_of-append c seen zs) ∙ length-append (events_of c seen) (events_of c zs)) in
       let b : length (events_of c zs) ≡ length (events_of c t.0) + 1 =
-      ap (λ (l : List (Event C R)). length (events_of c l)) t.2
-      ∙ (ap length (events_of-own c t.0 t.1 (ap (λ (x : Event C R). x.client) (sym last) ∙ own)) ∙ length_snoc (events_of c t.0) t.1) in
+      ap (λ l. length (events_of c l)) t.2
+      ∙ (ap length (events_of-own c t.0 t.1 (ap (λ x. x.client) (sym last) ∙ own)) ∙ length_snoc (events_of c t.0) t.1) in
       let d : length (events_of c seen) ≡ length (events_of c history) = ap length same in absurd (omega arith))
       (last_of zs)
 
@@ -92,16 +92,16 @@ module _ {O C R : Type 0} where
       → ((i : ℕ) (k : Known O C R) → get_elem? ks i ≡ some k → IsPrefix k.seen history
       × (events_of k.client k.seen ≡ events_of k.client history))
       → ((c : ℕ) → count ≤ c → events_of c history ≡ [])
-      → (history ≡ []) ⊎ Any (λ (k : Known O C R). k.seen ≡ history) ks
+      → (history ≡ []) ⊎ Any (λ k. k.seen ≡ history) ks
   whole ks history count each all no_other = ⊎_elim inl (λ (t : (ys : List (Event C R)) × (e : Event C R) × (history ≡ ys ++ e ∷ [])).
       let c : ℕ = t.1.client in
       let long : length (events_of c history) ≡ length (events_of c t.0) + 1 =
-      ap (λ (l : List (Event C R)). length (events_of c l)) t.2
+      ap (λ l. length (events_of c l)) t.2
       ∙ (ap length (events_of-own c t.0 t.1 refl) ∙ length_snoc (events_of c t.0) t.1) in
       dite (dec_le count c)
       (λ out. let n : length (events_of c history) ≡ 0 = ap length (no_other c out) in absurd (omega arith))
       (λ not. let p = each c (lt_of_not-le not) in let q = all p.0 p.1 p.2 in
-      inr (read_any (λ (k : Known O C R). k.seen ≡ history) ks p.0 p.1 p.2
+      inr (read_any (λ k. k.seen ≡ history) ks p.0 p.1 p.2
       (seen_all p.1.client p.1.seen q.0.0 history t.1 t.0 q.0.1 t.2 (sym p.3) q.1))))
       (last_of history)
 
@@ -109,11 +109,11 @@ module _ {O C R : Type 0} where
       × (get_elem? (hands_of ks) j ≡ some (hand_of k))
   at_hands [] i k e = absurd (some-ne-none k (sym e))
   at_hands (x ∷ ks) zero k e =
-      (length (hands_of ks), middle (hands_of ks) (hand_of x) [] ∙ ap (λ (y : Known O C R). some (hand_of y)) (some-injective x k e))
+      (length (hands_of ks), middle (hands_of ks) (hand_of x) [] ∙ ap (λ y. some (hand_of y)) (some-injective x k e))
   at_hands (x ∷ ks) (suc i) k e = let t = at_hands ks i k e in (t.0, at_longer (hands_of ks) (hand_of x ∷ []) t.0 (hand_of k) t.1)
 
   pub own_more : (k : Known O C R) (ks : List (Known O C R)) → k.mine ≡ events_of k.client k.seen → AllOwn ks → AllOwn (k ∷ ks)
-  own_more k ks own all zero y e = subst (λ (z : Known O C R). z.mine ≡ events_of z.client z.seen) (some-injective k y e) own
+  own_more k ks own all zero y e = subst (λ z. z.mine ≡ events_of z.client z.seen) (some-injective k y e) own
   own_more k ks own all (suc i) y e = all i y e
 
   pub own_none : AllOwn {O = O} {C = C} {R = R} []
@@ -123,7 +123,7 @@ module _ {O C R : Type 0} where
   pub covers : (desk : TableId) (count : ℕ) (ks : List (Known O C R)) → AreAll desk count ks → (c : ℕ) → c < count
       → (j : ℕ) × (h : Hand C R) × (get_elem? (hands_of ks) j ≡ some h) × (h.client ≡ c)
   covers desk count ks all c lt =
-      let k = any_read (λ (k : Known O C R). k.client ≡ c) ks (all.each c lt) in let t = at_hands ks k.0 k.1 k.2 in
+      let k = any_read (λ k. k.client ≡ c) ks (all.each c lt) in let t = at_hands ks k.0 k.1 k.2 in
       (t.0, hand_of k.1, t.1, k.3)
 
   -- each pass has seen a part of the history, and knows all its client's events

@@ -1,39 +1,24 @@
 -- What each call does and answers is what the plain machine does and answers.
-use Rattle.std.proofs.Common.{◌≡◌, ℕ, Bool, true, false, List, [], ◌∷◌, Result, Ok, Err, Option, None, Some, refl, sym, ap, subst, ◌∙◌}
+use Rattle.wf_machine.proofs.Common.{◌≡◌, ℕ, Bool, true, false, List, [], ◌∷◌, Result, Ok, Err, Option, None, Some, refl, sym, ap, subst}
+use Rattle.wf_machine.proofs.Common.{◌∙◌, Live, Canvas, Bitmap, Buffers, KeptStream, StoreView, Call, Job, JobKind, Reply, is_ok_code}
+use Rattle.wf_machine.proofs.Common.{is_out_of_memory, CoreState, screen_of, end, is_of_frame, bare, refused, Running, State, act}
+use Rattle.wf_machine.proofs.Common.{acquire_step, canvas_back, is_out_at_client, Fits, Inside, IsSound, state_of, IsAct, IsAnswer}
+use Rattle.wf_machine.proofs.Common.{SameImage}
 use Rattle.wf_life.specs.declared.Kind.{Kind}
 use Rattle.wf_life.specs.declared.Kind.TheVariants as lives
-use Rattle.wf_life.specs.Handles.{Live, live_count}
-use Rattle.wf_image.specs.declared.canvas.Canvas.{Canvas}
-use Rattle.wf_image.specs.Bitmap.{Bitmap}
-use Rattle.wf_stream.specs.Buffers.{Buffers}
-use Rattle.wf_stream.specs.Streams.{KeptStream, StoreView}
-use Rattle.wf_calls.specs.declared.code.Code.{Code}
+use Rattle.wf_life.specs.Handles.{live_count}
 use Rattle.wf_calls.specs.declared.reply.Refusal.{Refusal}
-use Rattle.wf_calls.specs.declared.call.Call.{Call}
-use Rattle.wf_calls.specs.declared.call.Job.{Job}
-use Rattle.wf_calls.specs.declared.call.JobKind.{JobKind}
 use Rattle.wf_calls.specs.declared.call.JobKind.TheVariants as kind
 use Rattle.wf_calls.specs.declared.reply.Payload.{Payload}
 use Rattle.wf_calls.specs.declared.reply.Payload.TheVariants as payload
-use Rattle.wf_calls.specs.declared.reply.Reply.{Reply}
-use Rattle.wf_calls.specs.Codes.{is_ok_code, is_out_of_memory}
-use Rattle.wf_model.specs.Composition.{CoreSide, core_answer}
-use Rattle.wf_model.specs.Objects.{CoreState}
-use Rattle.wf_model.specs.Composing.{composed, core_side, screen_of, with_side}
+use Rattle.wf_model.specs.Composition.{core_answer}
+use Rattle.wf_model.specs.Composing.{composed, core_side, with_side}
 use Rattle.wf_model.specs.Core.{core_call}
-use Rattle.wf_model.specs.Frames.{end, is_of_frame}
 use Rattle.wf_calls.specs.Parts.{device_of, is_of_core, of_core, part_of}
-use Rattle.wf_calls.specs.Replies.{bare, refused}
 use Rattle.wf_calls.specs.declared.reply.Answer.{Answer}
-use Rattle.wf_model.specs.State.{Running, State}
-use Rattle.wf_model.specs.Step.{act}
-use Rattle.wf_model.specs.Streams.{acquire_step, canvas_back, is_out_at_client}
-use Rattle.wf_objects.specs.Fits.{Fits}
 use Rattle.wf_objects.specs.Sides.{KeepsRest, beside, side_of}
 use Rattle.wf_core.specs.Steps.{Steps}
-use Rattle.wf_machine.specs.declared.parts.Parts.TheInside.{Inside}
-use Rattle.wf_machine.specs.Inside.{IsSound, state_of}
-use Rattle.wf_machine.specs.Object.{CarriesPaintable, IsAct, IsAnswer, SameImage, SamePayload}
+use Rattle.wf_machine.specs.Object.{CarriesPaintable, SamePayload}
 
 -- an answer without a Job to paint
 abbrev IsPlain : Reply → Type 0
@@ -64,21 +49,21 @@ itself r plain = record { code = refl; value = refl; payload = same_payload (is_
 pub as_act : (h left : State) (c wanted : Call) (reply : Reply) → c ≡ wanted → act h wanted (is_out_of_memory reply.code) ≡ (left, reply)
     → IsPlain reply → IsAct h c left reply
 as_act h left c wanted reply is goes plain =
-    subst (λ (x : Call). IsAct h x left reply) (sym is)
+    subst (λ x. IsAct h x left reply) (sym is)
     (record {
-      left_is = sym (ap (λ (x : State × Reply). x.0) goes);
-      answer = subst (λ (r : Reply). IsAnswer r reply) (sym (ap (λ (x : State × Reply). x.1) goes)) (itself reply plain);
+      left_is = sym (ap (λ x. x.0) goes);
+      answer = subst (λ r. IsAnswer r reply) (sym (ap (λ x. x.1) goes)) (itself reply plain);
     })
 
 -- a call was matched whose answer may have a Job
 pub as_begin : (h left : State) (c wanted : Call) (reply : Reply) → c ≡ wanted → left ≡ (act h wanted (is_out_of_memory reply.code)).0
     → IsAnswer (act h wanted (is_out_of_memory reply.code)).1 reply → IsAct h c left reply
-as_begin h left c wanted reply is leaves answers = subst (λ (x : Call). IsAct h x left reply) (sym is)
+as_begin h left c wanted reply is leaves answers = subst (λ x. IsAct h x left reply) (sym is)
     (record { left_is = leaves; answer = answers })
 
 -- the answer of a step that is plain
 pub plain_of : (x : State × Reply) (left : State) (reply : Reply) → x ≡ (left, reply) → IsPlain x.1 → IsPlain reply
-plain_of x left reply is plain = subst IsPlain (ap (λ (y : State × Reply). y.1) is) plain
+plain_of x left reply is plain = subst IsPlain (ap (λ y. y.1) is) plain
 
 pub plain_answer : (a : Answer) → IsPlain (bare a)
 plain_answer a = nothing (is_ok_code a.code)
@@ -127,7 +112,7 @@ no_display (l ∷ others) none = of_kind l.kind refl (λ rest. no_display others
     of_kind lives.Mask is deeper = (let rest : beside others ≡ [] = rw is at none in rw is (deeper rest))
 
 side_is : (m : Inside) → IsSound m → side_of m.core m.store ≡ core_side (state_of m)
-side_is m sound = ap (λ (n : ℕ). record { made = m.store.made; streams = m.store.streams; core = m.core; display_sources = n })
+side_is m sound = ap (λ n. record { made = m.store.made; streams = m.store.streams; core = m.core; display_sources = n })
     (no_display m.store.others sound.others)
 
 module _ (inside : Inside) (h : State) (seen : state_of inside ≡ h) (sound : IsSound inside) (core : CoreState) (store : StoreView)
@@ -155,8 +140,8 @@ module _ (inside : Inside) (h : State) (seen : state_of inside ≡ h) (sound : I
       → IsAct h c (state_of (record inside { core = core; store = store })) (bare a)
   unfolding act
   as_composed c screen a ours asked steps =
-      as_act h left c c (bare a) refl (acts ∙ ap (λ (x : CoreSide × Answer). (with_side x.0 h, bare x.1)) there
-      ∙ ap (λ (t : State). (t, bare a)) left_is) (plain_answer a)
+      as_act h left c c (bare a) refl (acts ∙ ap (λ x. (with_side x.0 h, bare x.1)) there
+      ∙ ap (λ t. (t, bare a)) left_is) (plain_answer a)
     where
       m : Bool
       m = is_out_of_memory a.code
@@ -172,13 +157,13 @@ module _ (inside : Inside) (h : State) (seen : state_of inside ≡ h) (sound : I
 
       there : core_answer (device_of c) (core_side h) (core_call (screen_of c h) m c (core_side h)) ≡ (side_of core store, a)
       there =
-          ap (λ (w : CoreSide). core_answer (device_of c) w (core_call (screen_of c h) m c w)) (sym side)
-          ∙ ap (λ (s : Option ℕ). core_answer (device_of c) (side_of inside.core inside.store)
+          ap (λ w. core_answer (device_of c) w (core_call (screen_of c h) m c w)) (sym side)
+          ∙ ap (λ s. core_answer (device_of c) (side_of inside.core inside.store)
           (core_call s m c (side_of inside.core inside.store))) (sym asked)
           ∙ steps.step
 
       left_is : with_side (side_of core store) h ≡ left
       left_is =
-          ap (λ (s : State). with_side (side_of core store) s) (sym seen)
-          ∙ ap (λ (n : ℕ). record (state_of inside) { made = store.made; numbered = n; streams = store.streams; core = core })
+          ap (λ s. with_side (side_of core store) s) (sym seen)
+          ∙ ap (λ n. record (state_of inside) { made = store.made; numbered = n; streams = store.streams; core = core })
           (sym rest.numbered)

@@ -1,35 +1,15 @@
 -- The machine once a frame has begun.
-use Rattle.std.proofs.Common.{◌≡◌, ℕ, ◌+◌, ◌-◌, ◌^◌, ◌<◌, true, false, not, List, [], length, map, flat_map, Option, Some, None, refl, sym}
-use Rattle.std.proofs.Common.{ap, subst, ◌∙◌, arith}
-use Rattle.std.specs.Prelude.{is_some, nat_lt}
-use Rattle.std.specs.Option.{option_map}
-use Rattle.std.proofs.lemmas.Bool.{lt-ltb}
-use Rattle.std.proofs.lemmas.List.{length-map}
-use Rattle.wf_pixel.specs.declared.Size.{Size}
-use Rattle.wf_pixel.specs.declared.Format.{Format}
-use Rattle.wf_pixel.specs.Choice.{is_a8}
-use Rattle.wf_image.specs.Bitmap.{blank}
-use Rattle.wf_scene.specs.declared.Scene.{Scene}
-use Rattle.wf_stream.specs.Buffers.{Buffers, acquired}
-use Rattle.wf_stream.specs.Streams.{KeptStream, StoreView, IsNumbered, buffers_at, held}
-use Rattle.wf_calls.specs.declared.call.Job.{Job}
-use Rattle.wf_calls.specs.declared.call.JobKind.{JobKind}
+use Rattle.wf_machine.proofs.Common.{◌≡◌, ℕ, ◌+◌, ◌-◌, ◌^◌, ◌<◌, true, false, not, List, [], length, map, Option, Some, None, refl, sym, ap}
+use Rattle.wf_machine.proofs.Common.{subst, ◌∙◌, arith, is_some, nat_lt, option_map, lt-ltb, length-map, Size, Format, is_a8, blank}
+use Rattle.wf_machine.proofs.Common.{Buffers, acquired, KeptStream, StoreView, IsNumbered, buffers_at, held, Job, JobKind, gives_job}
+use Rattle.wf_machine.proofs.Common.{Content, Port, Running, State, CoreState, content_shape, drawing, Beginning, is_running, job_of, latch}
+use Rattle.wf_machine.proofs.Common.{latched_among, newest_images, scene_streams, start, layer_names, Images, Frame, Inside, AllFit}
+use Rattle.wf_machine.proofs.Common.{KindFits, PortsFit, contents_of, IsSound, state_of, AreShapedAs, IsAnswer, IsOfSomePort, SameImage}
+use Rattle.wf_machine.proofs.Common.{port_of, running_of}
+use Rattle.std.proofs.Common.{flat_map}
 use Rattle.wf_calls.specs.declared.call.JobKind.TheVariants as kind
-use Rattle.wf_calls.specs.Replies.{gives_job}
-use Rattle.wf_model.specs.declared.Content.{Content}
-use Rattle.wf_model.specs.State.{Port, Running, State}
-use Rattle.wf_model.specs.Objects.{CoreState}
-use Rattle.wf_model.specs.Frames.{content_shape, drawing, Beginning, is_running, job_of, latch, latched_among, newest_images}
-use Rattle.wf_model.specs.Frames.{running_of as shape_of_job, scene_streams, start}
-use Rattle.wf_model.specs.Names.{layer_names}
-use Rattle.wf_model.specs.Picture.{Fits, Images}
-use Rattle.wf_machine.specs.declared.frame.Frame.{Frame}
-use Rattle.wf_machine.specs.declared.parts.Parts.TheInside.{Inside}
-use Rattle.wf_machine.specs.Fitting.{AllFit, KindFits, PortsFit, contents_of}
-use Rattle.wf_machine.specs.Inside.{IsSound, state_of}
-use Rattle.wf_machine.specs.Latching.{AreShapedAs}
-use Rattle.wf_machine.specs.Object.{IsAnswer, IsOfSomePort, SameImage}
-use Rattle.wf_machine.specs.Ports.{port_of, running_of}
+use Rattle.wf_model.specs.Frames.{running_of as shape_of_job}
+use Rattle.wf_model.specs.Picture.{Fits}
 use Rattle.wf_machine.proofs.Begun.{all_latched, all_numbered, taken_once}
 use Rattle.wf_machine.proofs.Latches.{numbered_latch}
 use Rattle.wf_machine.proofs.Mapped.{SeenSame, bytes_mapped, changed_at, changed_keeps, latch_keeps, numbered_mapped, seen_mapped}
@@ -102,36 +82,36 @@ module _ (was now : Inside) (b : Beginning) (frame : Frame) (contents : Images) 
   after = drawing b.kind (latch names streams)
 
   pub streams_are : now.store.streams ≡ after
-  streams_are = ap (λ (v : StoreView). v.streams) begun.store
+  streams_are = ap (λ v. v.streams) begun.store
 
   no_contents : contents_of (option_map running_of was.frame) ≡ []
-  no_contents = ap (λ (f : Option Frame). contents_of (option_map running_of f)) begun.free
+  no_contents = ap (λ f. contents_of (option_map running_of f)) begun.free
 
   pub contents_are : contents_of (option_map running_of now.frame) ≡ map content_shape (newest_images names streams)
-  contents_are = ap (λ (f : Option Frame). contents_of (option_map running_of f)) begun.frame_is ∙ begun.shapes
-      ∙ ap (λ (c : Images). map content_shape c) begun.taken
+  contents_are = ap (λ f. contents_of (option_map running_of f)) begun.frame_is ∙ begun.shapes
+      ∙ ap (λ c. map content_shape c) begun.taken
 
   shaped_now : AreShapedAs (latch names streams) (newest_images names streams)
-  shaped_now = subst (λ (c : Images). AreShapedAs (latch names streams) c) begun.taken begun.shaped
+  shaped_now = subst (λ c. AreShapedAs (latch names streams) c) begun.taken begun.shaped
 
   as_many : length now.ports.items ≡ length was.ports.items
   as_many = omega (arith, length-map now.ports.items port_of, length-map was.ports.items port_of, ap length begun.modes)
 
   numbered_now : now.store.numbered ≡ was.store.numbered
-  numbered_now = ap (λ (v : StoreView). v.numbered) begun.store
+  numbered_now = ap (λ v. v.numbered) begun.store
 
   others_now : now.store.others ≡ was.store.others
-  others_now = ap (λ (v : StoreView). v.others) begun.store
+  others_now = ap (λ v. v.others) begun.store
 
   made_now : now.store.made ≡ was.store.made
-  made_now = ap (λ (v : StoreView). v.made) begun.store
+  made_now = ap (λ v. v.made) begun.store
 
   latched_numbered : IsNumbered 0 (latch names streams) was.store.numbered
   latched_numbered = numbered_latch names 0 was.store.numbered streams sound.numbered
 
   pub latched_fit : AllFit (map port_of was.ports.items) (map content_shape (newest_images names streams)) (latch names streams)
   latched_fit =
-      let fit = subst (λ (cs : List Content). AllFit (map port_of was.ports.items) cs streams) no_contents sound.streams in
+      let fit = subst (λ cs. AllFit (map port_of was.ports.items) cs streams) no_contents sound.streams in
       all_latched names (map port_of was.ports.items) was.store.numbered streams sound.numbered shaped_now fit
 
   pub sound_begun : IsSound now
@@ -178,25 +158,25 @@ module _ (was now : Inside) (b : Beginning) (frame : Frame) (contents : Images) 
       } in
       let left : StoreView = record was.store { streams = after } in
       let ps = map port_of was.ports.items in
-      ap (λ (v : StoreView). state now.begun v now.core (map port_of now.ports.items) (option_map running_of now.frame)) begun.store
-      ∙ ap (λ (n : ℕ). state n left now.core (map port_of now.ports.items) (option_map running_of now.frame)) begun.begun
-      ∙ ap (λ (core : CoreState). state (was.begun + 1) left core (map port_of now.ports.items) (option_map running_of now.frame))
+      ap (λ v. state now.begun v now.core (map port_of now.ports.items) (option_map running_of now.frame)) begun.store
+      ∙ ap (λ n. state n left now.core (map port_of now.ports.items) (option_map running_of now.frame)) begun.begun
+      ∙ ap (λ core. state (was.begun + 1) left core (map port_of now.ports.items) (option_map running_of now.frame))
       begun.core
-      ∙ ap (λ (qs : List Port). state (was.begun + 1) left was.core qs (option_map running_of now.frame)) begun.modes
-      ∙ ap (λ (o : Option Running). state (was.begun + 1) left was.core ps o) frame_is
+      ∙ ap (λ qs. state (was.begun + 1) left was.core qs (option_map running_of now.frame)) begun.modes
+      ∙ ap (λ o. state (was.begun + 1) left was.core ps o) frame_is
     where
       frame_is : option_map running_of now.frame ≡ Some (shape_of_job job)
       frame_is =
           let shape : ℕ → JobKind → Size → Format → List Content
           → Option Running = λ n j size f cs. Some (record { number = n; kind = j; size = size; format = f; contents = cs }) in
           let cs = frame.contents.items in
-          ap (λ (o : Option Frame). option_map running_of o) begun.frame_is
-          ∙ ap (λ (n : ℕ). shape n frame.kind frame.size frame.format cs) begun.number
-          ∙ ap (λ (j : JobKind). shape (was.begun + 1) j frame.size frame.format cs) begun.kind_is
-          ∙ ap (λ (size : Size). shape (was.begun + 1) b.kind size frame.format cs) begun.size
-          ∙ ap (λ (f : Format). shape (was.begun + 1) b.kind b.scene.size f cs) begun.format_is
-          ∙ ap (λ (cs : List Content). shape (was.begun + 1) b.kind b.scene.size b.format cs) (begun.shapes
-          ∙ ap (λ (c : Images). map content_shape c) begun.taken)
+          ap (λ o. option_map running_of o) begun.frame_is
+          ∙ ap (λ n. shape n frame.kind frame.size frame.format cs) begun.number
+          ∙ ap (λ j. shape (was.begun + 1) j frame.size frame.format cs) begun.kind_is
+          ∙ ap (λ size. shape (was.begun + 1) b.kind size frame.format cs) begun.size
+          ∙ ap (λ f. shape (was.begun + 1) b.kind b.scene.size f cs) begun.format_is
+          ∙ ap (λ cs. shape (was.begun + 1) b.kind b.scene.size b.format cs) (begun.shapes
+          ∙ ap (λ c. map content_shape c) begun.taken)
 
   -- a Job that is given as the plain machine gives it
   pub record IsGiven (given : Job) : Type 0 where
@@ -225,7 +205,7 @@ module _ (was now : Inside) (b : Beginning) (frame : Frame) (contents : Images) 
         paintable = record {
           port = rw is.kind_is is.port;
           fits = rw (is.scene_is, is.contents_are) is.fits;
-          size = is.size ∙ sym (ap (λ (s : Scene). s.size) is.scene_is);
+          size = is.size ∙ sym (ap (λ s. s.size) is.scene_is);
           four = is.four;
         };
       }
@@ -233,14 +213,14 @@ module _ (was now : Inside) (b : Beginning) (frame : Frame) (contents : Images) 
 -- while no frame runs and some can be numbered
 
 pub none_running : (m : Inside) → m.frame ≡ None → is_running (state_of m) ≡ false
-none_running m free = ap (λ (f : Option Frame). is_some (option_map running_of f)) free
+none_running m free = ap (λ f. is_some (option_map running_of f)) free
 
 pub some_left : (n : ℕ) → n < 2 ^ 64 - 1 → (not (nat_lt n (2 ^ 64 - 1))) ≡ false
 some_left n few = rw (lt-ltb n (2 ^ 64 - 1) few) refl
 
 -- a machine that is seen without a frame has none
 pub no_frame : (m : Inside) (s : State) → state_of m ≡ s → s.frame ≡ None → m.frame ≡ None
-no_frame m s seen free = of_frame m.frame (ap (λ (t : State). t.frame) seen ∙ free)
+no_frame m s seen free = of_frame m.frame (ap (λ t. t.frame) seen ∙ free)
   where
     of_frame : (o : Option Frame) → option_map running_of o ≡ None → o ≡ None
     of_frame None is = refl

@@ -1,39 +1,23 @@
 -- What holds of the streams once a frame has taken their images.
-use Rattle.std.proofs.Common.{◌≡◌, ℕ, ◌+◌, ◌<◌, ◌≤◌, Bool, true, false, not, cond, ◌==◌, List, [], ◌∷◌, map, Option, Some, None, refl, sym}
-use Rattle.std.proofs.Common.{ap, subst, ◌∙◌, arith}
-use Rattle.std.specs.Prelude.{filter, find}
-use Rattle.std.specs.Option.{option_map, IfSome, IsSomeAnd}
-use Rattle.std.proofs.lemmas.Bool.{eq-eqb}
-use Rattle.std.proofs.lemmas.Bool.Decides.{nat_tests}
-use Rattle.wf_words.specs.Keyed.{is_in, nth, once}
-use Rattle.wf_image.specs.Bitmap.{Bitmap}
-use Rattle.wf_image.specs.Contents.{image_of}
-use Rattle.wf_stream.specs.Buffers.{Buffers, HasShape, latched, newest}
-use Rattle.wf_stream.specs.Streams.{KeptStream, IsNumbered, buffers_at, stream_at}
-use Rattle.wf_model.specs.declared.Content.{Content}
-use Rattle.wf_model.specs.State.{Port}
-use Rattle.wf_model.specs.Frames.{content_shape, latch, latched_among, newest_images, newest_of}
-use Rattle.wf_model.specs.Picture.{Images}
-use Rattle.wf_machine.specs.Latching.{AreAtHome, AreShapedAs, IsShapedAs}
-use Rattle.wf_machine.specs.declared.frame.Frame.{Frame}
-use Rattle.wf_machine.specs.declared.parts.Parts.TheInside.{Inside}
-use Rattle.wf_machine.specs.Fitting.{AllFit, AreNumbered, AreOnce, IsRead, IsScreen, StreamFits, content_at, contents_of}
-use Rattle.wf_machine.specs.Inside.{IsSound}
-use Rattle.wf_machine.specs.Ports.{port_of, running_of}
-use Rattle.wf_words.specs.Once.{by_number, is_in-without, NoneTwice, once_none_twice}
+use Rattle.wf_machine.proofs.Common.{◌≡◌, ℕ, ◌+◌, ◌<◌, ◌≤◌, Bool, true, false, cond, ◌==◌, List, [], ◌∷◌, map, Option, Some, None, refl}
+use Rattle.wf_machine.proofs.Common.{sym, ap, subst, ◌∙◌, arith, find, option_map, IfSome, IsSomeAnd, eq-eqb, nat_tests, is_in, nth, once}
+use Rattle.wf_machine.proofs.Common.{Bitmap, image_of, Buffers, HasShape, latched, newest, KeptStream, IsNumbered, buffers_at, stream_at}
+use Rattle.wf_machine.proofs.Common.{Content, Port, content_shape, latch, latched_among, newest_images, newest_of, Images, AreAtHome}
+use Rattle.wf_machine.proofs.Common.{AreShapedAs, IsShapedAs, Inside, AllFit, AreNumbered, AreOnce, IsRead, IsScreen, StreamFits}
+use Rattle.wf_machine.proofs.Common.{content_at, contents_of, IsSound, port_of, running_of, by_number, NoneTwice, once_none_twice}
 use Rattle.wf_machine.proofs.Latches.{image_newest, latched_keeps}
 use Rattle.wf_machine.proofs.Mapped.{found_mapped, latch_keeps}
 
 -- the shape of a stream's image among the contents
 pub content_of_image : (n : ℕ) (contents : Images)
-    → content_at n (map content_shape contents) ≡ option_map (λ (image : Bitmap). content_shape (n, image)) (image_of n contents)
+    → content_at n (map content_shape contents) ≡ option_map (λ image. content_shape (n, image)) (image_of n contents)
 content_of_image n [] = refl
 content_of_image n (pair ∷ contents) =
     let shape : Bitmap → Content = λ image. content_shape (n, image) in
     by_number (cond (pair.0 == n) (Some (content_shape pair)) (content_at n (map content_shape contents))
-    ≡ option_map shape (option_map (λ (p : ℕ × Bitmap). p.1)
-    (cond (pair.0 == n) (Some pair) (find (λ (p : ℕ × Bitmap). p.0 == n) contents)))) pair.0 n
-    (λ here same. rw here (ap (λ (k : ℕ). Some (content_shape (k, pair.1))) same))
+    ≡ option_map shape (option_map (λ p. p.1)
+    (cond (pair.0 == n) (Some pair) (find (λ p. p.0 == n) contents)))) pair.0 n
+    (λ here same. rw here (ap (λ k. Some (content_shape (k, pair.1))) same))
     (λ apart. rw apart (content_of_image n contents))
 
 pub shaped_at : (n : ℕ) (image : Bitmap) (streams : List KeptStream) (contents : Images) → AreShapedAs streams contents
@@ -44,7 +28,7 @@ shaped_at n image streams (pair ∷ contents) shaped found =
     (λ here same. (
     let is : Some pair.1 ≡ Some image = rw here at found in
     let this : pair.1 ≡ image = cc in
-    subst (λ (k : ℕ). IsShapedAs k streams image) same (subst (λ (i : Bitmap). IsShapedAs pair.0 streams i) this shaped.0)))
+    subst (λ k. IsShapedAs k streams image) same (subst (λ i. IsShapedAs pair.0 streams i) this shaped.0)))
     (λ apart. shaped_at n image streams contents shaped.1 (rw apart at found))
 
 stream_latched : (ns : List ℕ) (n : ℕ) (streams : List KeptStream)
@@ -65,7 +49,7 @@ screen_latched b (Some p) is = (latched_size b ∙ is.0, latched_format b ∙ is
 -- the read image of a stream that is latched
 read_latched : (b : Buffers) (n : ℕ) (o : Option Bitmap) → newest b ≡ o → IsRead b None
     → ((image : Bitmap) → o ≡ Some image → HasShape (latched b).size (latched b).format image)
-    → IsRead (latched b) (option_map (λ (image : Bitmap). content_shape (n, image)) o)
+    → IsRead (latched b) (option_map (λ image. content_shape (n, image)) o)
 read_latched b n None is home shape = rw is home
 read_latched b n (Some image) is home shape =
     let has = shape image refl in
@@ -82,21 +66,21 @@ module _ (ns : List ℕ) (ports : List Port) (whole : List KeptStream) (shaped :
       Fits b = StreamFits ports taken (cond b (record s { buffers = latched s.buffers }) s)
 
       image_is : (b : Bool) → is_in s.number ns ≡ b → image_of s.number (newest_images ns whole) ≡ cond b (newest s.buffers) None
-      image_is b is = image_newest ns s.number whole ∙ ap (λ (c : Bool). cond c (newest_of (stream_at s.number whole)) None) is
-          ∙ ap (λ (o : Option KeptStream). cond b (newest_of o) None) found
+      image_is b is = image_newest ns s.number whole ∙ ap (λ c. cond c (newest_of (stream_at s.number whole)) None) is
+          ∙ ap (λ o. cond b (newest_of o) None) found
 
       content_is : (b : Bool) → is_in s.number ns ≡ b → content_at s.number taken
-          ≡ option_map (λ (image : Bitmap). content_shape (s.number, image)) (cond b (newest s.buffers) None)
+          ≡ option_map (λ image. content_shape (s.number, image)) (cond b (newest s.buffers) None)
       content_is b is = content_of_image s.number (newest_images ns whole)
-          ∙ ap (λ (o : Option Bitmap). option_map (λ (image : Bitmap). content_shape (s.number, image)) o) (image_is b is)
+          ∙ ap (λ o. option_map (λ image. content_shape (s.number, image)) o) (image_is b is)
 
       shape : is_in s.number ns ≡ true → (image : Bitmap) → newest s.buffers ≡ Some image
           → HasShape (latched s.buffers).size (latched s.buffers).format image
       shape within image is =
           let has = shaped_at s.number image (latch ns whole) (newest_images ns whole) shaped (image_is true within ∙ is) in
           let here : stream_at s.number (latch ns whole) ≡ Some (record s { buffers = latched s.buffers }) =
-          stream_latched ns s.number whole ∙ ap (λ (o : Option KeptStream). option_map (latched_among ns) o) found
-          ∙ ap (λ (b : Bool). Some (cond b (record s { buffers = latched s.buffers }) s)) within in
+          stream_latched ns s.number whole ∙ ap (λ o. option_map (latched_among ns) o) found
+          ∙ ap (λ b. Some (cond b (record s { buffers = latched s.buffers }) s)) within in
           rw here at has
 
       by_member : (b : Bool) → is_in s.number ns ≡ b → Fits b
@@ -146,8 +130,8 @@ contents_once (n ∷ ns) streams none = of_newest (contents_once ns streams none
     of_newest later None is = rw is later
     of_newest later (Some image) is =
         let absent : content_at n (map content_shape (newest_images ns streams)) ≡ None = content_of_image n (newest_images ns streams)
-        ∙ ap (λ (o : Option Bitmap). option_map (λ (i : Bitmap). content_shape (n, i)) o) (image_newest ns n streams
-        ∙ ap (λ (b : Bool). cond b (newest_of (stream_at n streams)) None) none.0) in
+        ∙ ap (λ o. option_map (λ i. content_shape (n, i)) o) (image_newest ns n streams
+        ∙ ap (λ b. cond b (newest_of (stream_at n streams)) None) none.0) in
         rw is (absent, later)
 
 pub taken_once : (ns : List ℕ) (streams : List KeptStream) → AreOnce (map content_shape (newest_images (once ns) streams))
@@ -188,5 +172,5 @@ all_home ports (s ∷ streams) fit = (fit.0.read, all_home ports streams fit.1)
 pub home_without : (m : Inside) → m.frame ≡ None → IsSound m → AreAtHome m.store.streams
 home_without m free sound =
     all_home (map port_of m.ports.items) m.store.streams
-    (subst (λ (f : Option Frame). AllFit (map port_of m.ports.items) (contents_of (option_map running_of f)) m.store.streams) free
+    (subst (λ f. AllFit (map port_of m.ports.items) (contents_of (option_map running_of f)) m.store.streams) free
     sound.streams)

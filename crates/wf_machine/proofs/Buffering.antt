@@ -1,20 +1,12 @@
 -- Calls on the buffers of streams, as the plain machine answers them.
-use Rattle.std.proofs.Common.{◌≡◌, ℕ, true, false, not, ◌&&◌, List, Option, Some, None, refl, sym, ap, ◌∙◌}
-use Rattle.std.specs.Option.{option_map}
-use Rattle.std.proofs.lemmas.Bool.{and_parts, eqb-true}
-use Rattle.wf_pixel.specs.declared.Size.{Size}
-use Rattle.wf_pixel.specs.declared.Format.{Format}
-use Rattle.wf_pixel.specs.declared.Format.TheVariants.{Rgba8, Rgba8Pre, Rgbx8, A8}
-use Rattle.wf_pixel.specs.Choice.{same_format, same_size}
-use Rattle.wf_image.specs.declared.canvas.Canvas.{Canvas}
-use Rattle.wf_stream.specs.Buffers.{Buffers, acquired, is_blocked}
-use Rattle.wf_stream.specs.Streams.{KeptStream, IsNumbered, number_of, stream_at, stream_of}
+use Rattle.wf_machine.proofs.Common.{◌≡◌, ℕ, true, false, not, ◌&&◌, List, Option, Some, None, refl, sym, ap, ◌∙◌, option_map, and_parts}
+use Rattle.wf_machine.proofs.Common.{eqb-true, Size, Format, Rgba8, Rgba8Pre, Rgbx8, A8, same_format, same_size, Canvas, Buffers, acquired}
+use Rattle.wf_machine.proofs.Common.{is_blocked, KeptStream, IsNumbered, stream_at, stream_of, State, bare, done, refusal, refused}
+use Rattle.wf_machine.proofs.Common.{acquirable, acquire_step, canvas_back, canvas_of, is_out_at_client, with_stream, is_target}
+use Rattle.wf_stream.specs.Streams.{number_of}
 use Rattle.wf_calls.specs.declared.code.Code.TheVariants as code
 use Rattle.wf_calls.specs.declared.reply.Payload.TheVariants as payload
-use Rattle.wf_model.specs.State.{State}
-use Rattle.wf_calls.specs.Replies.{bare, done, refusal, refused}
-use Rattle.wf_model.specs.Streams.{acquirable, acquire_step, canvas_back, canvas_of, is_out_at_client, is_out_of, with_stream}
-use Rattle.wf_model.specs.Frames.{is_target}
+use Rattle.wf_model.specs.Streams.{is_out_of}
 use Rattle.wf_machine.specs.Latching.{IsOutFrom}
 use Rattle.wf_machine.proofs.Changes.{of_handle}
 
@@ -23,22 +15,13 @@ pub found : (handle number high : ℕ) (streams : List KeptStream) → IsNumbere
     → (s : KeptStream) × (stream_of handle streams ≡ Some s) × (stream_at number streams ≡ Some s)
 found handle number high streams rising is = of_stream (stream_of handle streams) refl is
   where
-    of_stream : (o : Option KeptStream) → stream_of handle streams ≡ o → Some number ≡ option_map (λ (s : KeptStream). s.number) o
+    of_stream : (o : Option KeptStream) → stream_of handle streams ≡ o → Some number ≡ option_map (λ s. s.number) o
         → (s : KeptStream) × (stream_of handle streams ≡ Some s) × (stream_at number streams ≡ Some s)
     of_stream None at same = absurd cc
     of_stream (Some s) at same = (let here : s.number ≡ number = cc in
-        (s, at, ap (λ (n : ℕ). stream_at n streams) (sym here) ∙ of_handle 0 high handle streams s rising at))
+        (s, at, ap (λ n. stream_at n streams) (sym here) ∙ of_handle 0 high handle streams s rising at))
 
 module _ (handle : ℕ) (h : State) where
-  -- no stream lives under the handle
-  pub no_stream : number_of handle h.streams ≡ None → acquire_step h (acquirable handle h) ≡ (h, bare (refused (refusal code.BadHandle)))
-  no_stream none = of_stream (stream_of handle h.streams) refl none
-    where
-      of_stream : (o : Option KeptStream) → stream_of handle h.streams ≡ o → option_map (λ (s : KeptStream). s.number) o ≡ None
-          → acquire_step h (acquirable handle h) ≡ (h, bare (refused (refusal code.BadHandle)))
-      of_stream None at same = rw at refl
-      of_stream (Some s) at same = absurd cc
-
   module _ (s : KeptStream) (at : stream_of handle h.streams ≡ Some s) where
     pub busy : s.buffers.out ≡ true → acquire_step h (acquirable handle h) ≡ (h, bare (refused (refusal code.Busy)))
     busy out = rw (at, out) refl
@@ -59,15 +42,11 @@ pub comes_back : (canvas : Canvas) (f : Buffers → Buffers) (h : State) → is_
     → canvas_back canvas f h ≡ (with_stream canvas.stream f h, bare (done 0))
 comes_back canvas f h out = rw out refl
 
-pub stays_out : (canvas : Canvas) (f : Buffers → Buffers) (h : State) → is_out_at_client canvas h ≡ false
-    → canvas_back canvas f h ≡ (h, record { code = code.BadHandle; value = 0; payload = payload.Canvas canvas })
-stays_out canvas f h home = rw home refl
-
 pub size_is : (s t : Size) → same_size s t ≡ true → s ≡ t
 size_is s t same =
     let parts = and_parts _ _ same in
-    ap (λ (w : ℕ). record { w = w; h = s.h }) (eqb-true s.w t.w parts.0)
-    ∙ ap (λ (h : ℕ). record { w = t.w; h = h }) (eqb-true s.h t.h parts.1)
+    ap (λ w. record { w = w; h = s.h }) (eqb-true s.w t.w parts.0)
+    ∙ ap (λ h. record { w = t.w; h = h }) (eqb-true s.h t.h parts.1)
 
 pub format_is : (f g : Format) → same_format f g ≡ true → f ≡ g
 format_is Rgba8 Rgba8 same = refl

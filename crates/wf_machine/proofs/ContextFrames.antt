@@ -1,49 +1,18 @@
 -- A context's frame that begins.
-use Rattle.std.proofs.Common.{◌≡◌, ℕ, ◌+◌, ◌-◌, ◌^◌, ◌<◌, Bool, true, false, cond, ◌==◌, List, [], ◌∷◌, map, Option, Some, None, refl, sym}
-use Rattle.std.proofs.Common.{Ok}
-use Rattle.std.proofs.Common.{ap, subst, ◌∙◌}
-use Rattle.std.specs.Prelude.{find}
-use Rattle.std.specs.List.{AllByRecursion}
-use Rattle.std.specs.Option.{option_map, IfSome, IsSomeAnd}
-use Rattle.std.proofs.lemmas.Bool.{eq-eqb}
-use Rattle.wf_words.specs.Keyed.{is_in}
+use Rattle.wf_machine.proofs.Common.{◌≡◌, ℕ, Bool, true, false, cond, ◌==◌, List, Option, Some, None, refl, sym, Ok, ap, subst, ◌∙◌}
+use Rattle.wf_machine.proofs.Common.{option_map, IsSomeAnd, eq-eqb, is_in, is_a8, Bitmap, Scene, Buffers, away_if, latched, latched_if}
+use Rattle.wf_machine.proofs.Common.{newest, KeptStream, StoreView, buffers_at, change_stream, stream_at, has_number, Context, is_running}
+use Rattle.wf_machine.proofs.Common.{latch, latched_among, target_ready, State, ContextFits, Fits, next_shown, IsComposable}
 use Rattle.wf_words.specs.Refusals.{◌>>=◌}
-use Rattle.wf_pixel.specs.declared.Size.{Size}
-use Rattle.wf_pixel.specs.declared.Format.{Format}
-use Rattle.wf_pixel.specs.Choice.{is_a8}
-use Rattle.wf_image.specs.Bitmap.{Bitmap, blank}
-use Rattle.wf_scene.specs.declared.Scene.{Scene}
-use Rattle.wf_stream.specs.Buffers.{Buffers, acquired, away_if, is_blocked, latched, latched_if, newest}
-use Rattle.wf_stream.specs.Streams.{KeptStream, StoreView, buffers_at, change_stream, stream_at, has_number}
 use Rattle.wf_calls.specs.declared.code.Code.TheVariants as code
-use Rattle.wf_calls.specs.declared.call.Job.{Job}
-use Rattle.wf_calls.specs.declared.call.JobKind.TheVariants as kind
-use Rattle.wf_calls.specs.declared.reply.Payload.TheVariants as payload
-use Rattle.wf_calls.specs.declared.reply.Reply.{Reply}
-use Rattle.wf_model.specs.Objects.{Context}
-use Rattle.wf_model.specs.Frames.{begin_context, begin_next, content_shape, is_running, latch, latched_among, newest_images, next_context}
-use Rattle.wf_model.specs.Frames.{target_ready, is_short, all_begun}
-use Rattle.wf_model.specs.Frames.{scene_streams}
+use Rattle.wf_model.specs.Frames.{begin_context, begin_next, next_context}
+use Rattle.wf_model.specs.Frames.{is_short, all_begun}
 use Rattle.wf_model.specs.Outcome.{refuse_with}
-use Rattle.wf_model.specs.Picture.{Fits as Drawn, Images}
-use Rattle.wf_model.specs.State.{Running, State}
 use Rattle.wf_objects.specs.declared.shown.Shown.{Shown}
-use Rattle.wf_objects.specs.Fits.{ContextFits, Fits}
-use Rattle.wf_objects.specs.Shows.{next_of, next_shown}
-use Rattle.wf_machine.specs.declared.frame.Frame.{Frame}
-use Rattle.wf_machine.specs.declared.parts.Parts.TheInside.{Inside}
-use Rattle.wf_machine.specs.declared.port.Port as declared
-use Rattle.wf_machine.specs.Fitting.{IsComposable, IsOfTarget, PortsFit, away_of}
-use Rattle.wf_machine.specs.Inside.{IsSound, state_of}
-use Rattle.wf_machine.specs.Latching.{AreShapedAs}
-use Rattle.wf_machine.specs.Object.{IsAnswer}
-use Rattle.wf_machine.specs.Ports.{HoldsBut, port_of, running_of}
-use Rattle.wf_machine.proofs.Beginning.{HasBegun, IsGiven, answer_begun, job, latched_fit, left_begun, some_left}
-use Rattle.wf_machine.proofs.Drawable.{scene_shows}
-use Rattle.wf_machine.proofs.Latches.{KeepsShape, latched_keeps}
-use Rattle.wf_machine.proofs.Mapped.{SeenSame, buffers_mapped, changed_at, changed_keeps, latch_keeps, seen_mapped}
+use Rattle.wf_objects.specs.Shows.{next_of}
+use Rattle.wf_machine.proofs.Latches.{KeepsShape}
+use Rattle.wf_machine.proofs.Mapped.{SeenSame, buffers_mapped, changed_at, changed_keeps, latch_keeps}
 use Rattle.wf_machine.proofs.StillComposed.{layers_kept, some_kept}
-use Rattle.wf_machine.proofs.StillFitting.{acquired_keeps, shape_kept}
 use Rattle.wf_words.specs.Each.{each_found}
 
 -- the next context
@@ -54,7 +23,7 @@ module _ (h : State) (after handle : ℕ) (shown : Shown) (found : Some (handle,
     of_shown : (c : Context) → Some (handle, shown) ≡ Some (next_of c) → P c.handle c.target c.committed → P handle shown.target shown.scene
     of_shown c is holds =
         let same : next_of c ≡ (handle, shown) = cc in
-        subst (λ (x : ℕ × Shown). P x.0 x.1.target x.1.scene) same holds
+        subst (λ x. P x.0 x.1.target x.1.scene) same holds
 
   pub next_is : is_running h ≡ false → begin_next after h ≡ begin_context handle shown.target shown.scene h
   next_is free = of_context (next_context after h.core.contexts) refl found
@@ -66,7 +35,7 @@ module _ (h : State) (after handle : ℕ) (shown : Shown) (found : Some (handle,
           (rw (free, some) refl)
 
   pub next_fits : (store : StoreView) → store.streams ≡ h.streams → Fits h.core store → IsComposable h.streams shown.target shown.scene
-  next_fits store same fits = subst (λ (ss : List KeptStream). IsComposable ss shown.target shown.scene) same
+  next_fits store same fits = subst (λ ss. IsComposable ss shown.target shown.scene) same
       (of_context (next_context after h.core.contexts) refl found)
     where
       composable : (c : Context) → ContextFits store.streams c → IsComposable store.streams c.target c.committed
@@ -84,13 +53,6 @@ module _ (h : State) (after handle : ℕ) (shown : Shown) (found : Some (handle,
           of_shown (λ n target scene. IsComposable store.streams target scene) c is
           (composable c (each_found (ContextFits store.streams) _ h.core.contexts c fits.streams.contexts some))
 
-pub next_none : (h : State) (after : ℕ) → None ≡ next_shown after h.core → is_running h ≡ false → begin_next after h ≡ Ok None
-next_none h after none free = of_context (next_context after h.core.contexts) refl none
-  where
-    of_context : (o : Option Context) → next_context after h.core.contexts ≡ o → None ≡ option_map next_of o → begin_next after h ≡ Ok None
-    of_context None is none = rw (free, is) refl
-    of_context (Some c) is none = absurd cc
-
 -- the target
 
 -- the buffers of the stream of a number, changed
@@ -105,8 +67,8 @@ changed_here f n ss b keeps found = of_stream (stream_at n ss) refl
         let same : s.buffers ≡ b = cc in
         let here : (s.number == n) ≡ true = eq-eqb s.number n (has_number n ss s at) in
         buffers_mapped (changed_at n f) (changed_keeps n f keeps) n ss
-        ∙ ap (λ (o : Option KeptStream). option_map (λ (t : KeptStream). (changed_at n f t).buffers) o) at
-        ∙ ap (λ (x : Bool). Some (cond x (record s { buffers = f s.buffers }) s).buffers) here ∙ ap (λ (c : Buffers). Some (f c)) same
+        ∙ ap (λ o. option_map (λ t. (changed_at n f t).buffers) o) at
+        ∙ ap (λ x. Some (cond x (record s { buffers = f s.buffers }) s).buffers) here ∙ ap (λ c. Some (f c)) same
 
 -- the buffers of a stream after the newest images of some went away
 pub latched_here : (ns : List ℕ) (n : ℕ) (ss : List KeptStream) (b : Buffers) → buffers_at n ss ≡ Some b
@@ -119,14 +81,14 @@ latched_here ns n ss b found = of_stream (stream_at n ss) refl
         let is : Some s.buffers ≡ Some b = rw at at found in
         let same : s.buffers ≡ b = cc in
         buffers_mapped (latched_among ns) (latch_keeps ns) n ss
-        ∙ ap (λ (o : Option KeptStream). option_map (λ (t : KeptStream). (latched_among ns t).buffers) o) at
+        ∙ ap (λ o. option_map (λ t. (latched_among ns t).buffers) o) at
         ∙ elim (is_in s.number ns) as (λ x. Some (cond x (record s { buffers = latched s.buffers }) s).buffers
         ≡ Some (latched_if x s.buffers)) [
           | true ↦ refl
           | false ↦ refl
         ]
-        ∙ ap (λ (k : ℕ). Some (latched_if (is_in k ns) s.buffers)) (has_number n ss s at)
-        ∙ ap (λ (c : Buffers). Some (latched_if (is_in n ns) c)) same
+        ∙ ap (λ k. Some (latched_if (is_in k ns) s.buffers)) (has_number n ss s at)
+        ∙ ap (λ c. Some (latched_if (is_in n ns) c)) same
 
 latched_out : (b : Buffers) → (latched b).out ≡ b.out
 latched_out b = of_newest (newest b)

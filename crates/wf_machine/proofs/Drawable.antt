@@ -1,32 +1,20 @@
 -- A scene whose layers fit the streams has a picture with the images that were taken of them.
-use Rattle.std.proofs.Common.{◌≡◌, ◌≢◌, ℕ, ◌<◌, Bool, true, false, cond, ◌==◌, ◌&&◌, List, [], ◌∷◌, Option, Some, None, refl, sym, ap}
-use Rattle.std.proofs.Common.{subst, ◌∙◌, arith, IsTrue, T}
+use Rattle.wf_machine.proofs.Common.{◌≡◌, ◌≢◌, ℕ, ◌<◌, Bool, true, false, cond, ◌==◌, ◌&&◌, List, [], ◌∷◌, Option, Some, None, refl, sym}
+use Rattle.wf_machine.proofs.Common.{ap, subst, ◌∙◌, arith, IsTrue, nat_le, nat_lt, ℤ, pos, negsuc, AllByRecursion, option_map, IfSome}
+use Rattle.wf_machine.proofs.Common.{IsSomeAnd, and_parts, leb-true, ints, All-cons, All-nil, Size, Format, Rgba8, Rgba8Pre, Rgbx8, A8}
+use Rattle.wf_machine.proofs.Common.{has_sides, is_a8, is_side, IsDrawn, Bitmap, image_of, Buffers, HasShape, KeptStream, buffers_at}
+use Rattle.wf_machine.proofs.Common.{stream_at, Layer, Scene, holds_rect, LayerFits, Content, Port, Images, AllFit, IsComposable}
+use Rattle.wf_machine.proofs.Common.{AreShapedAs}
+use Rattle.std.proofs.Common.{T}
 use lib.Signed.{le_z_yes}
-use Rattle.std.specs.Prelude.{nat_le, nat_lt, ℤ, pos, negsuc, ◌≤ℤ◌, ◌+ℤ◌, int_le}
-use Rattle.std.specs.List.{All, AllByRecursion}
-use Rattle.std.specs.Option.{option_map, IfSome, IsSomeAnd}
-use Rattle.std.proofs.lemmas.Bool.{and_parts, leb-true, ltb-true}
-use Rattle.std.proofs.lemmas.Int.{ints}
-use Rattle.std.proofs.lemmas.List.Elements.{All-cons, All-nil}
+use Rattle.std.specs.Prelude.{◌≤ℤ◌, ◌+ℤ◌, int_le}
+use Rattle.std.specs.List.{All}
+use Rattle.std.proofs.lemmas.Bool.{ltb-true}
 use Rattle.wf_pixel.specs.declared.Rect.{Rect}
-use Rattle.wf_pixel.specs.declared.Size.{Size}
-use Rattle.wf_pixel.specs.declared.Format.{Format}
-use Rattle.wf_pixel.specs.declared.Format.TheVariants.{Rgba8, Rgba8Pre, Rgbx8, A8}
-use Rattle.wf_pixel.specs.Choice.{has_sides, is_a8, is_side, is_coordinate}
-use Rattle.wf_pixel.specs.Place.{IsDrawn, size_of}
-use Rattle.wf_image.specs.Bitmap.{Bitmap}
-use Rattle.wf_image.specs.Contents.{image_of}
-use Rattle.wf_stream.specs.Buffers.{Buffers, HasShape}
-use Rattle.wf_stream.specs.Streams.{KeptStream, buffers_at, stream_at}
-use Rattle.wf_scene.specs.declared.Layer.{Layer}
-use Rattle.wf_scene.specs.declared.Scene.{Scene}
-use Rattle.wf_scene.specs.Layers.{holds_rect, is_placed_layer}
-use Rattle.wf_objects.specs.Fits.{LayerFits}
-use Rattle.wf_model.specs.declared.Content.{Content}
-use Rattle.wf_model.specs.State.{Port}
-use Rattle.wf_model.specs.Picture.{Fits, Images, LayerFits as Shows}
-use Rattle.wf_machine.specs.Fitting.{AllFit, IsComposable}
-use Rattle.wf_machine.specs.Latching.{AreShapedAs}
+use Rattle.wf_pixel.specs.Choice.{is_coordinate}
+use Rattle.wf_pixel.specs.Place.{size_of}
+use Rattle.wf_scene.specs.Layers.{is_placed_layer}
+use Rattle.wf_model.specs.Picture.{Fits, LayerFits as Shows}
 use Rattle.wf_machine.proofs.Begun.{shaped_at}
 
 in_order : (a b : ℤ) → int_le a b ≡ true → a ≤ℤ b
@@ -112,7 +100,7 @@ pub sides_at : (ports : List Port) (cs : List Content) (n : ℕ) (ss : List Kept
     → IfSome (buffers_at n ss) (λ b. has_sides b.size ≡ true)
 sides_at ports cs n [] fit = tt
 sides_at ports cs n (s ∷ ss) fit =
-    elim (s.number == n) as (λ b. IfSome (option_map (λ (t : KeptStream). t.buffers) (cond b (Some s) (stream_at n ss)))
+    elim (s.number == n) as (λ b. IfSome (option_map (λ t. t.buffers) (cond b (Some s) (stream_at n ss)))
     (λ c. has_sides c.size ≡ true)) [ true ↦ fit.0.sides | false ↦ sides_at ports cs n ss fit.1 ]
 
 module _ (ports : List Port) (cs : List Content) (ss : List KeptStream) (contents : Images) (fit : AllFit ports cs ss)
@@ -154,7 +142,7 @@ module _ (ports : List Port) (cs : List Content) (ss : List KeptStream) (content
       of_source (Some i) is =
           let b = shape_of l.stream i _ is fits.source in (
             (λ mask. (let no : is_a8 i.format ≡ false = ap is_a8 b.1.format_is ∙ b.2.0 in
-                absurd (let yes : is_a8 A8 ≡ false = subst (λ (f : Format). is_a8 f ≡ false) mask no in cc))),
+                absurd (let yes : is_a8 A8 ≡ false = subst (λ f. is_a8 f ≡ false) mask no in cc))),
             rw b.1.size_is b.2.1,
           )
 
@@ -182,4 +170,4 @@ module _ (ports : List Port) (cs : List Content) (ss : List KeptStream) (content
           of_buffers : (o : Option Buffers) → IfSome o (λ b. has_sides b.size ≡ true)
               → IsSomeAnd o (λ b. (b.size ≡ scene.size) × (is_a8 b.format ≡ false)) → has_sides scene.size ≡ true
           of_buffers None sides is = absurd is
-          of_buffers (Some b) sides is = subst (λ (s : Size). has_sides s ≡ true) is.0 sides
+          of_buffers (Some b) sides is = subst (λ s. has_sides s ≡ true) is.0 sides

@@ -1,21 +1,9 @@
 -- The running frame's image stays that of its port or of its target.
-use Rattle.std.proofs.Common.{◌≡◌, ℕ, true, false, cond, ◌==◌, List, [], map, Option, Some, None, refl, sym, ap, ◌∙◌}
-use Rattle.std.specs.Option.{IfSome}
-use Rattle.std.proofs.lemmas.Bool.{eqb-true}
-use Rattle.wf_words.specs.Keyed.{is_in}
-use Rattle.wf_pixel.specs.declared.Size.{Size}
-use Rattle.wf_pixel.specs.declared.Format.{Format}
-use Rattle.wf_image.specs.Bitmap.{Bitmap}
-use Rattle.wf_image.specs.Contents.{image_of}
-use Rattle.wf_stream.specs.Buffers.{Buffers, acquired}
-use Rattle.wf_stream.specs.Streams.{KeptStream, buffers_at, change_stream, stream_at, unnamed, has_number}
-use Rattle.wf_calls.specs.declared.call.JobKind.{JobKind}
+use Rattle.wf_machine.proofs.Common.{◌≡◌, ℕ, true, false, cond, ◌==◌, List, [], map, Option, Some, None, refl, sym, ap, ◌∙◌, IfSome}
+use Rattle.wf_machine.proofs.Common.{eqb-true, is_in, Size, Format, image_of, Buffers, acquired, KeptStream, buffers_at, change_stream}
+use Rattle.wf_machine.proofs.Common.{stream_at, unnamed, has_number, JobKind, home_if, is_target, target_names, Images, Port, Running}
+use Rattle.wf_machine.proofs.Common.{FrameFits, IsOfTarget, KindFits}
 use Rattle.wf_calls.specs.declared.call.JobKind.TheVariants as kind
-use Rattle.wf_model.specs.Frames.{home_if, is_target}
-use Rattle.wf_model.specs.Names.{target_names}
-use Rattle.wf_model.specs.Picture.{Images}
-use Rattle.wf_model.specs.State.{Port, Running}
-use Rattle.wf_machine.specs.Fitting.{FrameFits, IsOfTarget, KindFits}
 use Rattle.wf_machine.proofs.Latches.{KeepsShape}
 use Rattle.wf_machine.proofs.Mapped.{KeepsStream, buffers_mapped, changed_at, changed_keeps, home_among, home_keeps, unnamed_keeps}
 use Rattle.wf_machine.proofs.StillComposed.{in_first}
@@ -67,7 +55,7 @@ frame_apart n f ports ss o keeps apart fits =
     (λ k is s at out. elim (s.number == n) as (λ b. (s.number == n) ≡ b
     → (cond b (record s { buffers = f s.buffers }) s).buffers.out ≡ true) [
       | true ↦ λ here. absurd (let same : k ≡ n = sym at ∙ eqb-true s.number n here in
-          let no : true ≡ false = sym is ∙ ap (λ (j : ℕ). is_target j o) same ∙ apart in cc)
+          let no : true ≡ false = sym is ∙ ap (λ j. is_target j o) same ∙ apart in cc)
       | false ↦ λ other. out
     ] refl) fits
 
@@ -76,7 +64,7 @@ pub frame_home : (xs : Images) (ports : List Port) (ss : List KeptStream) (o : O
     → IfSome o (FrameFits ports (map (home_among xs) ss))
 frame_home xs ports ss o fits =
     frame_kept (home_among xs) (home_keeps xs) ports ss o
-    (λ k is s at out. elim (image_of s.number xs) as (λ (i : Option Bitmap). (home_if i s).buffers.out
+    (λ k is s at out. elim (image_of s.number xs) as (λ i. (home_if i s).buffers.out
     ≡ true) [ None ↦ out | Some image ↦ out ]) fits
 
 -- a handle is dead

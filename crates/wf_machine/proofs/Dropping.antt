@@ -1,29 +1,12 @@
 -- Streams without a name are dropped, and what holds of the machine holds still.
-use Rattle.std.proofs.Common.{◌≡◌, ℕ, zero, suc, ◌+◌, ◌<◌, ◌≤◌, Bool, true, false, cond, ◌==◌, ◌||◌, List, [], ◌∷◌, ◌++◌, length, map}
-use Rattle.std.proofs.Common.{filter, Option, Some, None, refl, sym, ap, subst, ◌∙◌, arith}
-use Rattle.std.specs.Prelude.{flat_map, sum_by}
-use Rattle.std.specs.List.{range_with_len}
-use Rattle.std.specs.Option.{option_map, IfSome}
-use Rattle.std.proofs.lemmas.Bool.{eqb-true}
-use Rattle.std.proofs.lemmas.Bool.Decides.{nat_tests}
-use Rattle.std.proofs.lemmas.List.{length-map}
-use Rattle.std.proofs.lemmas.List.Folds.{list_any-append}
-use Rattle.std.proofs.lemmas.List.Sums.{sum_by-cons}
-use Rattle.wf_words.specs.Keyed.{is_in}
-use Rattle.wf_stream.specs.Buffers.{Buffers, buffer_bytes}
-use Rattle.wf_stream.specs.Streams.{KeptStream, StoreView, IsNumbered, buffers_at, held, stream_at}
-use Rattle.wf_calls.specs.declared.call.JobKind.{JobKind}
+use Rattle.wf_machine.proofs.Common.{◌≡◌, ℕ, zero, suc, ◌+◌, ◌<◌, ◌≤◌, Bool, true, false, cond, ◌==◌, ◌||◌, List, [], ◌∷◌, ◌++◌, length}
+use Rattle.wf_machine.proofs.Common.{map, filter, Option, Some, None, refl, sym, ap, subst, ◌∙◌, arith, flat_map, sum_by, range_with_len}
+use Rattle.wf_machine.proofs.Common.{option_map, IfSome, eqb-true, nat_tests, length-map, list_any-append, sum_by-cons, is_in, buffer_bytes}
+use Rattle.wf_machine.proofs.Common.{KeptStream, StoreView, IsNumbered, buffers_at, held, stream_at, JobKind, Content, Port, Running, State}
+use Rattle.wf_machine.proofs.Common.{initial_port, opening, screen, all_names, core_names, display_names, frame_names, kept, own_names}
+use Rattle.wf_machine.proofs.Common.{settle, target_names, Modes, Ports, Inside, AllFit, FrameFits, IsOfTarget, KindFits, contents_of}
+use Rattle.wf_machine.proofs.Common.{IsSound, state_of, IsSettled, port_of, running_of}
 use Rattle.wf_calls.specs.declared.call.JobKind.TheVariants as kind
-use Rattle.wf_model.specs.declared.Content.{Content}
-use Rattle.wf_model.specs.State.{Port, Running, State, initial_port, opening, screen}
-use Rattle.wf_model.specs.Names.{all_names, core_names, display_names, frame_names, kept, own_names, settle, target_names}
-use Rattle.wf_calls.specs.declared.ports.Modes.{Modes}
-use Rattle.wf_calls.specs.declared.ports.Ports.{Ports}
-use Rattle.wf_machine.specs.declared.parts.Parts.TheInside.{Inside}
-use Rattle.wf_machine.specs.Fitting.{AllFit, FrameFits, IsOfTarget, KindFits, contents_of}
-use Rattle.wf_machine.specs.Inside.{IsSound, state_of}
-use Rattle.wf_machine.specs.Object.{IsSettled}
-use Rattle.wf_machine.specs.Ports.{port_of, running_of}
 use Rattle.wf_machine.proofs.Opening.{screens}
 use Rattle.wf_machine.proofs.StillComposed.{in_back, in_first, in_front, still_fits}
 
@@ -37,7 +20,7 @@ pub found_among : (ns : List ℕ) (n : ℕ) (ss : List KeptStream) → is_in n n
 found_among ns n [] within = refl
 found_among ns n (s ∷ ss) within =
     elim (s.number == n) as (λ b. (s.number == n) ≡ b → stream_at n (among ns (s ∷ ss)) ≡ cond b (Some s) (stream_at n ss)) [
-      | true ↦ λ here. (let there : is_in s.number ns ≡ true = ap (λ (k : ℕ). is_in k ns) (eqb-true s.number n here) ∙ within in
+      | true ↦ λ here. (let there : is_in s.number ns ≡ true = ap (λ k. is_in k ns) (eqb-true s.number n here) ∙ within in
           rw (there, here) refl)
       | false ↦
           λ other. (elim (is_in s.number ns) as (λ b. stream_at n (cond b (s ∷ among ns ss) (among ns ss))
@@ -45,7 +28,7 @@ found_among ns n (s ∷ ss) within =
     ] refl
 
 pub seen_among : (ns : List ℕ) (n : ℕ) (ss : List KeptStream) → is_in n ns ≡ true → buffers_at n (among ns ss) ≡ buffers_at n ss
-seen_among ns n ss within = ap (λ (o : Option KeptStream). option_map (λ (s : KeptStream). s.buffers) o) (found_among ns n ss within)
+seen_among ns n ss within = ap (λ o. option_map (λ s. s.buffers) o) (found_among ns n ss within)
 
 numbered_lower : (low under high : ℕ) (ss : List KeptStream) → under ≤ low → IsNumbered low ss high → IsNumbered under ss high
 numbered_lower low under high [] least rising = omega (arith, rising)
@@ -98,11 +81,11 @@ frame_among : (ns : List ℕ) (ports : List Port) (ss : List KeptStream) (o : Op
     → IfSome o (FrameFits ports (among ns ss))
 frame_among ns ports ss None named fits = tt
 frame_among ns ports ss (Some f) named fits = of_kind f.kind
-    (λ n within. named n (in_back n (map (λ (c : Content). c.stream) f.contents) (target_names f.kind) within)) fits
+    (λ n within. named n (in_back n (map (λ c. c.stream) f.contents) (target_names f.kind) within)) fits
   where
     of_kind : (k : JobKind) → ((n : ℕ) → is_in n (target_names k) ≡ true → is_in n ns ≡ true) → KindFits ports ss f.size f.format k
         → KindFits ports (among ns ss) f.size f.format k
-    of_kind (kind.Context handle target) named fits = subst (λ (o : Option Buffers). IsOfTarget o f.size f.format)
+    of_kind (kind.Context handle target) named fits = subst (λ o. IsOfTarget o f.size f.format)
         (sym (seen_among ns target ss (named target (in_first target [])))) fits
     of_kind (kind.Port port) named fits = fits
 
@@ -157,11 +140,11 @@ own_left ns n [] within own = own
 own_left ns n (s ∷ ss) within own =
     elim (is_in n (own_names s)) as (λ b. is_in n (own_names s) ≡ b → is_in n (flat_map own_names (among ns (s ∷ ss))) ≡ true) [
       | true ↦ λ here. (
-          let there : is_in s.number ns ≡ true = ap (λ (k : ℕ). is_in k ns) (only_itself s n here) ∙ within in
+          let there : is_in s.number ns ≡ true = ap (λ k. is_in k ns) (only_itself s n here) ∙ within in
           rw there (in_front n (own_names s) (flat_map own_names (among ns ss)) here))
       | false ↦ λ other. (
-          let behind : is_in n (flat_map own_names ss) ≡ true = ap (λ (b : Bool). b || is_in n (flat_map own_names ss)) (sym other)
-          ∙ sym (list_any-append (λ (x : ℕ). x == n) (own_names s) (flat_map own_names ss)) ∙ own in
+          let behind : is_in n (flat_map own_names ss) ≡ true = ap (λ b. b || is_in n (flat_map own_names ss)) (sym other)
+          ∙ sym (list_any-append (λ x. x == n) (own_names s) (flat_map own_names ss)) ∙ own in
           let later = own_left ns n ss within behind in
           elim (is_in s.number ns) as (λ b. is_in n (flat_map own_names (cond b (s ∷ among ns ss) (among ns ss)))
           ≡ true) [ true ↦ in_back n (own_names s) (flat_map own_names (among ns ss)) later | false ↦ later ])
@@ -176,9 +159,9 @@ still_named h n within =
     let display = display_names h.display in
     let frame = frame_names h.frame in
     let split : (a b c d : List ℕ) → is_in n (((a ++ b) ++ c) ++ d) ≡ (((is_in n a || is_in n b) || is_in n c) || is_in n d) = λ a b c d.
-    list_any-append (λ (x : ℕ). x == n) ((a ++ b) ++ c) d
-    ∙ ap (λ (x : Bool). x || is_in n d) (list_any-append (λ (x : ℕ). x == n) (a ++ b) c
-    ∙ ap (λ (x : Bool). x || is_in n c) (list_any-append (λ (x : ℕ). x == n) a b)) in
+    list_any-append (λ x. x == n) ((a ++ b) ++ c) d
+    ∙ ap (λ x. x || is_in n d) (list_any-append (λ x. x == n) (a ++ b) c
+    ∙ ap (λ x. x || is_in n c) (list_any-append (λ x. x == n) a b)) in
     let was : (((is_in n own || is_in n core) || is_in n display) || is_in n frame) ≡ true = sym (split own core display frame) ∙ within in
     split left core display frame
     ∙ elim (is_in n own) as (λ b. is_in n own ≡ b → (((b || is_in n core) || is_in n display) || is_in n frame) ≡ true
@@ -197,7 +180,7 @@ all_left ns ms [] named = refl
 all_left ns ms (s ∷ ss) named =
     elim (is_in s.number ns) as (λ b. is_in s.number ns ≡ b
     → among ms (cond b (s ∷ among ns ss) (among ns ss)) ≡ cond b (s ∷ among ns ss) (among ns ss)) [
-      | true ↦ λ here. (let there = named s.number here in rw there (ap (λ (ts : List KeptStream). s ∷ ts) (all_left ns ms ss named)))
+      | true ↦ λ here. (let there = named s.number here in rw there (ap (λ ts. s ∷ ts) (all_left ns ms ss named)))
       | false ↦ λ other. all_left ns ms ss named
     ] refl
 
@@ -219,7 +202,7 @@ screens_left : (ns : List ℕ) (k : ℕ) (ms : List Modes) → ((n : ℕ) → k 
 screens_left ns k [] named = refl
 screens_left ns k (m ∷ ms) named =
     let here : is_in k ns ≡ true = named k (omega arith) (omega arith) in
-    rw here (ap (λ (ss : List KeptStream). screen (k, m) ∷ ss)
+    rw here (ap (λ ss. screen (k, m) ∷ ss)
     (screens_left ns (k + 1) ms (λ n from to. named n (omega arith) (omega arith))))
 
 pub opening_settled : (ports : Ports) → IsSettled (opening ports)
@@ -228,7 +211,7 @@ opening_settled ports =
     let h = opening ports in
     sym (screens_left (all_names h) 1 ms (λ n from to. (
     let many : length (map initial_port ms) ≡ length ms = length-map ms initial_port in
-    let named : is_in n (display_names h.display) ≡ true = ap (λ (k : ℕ). is_in n (range_with_len 1 k)) many
+    let named : is_in n (display_names h.display) ≡ true = ap (λ k. is_in n (range_with_len 1 k)) many
     ∙ in_range n 1 (length ms) from to in
     in_front n ((flat_map own_names h.streams ++ core_names h.core) ++ display_names h.display) (frame_names h.frame)
     (in_back n (flat_map own_names h.streams ++ core_names h.core) (display_names h.display) named))))

@@ -1,42 +1,21 @@
 -- The machine once its frame has ended.
-use Rattle.std.proofs.Common.{◌≡◌, ℕ, ◌+◌, ◌-◌, ◌<◌, ◌≤◌, true, cond, ◌==◌, List, [], ◌∷◌, length, map, Option, Some, None, refl, sym, ap}
-use Rattle.std.proofs.Common.{subst, ◌∙◌, arith, zero, suc}
-use Rattle.std.specs.Prelude.{slice_get}
-use Rattle.std.specs.List.{list_all}
-use Rattle.std.specs.Option.{option_map, IfSome, IsSomeAnd}
-use Rattle.std.proofs.lemmas.Bool.{and_parts, eqb-true}
-use Rattle.std.proofs.lemmas.List.{length-map}
-use Rattle.wf_words.specs.Keyed.{nth}
-use Rattle.wf_pixel.specs.declared.Format.TheVariants.{Rgba8Pre}
-use Rattle.wf_pixel.specs.Choice.{same_format, same_size}
-use Rattle.wf_image.specs.Bitmap.{Bitmap}
-use Rattle.wf_image.specs.Contents.{image_of}
-use Rattle.wf_stream.specs.Buffers.{Buffers, HasShape, away, posted, returned}
-use Rattle.wf_stream.specs.Streams.{KeptStream, StoreView, IsNumbered, buffers_at, held, stream_at}
-use Rattle.wf_calls.specs.declared.code.Code.TheVariants as code
-use Rattle.wf_calls.specs.declared.call.Job.{Job}
-use Rattle.wf_calls.specs.declared.call.JobKind.{JobKind}
+use Rattle.wf_machine.proofs.Common.{◌≡◌, ℕ, ◌+◌, ◌-◌, ◌<◌, ◌≤◌, true, cond, ◌==◌, List, [], ◌∷◌, length, map, Option, Some, None, refl}
+use Rattle.wf_machine.proofs.Common.{sym, ap, subst, ◌∙◌, arith, zero, suc, slice_get, list_all, option_map, IfSome, IsSomeAnd, and_parts}
+use Rattle.wf_machine.proofs.Common.{eqb-true, length-map, nth, Rgba8Pre, same_format, same_size, Bitmap, image_of, Buffers, HasShape, away}
+use Rattle.wf_machine.proofs.Common.{posted, returned, KeptStream, StoreView, IsNumbered, buffers_at, held, stream_at, Job, JobKind, Reply}
+use Rattle.wf_machine.proofs.Common.{Content, Port, Running, State, mode_size, brought_home, delivered, end, has_shape, home_if}
+use Rattle.wf_machine.proofs.Common.{is_of_frame, CoreState, bare, done, Images, Frame, Inside, AllFit, AreOnce, FrameFits, IsDue}
+use Rattle.wf_machine.proofs.Common.{IsOfTarget, IsRead, IsScreen, KindFits, PortsFit, StreamFits, away_of, content_at, contents_of}
+use Rattle.wf_machine.proofs.Common.{is_of_running, IsSound, state_of, AreAwaited, Awaits, HoldsBut, IsFrameImage, port_of, running_of}
+use Rattle.wf_machine.proofs.Common.{by_number}
 use Rattle.wf_calls.specs.declared.call.JobKind.TheVariants as kind
-use Rattle.wf_calls.specs.declared.reply.Reply.{Reply}
-use Rattle.wf_model.specs.declared.Content.{Content}
-use Rattle.wf_model.specs.State.{Port, Running, State, mode_size}
-use Rattle.wf_model.specs.Frames.{brought_home, delivered, end, end_frame, has_shape, home_if, is_of_frame, same_kind}
-use Rattle.wf_model.specs.Objects.{CoreState}
-use Rattle.wf_calls.specs.Replies.{bare, done, refusal, refused}
-use Rattle.wf_model.specs.Picture.{Images}
-use Rattle.wf_machine.specs.declared.frame.Frame.{Frame}
-use Rattle.wf_machine.specs.declared.parts.Parts.TheInside.{Inside}
+use Rattle.wf_model.specs.Frames.{end_frame, same_kind}
 use Rattle.wf_machine.specs.declared.port.Port as declared
-use Rattle.wf_machine.specs.Fitting.{AllFit, AreOnce, FrameFits, IsDue, IsOfPort, IsOfTarget, IsRead, IsScreen, KindFits, PortsFit}
-use Rattle.wf_machine.specs.Fitting.{StreamFits, away_of, content_at, contents_of, is_of_running}
-use Rattle.wf_machine.specs.Inside.{IsSound, state_of}
-use Rattle.wf_machine.specs.Latching.{AreAwaited, Awaits}
-use Rattle.wf_machine.specs.Ports.{HoldsBut, IsFrameImage, port_of, running_of}
+use Rattle.wf_machine.specs.Fitting.{IsOfPort}
 use Rattle.wf_machine.proofs.Buffering.{format_is, size_is}
 use Rattle.wf_machine.proofs.Beginning.{seen_twice}
 use Rattle.wf_machine.proofs.Drawing.{frame_home}
 use Rattle.wf_machine.proofs.Latches.{KeepsShape}
-use Rattle.wf_words.specs.Once.{by_number}
 use Rattle.wf_machine.proofs.Mapped.{SeenSame, bytes_mapped, changed_at, changed_keeps, home_among, home_keeps, numbered_mapped}
 use Rattle.wf_machine.proofs.Mapped.{seen_mapped}
 use Rattle.wf_machine.proofs.Shapes.{AreOf, Apart, IsOfShape, all_of, none_there}
@@ -65,9 +44,9 @@ awaits_one : (cs : List Content) (ports : List Port) (streams : List KeptStream)
     → IsSomeAnd (content_at p.0 cs) (λ c. IsOfShape c p.1) → Awaits streams p
 awaits_one cs ports [] p fit of = tt
 awaits_one cs ports (s ∷ streams) p fit of =
-    by_number (IfSome (option_map (λ (t : KeptStream). t.buffers) (cond (s.number == p.0) (Some s) (stream_at p.0 streams)))
+    by_number (IfSome (option_map (λ t. t.buffers) (cond (s.number == p.0) (Some s) (stream_at p.0 streams)))
     (λ b. (b.read ≡ away) × HasShape b.size b.format p.1)) s.number p.0
-    (λ here same. rw here (of_content (content_at p.0 cs) (subst (λ (k : ℕ). IsRead s.buffers (content_at k cs)) same fit.0.read) of))
+    (λ here same. rw here (of_content (content_at p.0 cs) (subst (λ k. IsRead s.buffers (content_at k cs)) same fit.0.read) of))
     (λ apart. rw apart (awaits_one cs ports streams p fit.1 of))
   where
     of_content : (o : Option Content) → IsRead s.buffers o → IsSomeAnd o (λ c. IsOfShape c p.1) → (s.buffers.read ≡ away)
@@ -104,7 +83,7 @@ all_back cs ports (s ∷ streams) xs there fit = (of_image (image_of s.number xs
         rw is (record {
           sides = fit.0.sides;
           screen = fit.0.screen;
-          read = subst (λ (o : Option Content). IsRead s.buffers o) none fit.0.read;
+          read = subst (λ o. IsRead s.buffers o) none fit.0.read;
         })
     of_image (Some image) is =
         rw is (record {
@@ -158,15 +137,15 @@ running_frame m job is = of_frame m.frame refl is
 
 pub was_running : (m : Inside) (job : Job) (s : State) → state_of m ≡ s → is_of_running job s.frame ≡ true
     → is_of_running job (option_map running_of m.frame) ≡ true
-was_running m job s seen is = ap (λ (t : State). is_of_running job t.frame) seen ∙ is
+was_running m job s seen is = ap (λ t. is_of_running job t.frame) seen ∙ is
 
 -- the kinds of a Job and of its frame are one
 same_kind_is : (j k : JobKind) → same_kind j k ≡ true → k ≡ j
 same_kind_is (kind.Context handle target) (kind.Context other into) is =
     let both = and_parts (handle == other) (target == into) is in
-    ap (λ (n : ℕ). kind.Context n into) (sym (eqb-true handle other both.0))
-    ∙ ap (λ (n : ℕ). kind.Context handle n) (sym (eqb-true target into both.1))
-same_kind_is (kind.Port p) (kind.Port q) is = ap (λ (n : ℕ). kind.Port n) (sym (eqb-true p q is))
+    ap (λ n. kind.Context n into) (sym (eqb-true handle other both.0))
+    ∙ ap (λ n. kind.Context handle n) (sym (eqb-true target into both.1))
+same_kind_is (kind.Port p) (kind.Port q) is = ap (λ n. kind.Port n) (sym (eqb-true p q is))
 same_kind_is (kind.Context handle target) (kind.Port q) is = absurd cc
 same_kind_is (kind.Port p) (kind.Context other into) is = absurd cc
 
@@ -179,7 +158,7 @@ none_away f handle target is k (p ∷ ps) fit =
       record {
         some = fit.0.some;
         sides = fit.0.sides;
-        images = subst (λ (n : ℕ). HoldsBut n p.modes.items p.images.items) none fit.0.images;
+        images = subst (λ n. HoldsBut n p.modes.items p.images.items) none fit.0.images;
       },
       none_away f handle target is (k + 1) ps fit.1,
     )
@@ -198,10 +177,10 @@ module _ (m : Inside) (job : Job) (is : is_of_running job (option_map running_of
   ports = map port_of m.ports.items
 
   contents_are : contents_of (option_map running_of m.frame) ≡ f.contents.items
-  contents_are = ap (λ (o : Option Frame). contents_of (option_map running_of o)) runs
+  contents_are = ap (λ o. contents_of (option_map running_of o)) runs
 
   fit : AllFit ports f.contents.items m.store.streams
-  fit = subst (λ (cs : List Content). AllFit ports cs m.store.streams) contents_are sound.streams
+  fit = subst (λ cs. AllFit ports cs m.store.streams) contents_are sound.streams
 
   of-frame : AreOf f.contents.items job.contents × Apart job.contents
   of-frame = all_of f.contents.items job.contents (subst AreOnce contents_are sound.once) parts.many parts.there
@@ -219,12 +198,12 @@ module _ (m : Inside) (job : Job) (is : is_of_running job (option_map running_of
   fits_home : KindFits ports home f.size f.format job.kind
   fits_home =
       let runs_so : IfSome (Some (running_of f)) (FrameFits ports m.store.streams) =
-      subst (λ (o : Option Frame). IfSome (option_map running_of o) (FrameFits ports m.store.streams)) runs sound.frame in
-      subst (λ (k : JobKind). KindFits ports home f.size f.format k) kind_is
+      subst (λ o. IfSome (option_map running_of o) (FrameFits ports m.store.streams)) runs sound.frame in
+      subst (λ k. KindFits ports home f.size f.format k) kind_is
       (frame_home job.contents ports m.store.streams (Some (running_of f)) runs_so)
 
   ports_fit : PortsFit (Some (running_of f)) 1 m.ports.items
-  ports_fit = subst (λ (o : Option Frame). PortsFit (option_map running_of o) 1 m.ports.items) runs sound.ports
+  ports_fit = subst (λ o. PortsFit (option_map running_of o) 1 m.ports.items) runs sound.ports
 
   image_size : job.image.size ≡ f.size
   image_size = size_is job.image.size f.size parts.size
@@ -249,7 +228,7 @@ module _ (m : Inside) (job : Job) (is : is_of_running job (option_map running_of
   at_place zero ps P some = absurd some
   at_place (suc n) ps P some =
       let same : n ≡ suc n - 1 = omega arith in
-      (omega arith, omega (arith, of_place n ps some), subst (λ (i : ℕ). IfSome (slice_get ps i) P) same (of_slice (slice_get ps n) some))
+      (omega arith, omega (arith, of_place n ps some), subst (λ i. IfSome (slice_get ps i) P) same (of_slice (slice_get ps n) some))
     where
       of_place : (i : ℕ) (qs : List Port) → IsSomeAnd (slice_get qs i) P → i < length qs
       of_place i [] some = absurd some
@@ -268,7 +247,7 @@ module _ (m : Inside) (job : Job) (is : is_of_running job (option_map running_of
       let back : port ≡ port - 1 + 1 = omega (arith, found.0) in (
         found.0,
         omega (arith, found.1, length-map m.ports.items port_of),
-        (running_of f, is ∙ ap (λ (n : ℕ). kind.Port n) back, ports_fit),
+        (running_of f, is ∙ ap (λ n. kind.Port n) back, ports_fit),
         of_place (slice_get ports (port - 1)) found.2,
       )
     where
@@ -301,22 +280,22 @@ module _ (m : Inside) (job : Job) (is : is_of_running job (option_map running_of
       now_store = store-is ∙ ended.store
 
       now_streams : now.store.streams ≡ after
-      now_streams = ap (λ (v : StoreView). v.streams) now_store
+      now_streams = ap (λ v. v.streams) now_store
 
       now_numbered : now.store.numbered ≡ m.store.numbered
-      now_numbered = ap (λ (v : StoreView). v.numbered) now_store
+      now_numbered = ap (λ v. v.numbered) now_store
 
       now_others : now.store.others ≡ m.store.others
-      now_others = ap (λ (v : StoreView). v.others) now_store
+      now_others = ap (λ v. v.others) now_store
 
       now_ports : map port_of now.ports.items ≡ ports
-      now_ports = ap (λ (ps : List declared.Port). map port_of ps) ports-are ∙ ended.modes
+      now_ports = ap (λ ps. map port_of ps) ports-are ∙ ended.modes
 
       as_many : length now.ports.items ≡ length m.ports.items
       as_many = omega (arith, length-map now.ports.items port_of, length-map m.ports.items port_of, ap length now_ports)
 
       no_contents : contents_of (option_map running_of now.frame) ≡ []
-      no_contents = ap (λ (o : Option Frame). contents_of (option_map running_of o)) free
+      no_contents = ap (λ o. contents_of (option_map running_of o)) free
 
       home_numbered : IsNumbered 0 home m.store.numbered
       home_numbered = numbered_mapped (home_among job.contents) (home_keeps job.contents) 0 m.store.numbered m.store.streams sound.numbered
@@ -324,7 +303,7 @@ module _ (m : Inside) (job : Job) (is : is_of_running job (option_map running_of
       pub sound_ended : IsSound now
       sound_ended =
           record {
-            fits = rw core-is (still_fits m.core m.store now.store now_others (omega (arith, ap (λ (v : StoreView). v.made) now_store))
+            fits = rw core-is (still_fits m.core m.store now.store now_others (omega (arith, ap (λ v. v.made) now_store))
                 (λ n within. rw now_streams (ended_seen job.kind job.image job.contents n m.store.streams)) sound.fits);
             others = rw now_others sound.others;
             numbered = rw (now_streams, now_numbered) (delivered_numbered job.kind job.image m.store.numbered home home_numbered);
@@ -358,15 +337,15 @@ module _ (m : Inside) (job : Job) (is : is_of_running job (option_map running_of
             frame = option_map running_of o;
           } in
           let store : StoreView = record m.store { streams = after } in
-          ap (λ (n : ℕ). state n now.store now.core (map port_of now.ports.items) now.frame) begun-is
-          ∙ ap (λ (v : StoreView). state m.begun v now.core (map port_of now.ports.items) now.frame) now_store
-          ∙ ap (λ (core : CoreState). state m.begun store core (map port_of now.ports.items) now.frame) core-is
-          ∙ ap (λ (ps : List Port). state m.begun store m.core ps now.frame) now_ports
-          ∙ ap (λ (o : Option Frame). state m.begun store m.core ports o) free
+          ap (λ n. state n now.store now.core (map port_of now.ports.items) now.frame) begun-is
+          ∙ ap (λ v. state m.begun v now.core (map port_of now.ports.items) now.frame) now_store
+          ∙ ap (λ core. state m.begun store core (map port_of now.ports.items) now.frame) core-is
+          ∙ ap (λ ps. state m.begun store m.core ps now.frame) now_ports
+          ∙ ap (λ o. state m.begun store m.core ports o) free
 
       pub left_ended : (s : State) → state_of m ≡ s → end job s ≡ (state_of now, reply)
       left_ended s seen =
-          let running : (state_of m).frame ≡ Some (running_of f) = ap (λ (o : Option Frame). option_map running_of o) runs in
+          let running : (state_of m).frame ≡ Some (running_of f) = ap (λ o. option_map running_of o) runs in
           let ends : end job (state_of m) ≡ (end_frame job (state_of m), bare (done 0)) = rw (running, (running_frame m job is).2) refl in
-          subst (λ (t : State). end job t ≡ (state_of now, reply)) seen
-          (ends ∙ ap (λ (t : State). (t, bare (done 0))) (sym state_is) ∙ ap (λ (r : Reply). (state_of now, r)) (sym ended.reply_is))
+          subst (λ t. end job t ≡ (state_of now, reply)) seen
+          (ends ∙ ap (λ t. (t, bare (done 0))) (sym state_is) ∙ ap (λ r. (state_of now, r)) (sym ended.reply_is))

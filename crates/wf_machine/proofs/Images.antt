@@ -1,12 +1,7 @@
 -- The images that ports keep for their frames.
-use Rattle.std.proofs.Common.{◌≡◌, ℕ, ◌-◌, List, [], ◌∷◌, ◌++◌, Option, Some, ap, sym, subst, ◌∙◌, ◌<◌, ◌+◌, length, take, get_or, None}
-use Rattle.std.proofs.Common.{refl, arith, slice_set}
-use Rattle.std.proofs.lemmas.List.{take_more}
-use Rattle.wf_pixel.specs.declared.Size.{Size}
-use Rattle.wf_pixel.specs.declared.Format.TheVariants.{Rgba8Pre}
-use Rattle.wf_image.specs.Bitmap.{Bitmap, blank}
-use Rattle.wf_model.specs.State.{mode_size}
-use Rattle.wf_machine.specs.Ports.{HoldsBut, IsFrameImage}
+use Rattle.wf_machine.proofs.Common.{◌≡◌, ℕ, ◌-◌, List, [], ◌∷◌, ◌++◌, Option, Some, ap, sym, subst, ◌∙◌, ◌<◌, ◌+◌, length, take, get_or}
+use Rattle.wf_machine.proofs.Common.{None, refl, arith, slice_set, take_more, Size, Rgba8Pre, Bitmap, blank, mode_size, HoldsBut}
+use Rattle.wf_machine.proofs.Common.{IsFrameImage}
 
 pub holds_more : (sizes : List Size) (places : List (Option Bitmap)) (size : Size) (place : Option Bitmap) → HoldsBut 0 sizes places
     → IsFrameImage size place → HoldsBut 0 (sizes ++ size ∷ []) (places ++ place ∷ [])
@@ -17,7 +12,7 @@ holds_more (s ∷ sizes) (p ∷ places) size place all one = (all.0, holds_more 
 
 -- a new image is one for a frame
 pub is_frame_image : (size : Size) (image : Bitmap) → image ≡ blank size Rgba8Pre → IsFrameImage size (Some image)
-is_frame_image size image is = (ap (λ (i : Bitmap). i.size) is, ap (λ (i : Bitmap). i.format) is)
+is_frame_image size image is = (ap (λ i. i.size) is, ap (λ i. i.format) is)
 
 -- one element more of a list that is copied
 pub taken_more : {A : Type 0} (xs items new : List A) (i : ℕ) (d : A) → i < length xs → items ≡ take i xs
@@ -41,7 +36,7 @@ first_there (s ∷ sizes) (p ∷ places) d holds some = holds.0
 
 pub first_is : (sizes : List Size) (places : List (Option Bitmap)) (place : Option Bitmap) → HoldsBut 0 sizes places → 0 < length sizes
     → place ≡ get_or places 0 place → IsFrameImage (mode_size 1 sizes) place
-first_is sizes places place holds some is = subst (λ (o : Option Bitmap). IsFrameImage (mode_size 1 sizes) o) (sym is)
+first_is sizes places place holds some is = subst (λ o. IsFrameImage (mode_size 1 sizes) o) (sym is)
     (first_there sizes places place holds some)
 
 pub first_taken : (sizes : List Size) (places : List (Option Bitmap)) → HoldsBut 0 sizes places → 0 < length sizes

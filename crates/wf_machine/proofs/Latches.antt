@@ -1,26 +1,15 @@
 -- Streams that are latched one after another.
-use Rattle.std.proofs.Common.{◌≡◌, ◌≢◌, ℕ, ◌+◌, ◌<◌, ◌≤◌, Bool, true, false, not, cond, ◌==◌, ◌||◌, List, [], ◌∷◌, ◌++◌, length, map}
-use Rattle.std.proofs.Common.{Option, Some, None, refl, sym, ap, subst, ◌∙◌, arith, length-append, append-nil, append_assoc, get_or, take}
-use Rattle.std.specs.Prelude.{filter, filter_map, flat_map, find, is_some, option_to_list}
-use Rattle.std.specs.Option.{option_map, IfSome, IsSomeAnd}
-use Rattle.std.proofs.lemmas.Bool.{eqb-true, eq-eqb}
-use Rattle.std.proofs.lemmas.Bool.Decides.{nat_tests}
+use Rattle.wf_machine.proofs.Common.{◌≡◌, ◌≢◌, ℕ, ◌+◌, ◌<◌, ◌≤◌, Bool, true, false, not, cond, ◌==◌, ◌||◌, List, [], ◌∷◌, ◌++◌, length, map}
+use Rattle.wf_machine.proofs.Common.{Option, Some, None, refl, sym, ap, subst, ◌∙◌, arith, length-append, append-nil, append_assoc, get_or}
+use Rattle.wf_machine.proofs.Common.{take, flat_map, find, is_some, option_map, IfSome, IsSomeAnd, eq-eqb, nat_tests, list_any-append}
+use Rattle.wf_machine.proofs.Common.{is_in, once, Bitmap, image_of, Buffers, HasShape, away, away_if, latched, newest, KeptStream}
+use Rattle.wf_machine.proofs.Common.{StoreView, IsNumbered, change_stream, stream_at, latch, latched_among, newest_images, newest_of}
+use Rattle.wf_machine.proofs.Common.{layer_names, Images, Layer, take_more, AreAtHome, AreShapedAs, IsShapedAs, by_number, is_in-without}
+use Rattle.std.specs.Prelude.{filter, filter_map, option_to_list}
 use Rattle.std.proofs.lemmas.List.Elements.{filter_map-append, filter-append}
-use Rattle.std.proofs.lemmas.List.Folds.{list_any-append}
-use Rattle.wf_words.specs.Keyed.{is_in, once}
-use Rattle.wf_image.specs.Bitmap.{Bitmap}
-use Rattle.wf_image.specs.Contents.{image_of}
-use Rattle.wf_stream.specs.Buffers.{Buffers, HasShape, away, away_if, latched, newest}
-use Rattle.wf_stream.specs.Streams.{KeptStream, StoreView, IsNumbered, change_stream, stream_at}
-use Rattle.wf_model.specs.Frames.{latch, latched_among, newest_images, newest_of}
-use Rattle.wf_model.specs.Names.{layer_names}
-use Rattle.wf_model.specs.Picture.{Images}
-use Rattle.wf_scene.specs.declared.Layer.{Layer}
 use Rattle.std.proofs.lemmas.Grind.{flat_map-append}
-use Rattle.std.proofs.lemmas.List.{take_more}
-use Rattle.wf_machine.specs.Latching.{AreAtHome, AreShapedAs, IsAtHome, IsShapedAs, with_newest, without_newest}
+use Rattle.wf_machine.specs.Latching.{IsAtHome, with_newest, without_newest}
 use Rattle.wf_machine.proofs.Changes.{change_below}
-use Rattle.wf_words.specs.Once.{by_number, is_in-without}
 
 pub shaped_more : (n : ℕ) (image : Bitmap) (streams : List KeptStream) (contents : Images) → AreShapedAs streams contents
     → IsShapedAs n streams image → AreShapedAs streams (contents ++ (n, image) ∷ [])
@@ -56,7 +45,7 @@ shaped_one f n m image (s ∷ streams) keeps shaped =
     let changed : KeptStream = record s { buffers = f s.buffers } in
     let shape : Buffers → Type 0 = λ c. HasShape c.size c.format image in
     let at : Bool → KeptStream → List KeptStream → Option Buffers =
-    λ b t ts. option_map (λ (u : KeptStream). u.buffers) (cond b (Some t) (stream_at m ts)) in
+    λ b t ts. option_map (λ u. u.buffers) (cond b (Some t) (stream_at m ts)) in
     elim (s.number == n) as (λ b. IsSomeAnd (at ((cond b changed s).number == m) (cond b changed s) (change_stream n f streams)) shape) [
       | true ↦ elim (s.number == m) as (λ b. IsSomeAnd (at b s streams) shape
           → IsSomeAnd (at b changed (change_stream n f streams)) shape) [
@@ -87,19 +76,19 @@ pub once_more : (ns : List ℕ) (n : ℕ) → once (ns ++ n ∷ []) ≡ named (o
 once_more [] n = refl
 once_more (x ∷ ns) n =
     let keeps : ℕ → Bool = λ y. not (y == x) in
-    ap (λ (rest : List ℕ). x ∷ filter keeps rest) (once_more ns n)
+    ap (λ rest. x ∷ filter keeps rest) (once_more ns n)
     ∙ by_number (x ∷ filter keeps (named (once ns) n) ≡ named (x ∷ filter keeps (once ns)) n) x n
     (λ here same. rw here (elim (is_in n (once ns)) as (λ b. x ∷ filter keeps (cond b (once ns) (once ns ++ n ∷ [])) ≡ x
     ∷ filter keeps (once ns)) [
       | true ↦ refl
-      | false ↦ ap (λ (rest : List ℕ). x ∷ rest) (filter-append keeps (once ns) (n ∷ [])
+      | false ↦ ap (λ rest. x ∷ rest) (filter-append keeps (once ns) (n ∷ [])
           ∙ (let gone : (n == x) ≡ true = eq-eqb n x (sym same) in rw gone (append-nil (filter keeps (once ns)))))
     ]))
     (λ apart. rw (apart, is_in-without n x (once ns) apart)
     (elim (is_in n (once ns)) as (λ b. x ∷ filter keeps (cond b (once ns) (once ns ++ n ∷ []))
     ≡ cond b (x ∷ filter keeps (once ns)) (x ∷ filter keeps (once ns) ++ n ∷ [])) [
       | true ↦ refl
-      | false ↦ ap (λ (rest : List ℕ). x ∷ rest) (filter-append keeps (once ns) (n ∷ [])
+      | false ↦ ap (λ rest. x ∷ rest) (filter-append keeps (once ns) (n ∷ [])
           ∙ (let stays : (n == x) ≡ false = grind (arith, nat_tests, apart) in rw stays refl))
     ]))
 
@@ -124,8 +113,8 @@ image_newest (m ∷ ns) n streams = of_newest (image_newest ns n streams) (newes
         (λ here same. (let none : newest_at n ≡ None = rw (sym same) is in rw (here, none) (same_twice (is_in n ns) None)))
         (λ apart. rw apart refl))
     of_newest later (Some image) is =
-        rw is (by_number (option_map (λ (p : ℕ × Bitmap). p.1)
-        (cond (m == n) (Some (m, image)) (find (λ (p : ℕ × Bitmap). p.0 == n) (newest_images ns streams)))
+        rw is (by_number (option_map (λ p. p.1)
+        (cond (m == n) (Some (m, image)) (find (λ p. p.0 == n) (newest_images ns streams)))
         ≡ cond ((m == n) || is_in n ns) (newest_at n) None) m n
         (λ here same. rw here (sym (ap newest_at (sym same) ∙ is)))
         (λ apart. rw apart later))
@@ -150,7 +139,7 @@ same_stream ns n (s ∷ streams) none =
     rw (number_latched ns s)
     (by_number (cond (s.number == n) (Some (latched_among ns s)) (stream_at n (latch ns streams))
     ≡ cond (s.number == n) (Some s) (stream_at n streams)) s.number n
-    (λ here same. rw here (ap (λ (t : KeptStream). Some t)
+    (λ here same. rw here (ap (λ t. Some t)
     (latched_same ns s
     (λ within. (let found : newest_of (cond (s.number == n) (Some s) (stream_at n streams)) ≡ None = none (rw same at within) in
     rw here at found)))))
@@ -159,7 +148,7 @@ same_stream ns n (s ∷ streams) none =
 pub home_at : (n : ℕ) (streams : List KeptStream) → AreAtHome streams → IsAtHome n streams
 home_at n [] home = tt
 home_at n (s ∷ streams) home = elim (s.number == n)
-    as (λ b. IfSome (option_map (λ (t : KeptStream). t.buffers) (cond b (Some s) (stream_at n streams))) (λ c. c.read ≢ away)) [
+    as (λ b. IfSome (option_map (λ t. t.buffers) (cond b (Some s) (stream_at n streams))) (λ c. c.read ≢ away)) [
       | true ↦ home.0
       | false ↦ home_at n streams home.1
     ]
@@ -169,7 +158,7 @@ pub still_home : (ns : List ℕ) (n : ℕ) (streams : List KeptStream) → AreAt
     → IsAtHome n (latch ns streams)
 still_home ns n streams home none =
     let same = same_stream ns n streams (λ within. (let is = sym (image_newest ns n streams) ∙ none in rw within at is)) in
-    subst (λ (o : Option KeptStream). IfSome (option_map (λ (t : KeptStream). t.buffers) o) (λ c. c.read ≢ away)) (sym same)
+    subst (λ o. IfSome (option_map (λ t. t.buffers) o) (λ c. c.read ≢ away)) (sym same)
     (home_at n streams home)
 
 pub numbered_latch : (ns : List ℕ) (low high : ℕ) (streams : List KeptStream) → IsNumbered low streams high
@@ -177,7 +166,7 @@ pub numbered_latch : (ns : List ℕ) (low high : ℕ) (streams : List KeptStream
 numbered_latch ns low high [] rising = rising
 numbered_latch ns low high (s ∷ streams) rising =
     let later = numbered_latch ns s.number high streams rising.1 in
-    subst (λ (k : ℕ). (low < k) × IsNumbered k (latch ns streams) high) (sym (number_latched ns s)) (rising.0, later)
+    subst (λ k. (low < k) × IsNumbered k (latch ns streams) high) (sym (number_latched ns s)) (rising.0, later)
 
 -- a stream that is latched if it has the number
 abbrev latched_at : ℕ → KeptStream → KeptStream
@@ -207,7 +196,7 @@ change_again ns n low high (s ∷ streams) rising none =
     (omega (arith, same)) in
     both_same _ _ _ _ (ap (latched_at n) as_was ∙ latched_without n s found ∙ sym as_was) below))
     (λ apart. (
-    let other : ((latched_among ns s).number == n) ≡ false = ap (λ (k : ℕ). k == n) (number_latched ns s) ∙ apart in
+    let other : ((latched_among ns s).number == n) ≡ false = ap (λ k. k == n) (number_latched ns s) ∙ apart in
     both_same _ _ _ _ (latched_other n (latched_among ns s) other) (change_again ns n s.number high streams rising.1 (rw apart at none))))
 
 -- one more stream that is latched
@@ -216,22 +205,22 @@ change_more : (ns : List ℕ) (n : ℕ) (streams : List KeptStream) → is_in n 
 change_more ns n [] new = refl
 change_more ns n (s ∷ streams) new =
     let among : is_in s.number (ns ++ n ∷ []) ≡ (is_in s.number ns || ((n == s.number) || false)) =
-    list_any-append (λ (x : ℕ). x == s.number) ns (n ∷ []) in
+    list_any-append (λ x. x == s.number) ns (n ∷ []) in
     let late : KeptStream = record s { buffers = latched s.buffers } in
     by_number (latched_at n (latched_among ns s) ∷ change_stream n latched (latch ns streams) ≡ latched_among (ns ++ n ∷ []) s
     ∷ latch (ns ++ n ∷ []) streams) s.number n
     (λ here same. (
     let absent : is_in s.number ns ≡ false = rw same new in
     let back : (n == s.number) ≡ true = eq-eqb n s.number (sym same) in
-    let as_was : latched_among ns s ≡ s = ap (λ (b : Bool). cond b late s) absent in
+    let as_was : latched_among ns s ≡ s = ap (λ b. cond b late s) absent in
     let within : is_in s.number (ns ++ n ∷ []) ≡ true = among ∙ rw (absent, back) refl in
-    let now : latched_among (ns ++ n ∷ []) s ≡ late = ap (λ (b : Bool). cond b late s) within in
-    both_same _ _ _ _ (ap (latched_at n) as_was ∙ ap (λ (b : Bool). cond b late s) here ∙ sym now) (change_more ns n streams new)))
+    let now : latched_among (ns ++ n ∷ []) s ≡ late = ap (λ b. cond b late s) within in
+    both_same _ _ _ _ (ap (latched_at n) as_was ∙ ap (λ b. cond b late s) here ∙ sym now) (change_more ns n streams new)))
     (λ apart. (
     let back : (n == s.number) ≡ false = grind (arith, nat_tests, apart) in
-    let other : ((latched_among ns s).number == n) ≡ false = ap (λ (k : ℕ). k == n) (number_latched ns s) ∙ apart in
+    let other : ((latched_among ns s).number == n) ≡ false = ap (λ k. k == n) (number_latched ns s) ∙ apart in
     let still : is_in s.number (ns ++ n ∷ []) ≡ is_in s.number ns = among ∙ rw back (or_none (is_in s.number ns)) in
-    both_same _ _ _ _ (latched_other n (latched_among ns s) other ∙ sym (ap (λ (b : Bool). cond b late s) still))
+    both_same _ _ _ _ (latched_other n (latched_among ns s) other ∙ sym (ap (λ b. cond b late s) still))
     (change_more ns n streams new)))
   where
     or_none : (b : Bool) → (b || (false || false)) ≡ b
@@ -249,8 +238,8 @@ latched_more ns n high streams rising =
           let none : image_of n (newest_images ns streams) ≡ None = image_newest ns n streams ∙ rw without refl in
           let same = same_stream ns n streams (λ within. absurd (cc (without, within))) in (
             rw (none, same)
-                (sym (filter_map-append (λ (m : ℕ). option_map (λ (image : Bitmap). (m, image)) (newest_of (stream_at m streams))) ns (n
-                ∷ []) ∙ ap (λ (more : Images). newest_images ns streams ++ more) (of_one (newest_of (stream_at n streams))))),
+                (sym (filter_map-append (λ m. option_map (λ image. (m, image)) (newest_of (stream_at m streams))) ns (n
+                ∷ []) ∙ ap (λ more. newest_images ns streams ++ more) (of_one (newest_of (stream_at n streams))))),
             rw none (change_more ns n streams without),
           ))
     ] refl
@@ -271,14 +260,14 @@ latched_more ns n high streams rising =
     with_number : Bitmap → ℕ × Bitmap
     with_number image = (n, image)
 
-    of_one : (o : Option Bitmap) → filter_map (λ (x : Option Bitmap). option_map with_number x) (o ∷ [])
+    of_one : (o : Option Bitmap) → filter_map (λ x. option_map with_number x) (o ∷ [])
         ≡ map with_number (option_to_list o)
     of_one None = refl
     of_one (Some image) = refl
 
 latch_none : (streams : List KeptStream) → latch [] streams ≡ streams
 latch_none [] = refl
-latch_none (s ∷ streams) = ap (λ (ss : List KeptStream). s ∷ ss) (latch_none streams)
+latch_none (s ∷ streams) = ap (λ ss. s ∷ ss) (latch_none streams)
 
 -- the streams of these numbers were latched, and their images taken
 pub record IsTaken (before : StoreView) (ns : List ℕ) (images : Images) (store : StoreView) : Type 0 where
@@ -290,14 +279,14 @@ pub nothing_taken : (before : StoreView) (images : Images) → images ≡ [] →
 nothing_taken before images none =
     record {
       taken = none;
-      left = ap (λ (streams : List KeptStream). record before { streams = streams }) (sym (latch_none before.streams));
-      shaped = subst (λ (is : Images). AreShapedAs before.streams is) (sym none) tt;
+      left = ap (λ streams. record before { streams = streams }) (sym (latch_none before.streams));
+      shaped = subst (λ is. AreShapedAs before.streams is) (sym none) tt;
     }
 
 pub take_home : (before store : StoreView) (ns : List ℕ) (n : ℕ) (images : Images) → AreAtHome before.streams
     → IsTaken before ns images store → image_of n images ≡ None → IsAtHome n store.streams
 take_home before store ns n images home done none =
-    subst (λ (v : StoreView). IsAtHome n v.streams) (sym done.left)
+    subst (λ v. IsAtHome n v.streams) (sym done.left)
     (still_home ns n before.streams home (ap (image_of n) (sym done.taken) ∙ none))
 
 pub take_step : (before store left : StoreView) (ns : List ℕ) (n high : ℕ) (images more : Images) → IsNumbered 0 before.streams high
@@ -307,13 +296,13 @@ pub take_step : (before store left : StoreView) (ns : List ℕ) (n high : ℕ) (
     → IsTaken before (named ns n) more left
 take_step before store left ns n high images more rising done is leaves shapes =
     let step = latched_more ns n high before.streams rising in
-    let streams-are : store.streams ≡ latch ns before.streams = ap (λ (v : StoreView). v.streams) done.left in
+    let streams-are : store.streams ≡ latch ns before.streams = ap (λ v. v.streams) done.left in
     record {
-      taken = is ∙ ap (λ (streams : List KeptStream). with_newest n streams images) streams-are
-          ∙ ap (λ (is : Images). with_newest n (latch ns before.streams) is) done.taken ∙ step.0;
+      taken = is ∙ ap (λ streams. with_newest n streams images) streams-are
+          ∙ ap (λ is. with_newest n (latch ns before.streams) is) done.taken ∙ step.0;
       left = leaves ∙ ap (λ (v : StoreView). record v { streams = without_newest n images v.streams }) done.left
-          ∙ ap (λ (is : Images). record before { streams = without_newest n is (latch ns before.streams) }) done.taken
-          ∙ ap (λ (streams : List KeptStream). record before { streams = streams }) step.1;
+          ∙ ap (λ is. record before { streams = without_newest n is (latch ns before.streams) }) done.taken
+          ∙ ap (λ streams. record before { streams = streams }) step.1;
       shaped = shapes done.shaped;
     }
 
@@ -344,7 +333,7 @@ pub names_more : (i : ℕ) (layers : List Layer) (d : Layer) → i < length laye
 names_more i layers d within =
     let l = get_or layers i d in
     let before = flat_map layer_names (take i layers) in
-    ap (λ (ls : List Layer). once (flat_map layer_names ls)) (take_more layers i d within)
+    ap (λ ls. once (flat_map layer_names ls)) (take_more layers i d within)
     ∙ ap once (flat_map-append layer_names (take i layers) (l ∷ []) ∙ sym (append_assoc before (l.stream ∷ []) (l.mask ∷ [])))
     ∙ once_more (before ++ l.stream ∷ []) l.mask
-    ∙ ap (λ (ns : List ℕ). named ns l.mask) (once_more before l.stream)
+    ∙ ap (λ ns. named ns l.mask) (once_more before l.stream)

@@ -1,29 +1,17 @@
 -- Every call but the end of a frame leaves the running frame and its images alone.
-use Rattle.std.proofs.Common.{◌≡◌, ◌∙◌, ℕ, ◌+◌, Bool, true, false, cond, ◌==◌, List, [], ◌∷◌, ◌++◌, map, filter, flat_map, Option, Some}
-use Rattle.std.proofs.Common.{refl, sym, ap, subst, inl, inr}
-use Rattle.std.specs.Option.{IsSomeAnd, is_some}
-use Rattle.std.proofs.lemmas.Bool.{eqb-true}
-use Rattle.std.proofs.lemmas.List.Folds.{list_any-append}
+use Rattle.wf_machine.proofs.Common.{◌≡◌, ◌∙◌, ℕ, ◌+◌, Bool, true, false, cond, ◌==◌, List, [], ◌∷◌, ◌++◌, map, filter, Option, Some, refl}
+use Rattle.wf_machine.proofs.Common.{sym, ap, subst, IsSomeAnd, eqb-true, list_any-append, is_in, Canvas, Buffers, acquired, KeptStream}
+use Rattle.wf_machine.proofs.Common.{change_stream, stream_at, unnamed, Call, Job, Code, Reply, is_ok_code, Effect, effect, is_running}
+use Rattle.wf_machine.proofs.Common.{all_names, core_names, display_names, frame_names, own_names, settle_if, Register, no_register}
+use Rattle.wf_machine.proofs.Common.{of_device, register_of, offered, Running, State, act, step}
+use Rattle.std.proofs.Common.{flat_map}
+use Rattle.std.proofs.Common.{inl, inr}
+use Rattle.std.specs.Option.{is_some}
 use Rattle.wf_words.specs.Found.{or_true}
-use Rattle.wf_words.specs.Keyed.{is_in}
-use Rattle.wf_image.specs.declared.canvas.Canvas.{Canvas}
-use Rattle.wf_stream.specs.Buffers.{Buffers, acquired}
-use Rattle.wf_stream.specs.Streams.{KeptStream, change_stream, stream_at, unnamed}
-use Rattle.wf_calls.specs.declared.call.Call.{Call}
 use Rattle.wf_calls.specs.declared.call.Call.TheVariants as call
-use Rattle.wf_calls.specs.declared.call.Job.{Job}
-use Rattle.wf_calls.specs.declared.code.Code.{Code}
-use Rattle.wf_calls.specs.declared.reply.Reply.{Reply}
-use Rattle.wf_calls.specs.Codes.{is_ok_code}
 use Rattle.wf_machine.specs.LeftAlone.{IsLeftAlone, ends_frame}
-use Rattle.wf_model.specs.Effects.{Effect, IsReturn, effect}
+use Rattle.wf_model.specs.Effects.{IsReturn}
 use Rattle.wf_model.specs.Effects.Effect.{acquires, begins, composes, ends, makes, refuses, returns, tells, unnames}
-use Rattle.wf_model.specs.Frames.{is_running}
-use Rattle.wf_model.specs.Names.{all_names, core_names, display_names, frame_names, own_names, settle_if}
-use Rattle.wf_calls.specs.Parts.{Register, no_register, of_device, register_of}
-use Rattle.wf_model.specs.Registers.{offered}
-use Rattle.wf_model.specs.State.{Running, State}
-use Rattle.wf_model.specs.Step.{act, step}
 
 -- streams
 
@@ -47,10 +35,10 @@ module _ (n : ℕ) (s : KeptStream) where
       → HasRead s (stream_at n (map g (t ∷ ss)))) [
         | true ↦ λ here same.
             let is : t ≡ s = cc in
-            let at : ((g t).number == n) ≡ true = ap (λ (k : ℕ). k == n) (keeps.number t) ∙ here in
-            rw at (keeps.read t ∙ ap (λ (x : KeptStream). x.buffers.read) is)
+            let at : ((g t).number == n) ≡ true = ap (λ k. k == n) (keeps.number t) ∙ here in
+            rw at (keeps.read t ∙ ap (λ x. x.buffers.read) is)
         | false ↦ λ other rest.
-            let past : ((g t).number == n) ≡ false = ap (λ (k : ℕ). k == n) (keeps.number t) ∙ other in
+            let past : ((g t).number == n) ≡ false = ap (λ k. k == n) (keeps.number t) ∙ other in
             rw past (mapped_read g keeps ss rest)
       ] refl found
 
@@ -59,7 +47,7 @@ module _ (n : ℕ) (s : KeptStream) where
   more_read new (t ∷ ss) found =
       elim (t.number == n)
       as (λ b. cond b (Some t) (stream_at n ss) ≡ Some s → HasRead s (cond b (Some t) (stream_at n (ss ++ new ∷ [])))) [
-        | true ↦ λ same. (let is : t ≡ s = cc in ap (λ (x : KeptStream). x.buffers.read) is)
+        | true ↦ λ same. (let is : t ≡ s = cc in ap (λ x. x.buffers.read) is)
         | false ↦ λ rest. more_read new ss rest
       ] found
 
@@ -72,7 +60,7 @@ module _ (n : ℕ) (s : KeptStream) where
       as (λ b. (t.number == n) ≡ b → HasRead o (cond b (Some t) (stream_at n ss))
       → HasRead o (stream_at n (filter (λ t. is_in t.number ns) (t ∷ ss)))) [
         | true ↦ λ here read.
-            let stays : is_in t.number ns ≡ true = ap (λ (k : ℕ). is_in k ns) (eqb-true t.number n here) ∙ named in
+            let stays : is_in t.number ns ≡ true = ap (λ k. is_in k ns) (eqb-true t.number n here) ∙ named in
             rw (stays, here) read
         | false ↦ λ other rest.
             elim (is_in t.number ns)
@@ -109,8 +97,8 @@ changed_read k f keeps =
 
 -- a write buffer that comes back leaves the read buffer alone
 return_read : (canvas : Canvas) (f : Buffers → Buffers) → IsReturn canvas f → (b : Buffers) → (f b).read ≡ b.read
-return_read canvas f (inl is) b = ap (λ (g : Buffers → Buffers). (g b).read) is
-return_read canvas f (inr is) b = ap (λ (g : Buffers → Buffers). (g b).read) is
+return_read canvas f (inl is) b = ap (λ g. (g b).read) is
+return_read canvas f (inr is) b = ap (λ g. (g b).read) is
 
 -- calls
 
@@ -124,18 +112,18 @@ module _ (h : State) (c : Call) (x : State × Reply) (f : Running) (runs : h.fra
   runs_not free = absurd (let no : true ≡ false = ap is_some (sym runs) ∙ free in cc)
 
   ends_not : (job : Job) → c ≡ call.End job → {A : Type 0} → A
-  ends_not job is = absurd (let no : true ≡ false = subst (λ (d : Call). ends_frame d ≡ false) is still in cc)
+  ends_not job is = absurd (let no : true ≡ false = subst (λ d. ends_frame d ≡ false) is still in cc)
 
   frame_left : Effect h c x → x.0.frame ≡ h.frame
-  frame_left (refuses honest left) = ap (λ (s : State). s.frame) left ∙ (offered_leaves (register_of c) x.1.code).0
-  frame_left (composes made core value is) = ap (λ (y : State × Reply). y.0.frame) is
-  frame_left (makes new is) = ap (λ (y : State × Reply). y.0.frame) is
-  frame_left (unnames handle is) = ap (λ (y : State × Reply). y.0.frame) is
-  frame_left (acquires handle s at is) = ap (λ (y : State × Reply). y.0.frame) is
-  frame_left (returns canvas g way out is) = ap (λ (y : State × Reply). y.0.frame) is
+  frame_left (refuses honest left) = ap (λ s. s.frame) left ∙ (offered_leaves (register_of c) x.1.code).0
+  frame_left (composes made core value is) = ap (λ y. y.0.frame) is
+  frame_left (makes new is) = ap (λ y. y.0.frame) is
+  frame_left (unnames handle is) = ap (λ y. y.0.frame) is
+  frame_left (acquires handle s at is) = ap (λ y. y.0.frame) is
+  frame_left (returns canvas g way out is) = ap (λ y. y.0.frame) is
   frame_left (begins b free begun is) = runs_not free
   frame_left (ends job g call_is at own is) = ends_not job call_is
-  frame_left (tells value is) = ap (λ (y : State × Reply). y.0.frame) is
+  frame_left (tells value is) = ap (λ y. y.0.frame) is
 
   module _ (n : ℕ) (s : KeptStream) (found : stream_at n h.streams ≡ Some s) where
     abbrev Left : List KeptStream → Type 0
@@ -146,27 +134,27 @@ module _ (h : State) (c : Call) (x : State × Reply) (f : Running) (runs : h.fra
 
     read_left : Effect h c x → Left x.0.streams
     read_left (refuses honest left) =
-        by_streams h.streams (ap (λ (t : State). t.streams) left ∙ (offered_leaves (register_of c) x.1.code).1)
+        by_streams h.streams (ap (λ t. t.streams) left ∙ (offered_leaves (register_of c) x.1.code).1)
         (same_read n s h.streams found)
     read_left (composes made core value is) =
-        by_streams h.streams (ap (λ (y : State × Reply). y.0.streams) is) (same_read n s h.streams found)
+        by_streams h.streams (ap (λ y. y.0.streams) is) (same_read n s h.streams found)
     read_left (makes new is) =
         let made : KeptStream = record { number = h.numbered + 1; handle = h.made + 1; buffers = new } in
-        by_streams (h.streams ++ made ∷ []) (ap (λ (y : State × Reply). y.0.streams) is) (more_read n s made h.streams found)
+        by_streams (h.streams ++ made ∷ []) (ap (λ y. y.0.streams) is) (more_read n s made h.streams found)
     read_left (unnames handle is) =
-        by_streams (map (unnamed handle) h.streams) (ap (λ (y : State × Reply). y.0.streams) is)
+        by_streams (map (unnamed handle) h.streams) (ap (λ y. y.0.streams) is)
         (mapped_read n s (unnamed handle) (unnamed_read handle) h.streams found)
     read_left (acquires handle t at is) =
-        by_streams (change_stream t.number acquired h.streams) (ap (λ (y : State × Reply). y.0.streams) is)
+        by_streams (change_stream t.number acquired h.streams) (ap (λ y. y.0.streams) is)
         (mapped_read n s (λ u. cond (u.number == t.number) (record u { buffers = acquired u.buffers }) u)
         (changed_read t.number acquired (λ b. refl)) h.streams found)
     read_left (returns canvas g way out is) =
-        by_streams (change_stream canvas.stream g h.streams) (ap (λ (y : State × Reply). y.0.streams) is)
+        by_streams (change_stream canvas.stream g h.streams) (ap (λ y. y.0.streams) is)
         (mapped_read n s (λ u. cond (u.number == canvas.stream) (record u { buffers = g u.buffers }) u)
         (changed_read canvas.stream g (return_read canvas g way)) h.streams found)
     read_left (begins b free begun is) = runs_not free
     read_left (ends job g call_is at own is) = ends_not job call_is
-    read_left (tells value is) = by_streams h.streams (ap (λ (y : State × Reply). y.0.streams) is) (same_read n s h.streams found)
+    read_left (tells value is) = by_streams h.streams (ap (λ y. y.0.streams) is) (same_read n s h.streams found)
 
 in_more : (n : ℕ) (xs ys : List ℕ) → is_in n ys ≡ true → is_in n (xs ++ ys) ≡ true
 in_more n xs ys is = list_any-append (λ k. k == n) xs ys ∙ or_true (is_in n xs) (is_in n ys) is
@@ -182,7 +170,7 @@ module _ (h : State) (c : Call) (m : Bool) (f : Running) (still : ends_frame c �
   in_names : (n : ℕ) → is_in n (frame_names (Some f)) ≡ true → is_in n (all_names done.0) ≡ true
   in_names n named =
       let frame = frame_names done.0.frame in
-      let here : is_in n frame ≡ true = ap (λ (o : Option Running). is_in n (frame_names o)) now_runs ∙ named in
+      let here : is_in n frame ≡ true = ap (λ o. is_in n (frame_names o)) now_runs ∙ named in
       in_more n (flat_map own_names done.0.streams ++ core_names done.0.core ++ display_names done.0.display) frame here
 
   settled_read : (n : ℕ) (s : KeptStream) → is_in n (frame_names (Some f)) ≡ true → stream_at n h.streams ≡ Some s

@@ -1,15 +1,7 @@
 -- Streams that change one by one, each under its number and in its shape.
-use Rattle.std.proofs.Common.{◌≡◌, ℕ, ◌+◌, ◌<◌, true, false, cond, ◌==◌, List, [], ◌∷◌, map, Option, Some, None, refl, sym, ap, subst, ◌∙◌}
-use Rattle.std.specs.Prelude.{sum_by}
-use Rattle.std.specs.Option.{option_map}
-use Rattle.std.proofs.lemmas.List.Sums.{sum_by-cons}
-use Rattle.wf_words.specs.Keyed.{is_in}
-use Rattle.wf_image.specs.Bitmap.{Bitmap}
-use Rattle.wf_image.specs.Contents.{image_of}
-use Rattle.wf_stream.specs.Buffers.{Buffers, buffer_bytes, latched}
-use Rattle.wf_stream.specs.Streams.{KeptStream, IsNumbered, buffers_at, held, stream_at, unnamed}
-use Rattle.wf_model.specs.Frames.{home_if, latched_among}
-use Rattle.wf_model.specs.Picture.{Images}
+use Rattle.wf_machine.proofs.Common.{◌≡◌, ℕ, ◌+◌, ◌<◌, true, false, cond, ◌==◌, List, [], ◌∷◌, map, Option, Some, None, refl, sym, ap}
+use Rattle.wf_machine.proofs.Common.{subst, ◌∙◌, sum_by, option_map, sum_by-cons, is_in, image_of, Buffers, buffer_bytes, latched}
+use Rattle.wf_machine.proofs.Common.{KeptStream, IsNumbered, buffers_at, held, stream_at, unnamed, home_if, latched_among, Images}
 use Rattle.wf_machine.proofs.Latches.{KeepsShape, latched_keeps}
 
 -- a change of a stream that keeps its number, its size, its format and how many buffers it has
@@ -27,17 +19,17 @@ module _ (g : KeptStream → KeptStream) (keeps : KeepsStream g) where
   pub found_mapped : (n : ℕ) (ss : List KeptStream) → stream_at n (map g ss) ≡ option_map g (stream_at n ss)
   found_mapped n [] = refl
   found_mapped n (s ∷ ss) =
-      ap (λ (k : ℕ). cond (k == n) (Some (g s)) (stream_at n (map g ss))) (keeps.number s)
+      ap (λ k. cond (k == n) (Some (g s)) (stream_at n (map g ss))) (keeps.number s)
       ∙ (elim (s.number == n) as (λ b. cond b (Some (g s)) (stream_at n (map g ss))
       ≡ option_map g (cond b (Some s) (stream_at n ss))) [ true ↦ refl | false ↦ found_mapped n ss ])
 
   pub buffers_mapped : (n : ℕ) (ss : List KeptStream)
-      → buffers_at n (map g ss) ≡ option_map (λ (s : KeptStream). (g s).buffers) (stream_at n ss)
-  buffers_mapped n ss = ap (λ (o : Option KeptStream). option_map (λ (s : KeptStream). s.buffers) o) (found_mapped n ss)
+      → buffers_at n (map g ss) ≡ option_map (λ s. (g s).buffers) (stream_at n ss)
+  buffers_mapped n ss = ap (λ o. option_map (λ s. s.buffers) o) (found_mapped n ss)
       ∙ both (stream_at n ss)
     where
-      both : (o : Option KeptStream) → option_map (λ (s : KeptStream). s.buffers) (option_map g o)
-          ≡ option_map (λ (s : KeptStream). (g s).buffers) o
+      both : (o : Option KeptStream) → option_map (λ s. s.buffers) (option_map g o)
+          ≡ option_map (λ s. (g s).buffers) o
       both None = refl
       both (Some s) = refl
 
@@ -51,23 +43,23 @@ module _ (g : KeptStream → KeptStream) (keeps : KeepsStream g) where
           let has : Some s.buffers ≡ Some b = rw is at found in
           let same : s.buffers ≡ b = cc in (
             (g s).buffers,
-            buffers_mapped n ss ∙ ap (λ (o : Option KeptStream). option_map (λ (t : KeptStream). (g t).buffers) o) is,
-            keeps.size s ∙ ap (λ (c : Buffers). c.size) same,
-            keeps.format s ∙ ap (λ (c : Buffers). c.format) same,
+            buffers_mapped n ss ∙ ap (λ o. option_map (λ t. (g t).buffers) o) is,
+            keeps.size s ∙ ap (λ c. c.size) same,
+            keeps.format s ∙ ap (λ c. c.format) same,
           )
 
   pub numbered_mapped : (low high : ℕ) (ss : List KeptStream) → IsNumbered low ss high → IsNumbered low (map g ss) high
   numbered_mapped low high [] rising = rising
   numbered_mapped low high (s ∷ ss) rising =
       let later = numbered_mapped s.number high ss rising.1 in
-      subst (λ (k : ℕ). (low < k) × IsNumbered k (map g ss) high) (sym (keeps.number s)) (rising.0, later)
+      subst (λ k. (low < k) × IsNumbered k (map g ss) high) (sym (keeps.number s)) (rising.0, later)
 
   pub bytes_mapped : (ss : List KeptStream) → (held (map g ss)).bytes ≡ (held ss).bytes
   bytes_mapped [] = refl
   bytes_mapped (s ∷ ss) =
       let each : KeptStream → ℕ = λ t. buffer_bytes t.buffers in
       let same : each (g s) ≡ each s = rw (keeps.size s, keeps.format s, keeps.buffers s) refl in
-      sum_by-cons each (g s) (map g ss) ∙ ap (λ (k : ℕ). k + sum_by each (map g ss)) same ∙ ap (λ (k : ℕ). each s + k) (bytes_mapped ss)
+      sum_by-cons each (g s) (map g ss) ∙ ap (λ k. k + sum_by each (map g ss)) same ∙ ap (λ k. each s + k) (bytes_mapped ss)
       ∙ sym (sum_by-cons each s ss)
 
 -- the buffers of one stream change
@@ -110,14 +102,14 @@ home_among xs s = home_if (image_of s.number xs) s
 pub home_keeps : (xs : Images) → KeepsStream (home_among xs)
 home_keeps xs =
     record {
-      number = λ s. elim (image_of s.number xs) as (λ (o : Option Bitmap). (home_if o s).number
+      number = λ s. elim (image_of s.number xs) as (λ o. (home_if o s).number
           ≡ s.number) [ None ↦ refl | Some image ↦ refl ];
-      size = λ s. elim (image_of s.number xs) as (λ (o : Option Bitmap). (home_if o s).buffers.size
+      size = λ s. elim (image_of s.number xs) as (λ o. (home_if o s).buffers.size
           ≡ s.buffers.size) [ None ↦ refl | Some image ↦ refl ];
-      format = λ s. elim (image_of s.number xs) as (λ (o : Option Bitmap). (home_if o s).buffers.format
+      format = λ s. elim (image_of s.number xs) as (λ o. (home_if o s).buffers.format
           ≡ s.buffers.format) [ None ↦ refl | Some image ↦ refl ];
       buffers =
-          λ s. elim (image_of s.number xs) as (λ (o : Option Bitmap). (home_if o s).buffers.buffers
+          λ s. elim (image_of s.number xs) as (λ o. (home_if o s).buffers.buffers
           ≡ s.buffers.buffers) [ None ↦ refl | Some image ↦ refl ];
     }
 

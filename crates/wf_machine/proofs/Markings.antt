@@ -1,17 +1,10 @@
 -- Marks that add up.
-use Rattle.std.proofs.Common.{◌≡◌, ℕ, zero, suc, ◌+◌, Bool, true, false, not, cond, ◌==◌, ◌||◌, ◌&&◌, List, [], ◌∷◌, ◌++◌, refl, sym, ap}
-use Rattle.std.proofs.Common.{subst, ◌∙◌, arith}
-use Rattle.std.specs.Prelude.{flat_map}
-use Rattle.std.specs.List.{range_with_len}
+use Rattle.wf_machine.proofs.Common.{◌≡◌, ℕ, zero, suc, ◌+◌, Bool, true, false, not, cond, ◌==◌, ◌||◌, ◌&&◌, List, [], ◌∷◌, ◌++◌, refl, sym}
+use Rattle.wf_machine.proofs.Common.{ap, subst, ◌∙◌, arith, flat_map, range_with_len, list_any-append, is_in, KeptStream, StoreView}
+use Rattle.wf_machine.proofs.Common.{IsNumbered, stream_at, all_names, core_names, display_names, frame_names, kept, own_names, State}
+use Rattle.wf_machine.proofs.Common.{Inside, state_of, Marks}
 use Rattle.std.specs.Option.{IsSome}
-use Rattle.std.proofs.lemmas.List.Folds.{list_any-append}
-use Rattle.wf_words.specs.Keyed.{is_in}
-use Rattle.wf_stream.specs.Streams.{KeptStream, StoreView, IsNumbered, has_own_name, is_own, stream_at, swept}
-use Rattle.wf_model.specs.Names.{all_names, core_names, display_names, frame_names, kept, own_names}
-use Rattle.wf_model.specs.State.{State}
-use Rattle.wf_machine.specs.declared.parts.Parts.TheInside.{Inside}
-use Rattle.wf_machine.specs.Inside.{state_of}
-use Rattle.wf_objects.specs.Marks.{Marks}
+use Rattle.wf_stream.specs.Streams.{has_own_name, is_own, swept}
 use Rattle.wf_machine.proofs.Begun.{AllFound, all_found}
 use Rattle.wf_machine.proofs.Dropping.{among}
 
@@ -28,17 +21,17 @@ none_marked v = record { marked = λ n kept. or_false (is_in n v.marked); rest =
 
 -- the streams are those of before
 pub streams_of : (before now : StoreView) → record now { marked = [] } ≡ record before { marked = [] } → now.streams ≡ before.streams
-streams_of before now rest = ap (λ (v : StoreView). v.streams) rest
+streams_of before now rest = ap (λ v. v.streams) rest
 
 pub more_marked : (a b c : StoreView) (ns ms : List ℕ) → Marks a b ns → Marks b c ms → Marks a c (ns ++ ms)
 more_marked a b c ns ms first second =
     record {
       marked = λ n kept. (
-          let there : IsSome (stream_at n b.streams) = subst (λ (ss : List KeptStream). IsSome (stream_at n ss))
+          let there : IsSome (stream_at n b.streams) = subst (λ ss. IsSome (stream_at n ss))
           (sym (streams_of a b first.rest)) kept in
-          second.marked n there ∙ ap (λ (x : Bool). x || is_in n ms) (first.marked n kept)
+          second.marked n there ∙ ap (λ x. x || is_in n ms) (first.marked n kept)
           ∙ or_assoc (is_in n a.marked) (is_in n ns) (is_in n ms)
-          ∙ ap (λ (x : Bool). is_in n a.marked || x) (sym (list_any-append (λ (x : ℕ). x == n) ns ms)));
+          ∙ ap (λ x. is_in n a.marked || x) (sym (list_any-append (λ x. x == n) ns ms)));
       rest = second.rest ∙ first.rest;
     }
 
@@ -47,10 +40,10 @@ pub range_more : (low many : ℕ) → range_with_len low (many + 1) ≡ range_wi
 range_more low many = (let next : many + 1 ≡ suc many = omega arith in ap (range_with_len low) next ∙ of_many many low)
   where
     of_many : (many low : ℕ) → range_with_len low (suc many) ≡ range_with_len low many ++ (low + many) ∷ []
-    of_many zero low = ap (λ (n : ℕ). n ∷ []) (omega arith)
+    of_many zero low = ap (λ n. n ∷ []) (omega arith)
     of_many (suc many) low =
         let later : low + 1 + many ≡ low + suc many = omega arith in
-        ap (λ (ns : List ℕ). low ∷ ns) (of_many many (low + 1) ∙ ap (λ (n : ℕ). range_with_len (low + 1) many ++ n ∷ []) later)
+        ap (λ ns. low ∷ ns) (of_many many (low + 1) ∙ ap (λ n. range_with_len (low + 1) many ++ n ∷ []) later)
 
 -- the marks of a settling are the names
 
@@ -75,8 +68,8 @@ one_own n s =
 own_is : (n : ℕ) (ss : List KeptStream) → is_own n ss ≡ is_in n (flat_map own_names ss)
 own_is n [] = refl
 own_is n (s ∷ ss) =
-    ap (λ (b : Bool). b || is_own n ss) (one_own n s) ∙ ap (λ (b : Bool). is_in n (own_names s) || b) (own_is n ss)
-    ∙ sym (list_any-append (λ (x : ℕ). x == n) (own_names s) (flat_map own_names ss))
+    ap (λ b. b || is_own n ss) (one_own n s) ∙ ap (λ b. is_in n (own_names s) || b) (own_is n ss)
+    ∙ sym (list_any-append (λ x. x == n) (own_names s) (flat_map own_names ss))
 
 among_same : (ns ms : List ℕ) (whole ss : List KeptStream) → AllFound whole ss
     → ((n : ℕ) → IsSome (stream_at n whole) → is_in n ns ≡ is_in n ms) → among ns ss ≡ among ms ss
@@ -84,8 +77,8 @@ among_same ns ms whole [] found same = refl
 among_same ns ms whole (s ∷ ss) found same =
     let later = among_same ns ms whole ss found.1 same in
     let here : is_in s.number ns ≡ is_in s.number ms = same s.number (rw found.0 refl) in
-    ap (λ (b : Bool). cond b (s ∷ among ns ss) (among ns ss)) here
-    ∙ ap (λ (ts : List KeptStream). cond (is_in s.number ms) (s ∷ ts) ts) later
+    ap (λ b. cond b (s ∷ among ns ss) (among ns ss)) here
+    ∙ ap (λ ts. cond (is_in s.number ms) (s ∷ ts) ts) later
 
 -- the streams that a call marks: its own, those of composition, the screens, and those of the running frame
 module _ (m : Inside) (a b c d e : StoreView) (numbered : IsNumbered 0 m.store.streams m.store.numbered)
@@ -97,13 +90,13 @@ module _ (m : Inside) (a b c d e : StoreView) (numbered : IsNumbered 0 m.store.s
   h = state_of m
 
   start : a.streams ≡ ss
-  start = ap (λ (v : StoreView). v.streams) unmarked
+  start = ap (λ v. v.streams) unmarked
 
   pub own_marks : ((n : ℕ) → is_in n b.marked ≡ (is_in n a.marked || is_own n a.streams))
       → record b { marked = [] } ≡ record a { marked = [] } → Marks a b (flat_map own_names ss)
   own_marks marked rest = record {
     marked = λ n kept. marked n
-        ∙ ap (λ (x : Bool). is_in n a.marked || x) (ap (is_own n) start ∙ own_is n ss);
+        ∙ ap (λ x. is_in n a.marked || x) (ap (is_own n) start ∙ own_is n ss);
     rest = rest;
   }
 
@@ -115,11 +108,11 @@ module _ (m : Inside) (a b c d e : StoreView) (numbered : IsNumbered 0 m.store.s
       let four = more_marked a d e ((flat_map own_names ss ++ core_names m.core) ++ display_names h.display) (frame_names h.frame) three
       frame in
       let same : e.streams ≡ ss = streams_of a e four.rest ∙ start in
-      let none : a.marked ≡ [] = ap (λ (v : StoreView). v.marked) unmarked in
+      let none : a.marked ≡ [] = ap (λ v. v.marked) unmarked in
       ap (among e.marked) same
       ∙ among_same e.marked (all_names h) ss ss (all_found 0 m.store.numbered ss numbered)
-      (λ n kept. four.marked n (subst (λ (ts : List KeptStream). IsSome (stream_at n ts)) (sym start) kept)
-      ∙ ap (λ (ns : List ℕ). is_in n ns || is_in n (all_names h)) none)
+      (λ n kept. four.marked n (subst (λ ts. IsSome (stream_at n ts)) (sym start) kept)
+      ∙ ap (λ ns. is_in n ns || is_in n (all_names h)) none)
 
   -- what else is kept is as it was
   pub rest_marked : Marks a b (flat_map own_names ss) → Marks b c (core_names m.core) → Marks c d (display_names h.display)

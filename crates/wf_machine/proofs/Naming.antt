@@ -1,11 +1,7 @@
 -- Which streams a scene names.
-use Rattle.std.proofs.Common.{◌≡◌, ℕ, Bool, true, false, not, ◌==◌, ◌||◌, List, [], ◌∷◌, refl, sym, ap, ◌∙◌}
-use Rattle.std.specs.Prelude.{filter, flat_map}
-use Rattle.std.specs.List.{list_any}
-use Rattle.wf_words.specs.Keyed.{is_in, once}
-use Rattle.wf_scene.specs.declared.Layer.{Layer}
-use Rattle.wf_model.specs.Names.{layer_names}
-use Rattle.wf_words.specs.Once.{is_in-without}
+use Rattle.wf_machine.proofs.Common.{◌≡◌, ℕ, true, false, not, ◌==◌, ◌||◌, List, [], ◌∷◌, refl, sym, ap, ◌∙◌, flat_map, list_any, is_in}
+use Rattle.wf_machine.proofs.Common.{once, Layer, layer_names, is_in-without}
+use Rattle.std.specs.Prelude.{filter}
 
 in_once : (n : ℕ) (ns : List ℕ) → is_in n (once ns) ≡ is_in n ns
 in_once n [] = refl
@@ -21,7 +17,7 @@ of_layers n (l ∷ ls) =
     elim (l.stream == n) as (λ b. ((b || (l.mask == n)) || list_any (λ m. (m.stream == n) || (m.mask == n)) ls)
     ≡ (b || ((l.mask == n) || is_in n (flat_map layer_names ls)))) [
       | true ↦ refl
-      | false ↦ ap (λ (b : Bool). (l.mask == n) || b) (of_layers n ls)
+      | false ↦ ap (λ b. (l.mask == n) || b) (of_layers n ls)
     ]
 
 -- a scene names a stream exactly where one of its layers does

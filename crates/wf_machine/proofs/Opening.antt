@@ -1,32 +1,19 @@
 -- The machine before its first call.
-use Rattle.std.proofs.Common.{◌≡◌, ℕ, suc, ◌+◌, ◌<◌, ◌≤◌, Bool, true, false, List, [], ◌∷◌, ◌++◌, length, map, get_or, take, Option, Some}
-use Rattle.std.proofs.Common.{None, refl, sym, ap, subst, ◌∙◌, arith, append_assoc, length-append, add-zero, ◌&&◌, ◌*◌, lit≤}
+use Rattle.wf_machine.proofs.Common.{◌≡◌, ℕ, suc, ◌+◌, ◌<◌, ◌≤◌, Bool, true, false, List, [], ◌∷◌, ◌++◌, length, map, get_or, take, Option}
+use Rattle.wf_machine.proofs.Common.{Some, None, refl, sym, ap, subst, ◌∙◌, arith, append_assoc, length-append, ◌&&◌, ◌*◌, slice_get}
+use Rattle.wf_machine.proofs.Common.{nat_le, option_map, range_with_len, list_all, and_parts, leb-true, map-append, length-map, take_all}
+use Rattle.wf_machine.proofs.Common.{sum_by-cons, nth, Rgbx8, Size, has_sides, is_side, Ports, buffer_bytes, fresh, KeptStream, StoreView}
+use Rattle.wf_machine.proofs.Common.{IsNumbered, held, Modes, CoreState, Fits, Port, Running, State, initial_port, mode_size, opening}
+use Rattle.wf_machine.proofs.Common.{screen, AllFit, contents_of, IsScreen, PortFits, PortsFit, StreamFits, IsSound, state_of, Inside}
+use Rattle.wf_machine.proofs.Common.{HoldsBut, port_of, running_of}
+use Rattle.std.proofs.Common.{add-zero, lit≤}
 use Rattle.std.proofs.Math.Nat.{mul-le-mul_left, mul-le-mul_right}
-use Rattle.std.specs.Prelude.{zip, slice_get, nat_le, IfSome}
-use Rattle.std.specs.Option.{option_map}
-use Rattle.std.specs.List.{range_with_len, list_all}
-use Rattle.std.proofs.lemmas.Bool.{and_parts, leb-true}
-use Rattle.std.proofs.lemmas.List.{map-append, length-map, take_all}
+use Rattle.std.specs.Prelude.{zip, IfSome}
 use Rattle.std.proofs.lemmas.List.Folds.{list_all_at}
-use Rattle.std.proofs.lemmas.List.Sums.{sum_by-cons}
-use Rattle.wf_words.specs.Keyed.{nth}
-use Rattle.wf_pixel.specs.declared.Format.TheVariants.{Rgbx8}
-use Rattle.wf_pixel.specs.declared.Size.{Size}
-use Rattle.wf_pixel.specs.Choice.{has_sides, is_side}
 use Rattle.wf_calls.specs.PortRules.{may_declare, may_have}
-use Rattle.wf_calls.specs.declared.ports.Ports.{Ports}
-use Rattle.wf_stream.specs.Buffers.{buffer_bytes, fresh}
-use Rattle.wf_stream.specs.Streams.{KeptStream, StoreView, IsNumbered, empty, held, with_screen}
-use Rattle.wf_calls.specs.declared.ports.Modes.{Modes}
-use Rattle.wf_model.specs.Objects.{CoreState, no_objects}
-use Rattle.wf_objects.specs.Fits.{Fits}
-use Rattle.wf_model.specs.State.{Port, Running, State, initial_port, mode_size, opening, screen}
-use Rattle.wf_machine.specs.Fitting.{AllFit, contents_of, IsScreen, PortFits, PortsFit, StreamFits}
-use Rattle.wf_machine.specs.Inside.{IsSound, state_of}
+use Rattle.wf_stream.specs.Streams.{empty, with_screen}
+use Rattle.wf_model.specs.Objects.{no_objects}
 use Rattle.wf_machine.specs.declared.port.Port as declared
-use Rattle.wf_machine.specs.declared.frame.Frame.{Frame}
-use Rattle.wf_machine.specs.declared.parts.Parts.TheInside.{Inside}
-use Rattle.wf_machine.specs.Ports.{HoldsBut, port_of, running_of}
 
 -- the screens of ports that are numbered from one on
 abbrev pub screens : ℕ → List Modes → List KeptStream
@@ -34,11 +21,11 @@ screens k ms = map screen (zip (range_with_len k (length ms)) ms)
 
 -- one more screen
 pub screens_more : (k : ℕ) (ms : List Modes) (m : Modes) → screens k (ms ++ m ∷ []) ≡ screens k ms ++ screen (k + length ms, m) ∷ []
-screens_more k [] m = ap (λ (n : ℕ). screen (n, m) ∷ []) (omega arith)
+screens_more k [] m = ap (λ n. screen (n, m) ∷ []) (omega arith)
 screens_more k (x ∷ ms) m =
     let later : k + 1 + length ms ≡ k + suc (length ms) = omega arith in
-    ap (λ (ss : List KeptStream). screen (k, x) ∷ ss) (screens_more (k + 1) ms m
-    ∙ ap (λ (n : ℕ). screens (k + 1) ms ++ screen (n, m) ∷ []) later)
+    ap (λ ss. screen (k, x) ∷ ss) (screens_more (k + 1) ms m
+    ∙ ap (λ n. screens (k + 1) ms ++ screen (n, m) ∷ []) later)
 
 pub screens_numbered : (low k high : ℕ) (ms : List Modes) → low < k → k + length ms ≤ high + 1 → IsNumbered low (screens k ms) high
 screens_numbered low k high [] under within = omega arith
@@ -70,13 +57,13 @@ screens_fit front (m ∷ ms) k is may =
       sides = mode_sides m (and_parts (may_have m) (list_all may_have ms) may).0;
       screen =
           let here : nth k ports ≡ Some p = rw is (at_front front p (map initial_port ms)) in
-          subst (λ (o : Option Port). IfSome o (IsScreen (screen (k, m)).buffers)) (sym here) (refl, refl);
+          subst (λ o. IfSome o (IsScreen (screen (k, m)).buffers)) (sym here) (refl, refl);
       read = λ h. cc;
     } in
     let regroup : (front ++ p ∷ []) ++ map initial_port ms ≡ ports = append_assoc front (p ∷ []) (map initial_port ms) in
     let later = screens_fit (front ++ p ∷ []) ms (k + 1) (omega (arith, is, length-append front (p ∷ [])))
     (and_parts (may_have m) (list_all may_have ms) may).1 in
-    (first, subst (λ (ps : List Port). AllFit ps [] (screens (k + 1) ms)) regroup later)
+    (first, subst (λ ps. AllFit ps [] (screens (k + 1) ms)) regroup later)
 
 pub all_at : {A : Type 0} (p : A → Bool) (xs : List A) (i : ℕ) (d : A) → i < length xs → list_all p xs ≡ true → p (get_or xs i d) ≡ true
 all_at p xs i d within all = elim (p (get_or xs i d)) as (λ b. p (get_or xs i d) ≡ b
@@ -89,10 +76,10 @@ first_mode (s ∷ sizes) d some = refl
 
 pub ports_more : (frame : Option Running) (k : ℕ) (ports : List declared.Port) (p : declared.Port) → PortsFit frame k ports
     → PortFits frame (k + length ports) p → PortsFit frame k (ports ++ p ∷ [])
-ports_more frame k [] p fit one = (subst (λ (n : ℕ). PortFits frame n p) (add-zero k) one, tt)
+ports_more frame k [] p fit one = (subst (λ n. PortFits frame n p) (add-zero k) one, tt)
 ports_more frame k (q ∷ ports) p fit one =
     let later : k + suc (length ports) ≡ k + 1 + length ports = omega arith in
-    (fit.0, ports_more frame (k + 1) ports p fit.1 (subst (λ (n : ℕ). PortFits frame n p) later one))
+    (fit.0, ports_more frame (k + 1) ports p fit.1 (subst (λ n. PortFits frame n p) later one))
 
 -- these ports stand open: with their screens in the store, and their images
 pub record IsOpen (store : StoreView) (opened : List declared.Port) (ms : List Modes) : Type 0 where
@@ -106,12 +93,12 @@ pub record IsOpen (store : StoreView) (opened : List declared.Port) (ms : List M
 pub no_ports_open : (store : StoreView) (opened : List declared.Port) → store ≡ empty → opened ≡ [] → IsOpen store opened []
 no_ports_open store opened is none =
     record {
-      made = ap (λ (v : StoreView). v.made) is;
-      others = ap (λ (v : StoreView). v.others) is;
-      numbered = ap (λ (v : StoreView). v.numbered) is;
-      streams = ap (λ (v : StoreView). v.streams) is;
-      ports = ap (λ (ps : List declared.Port). map port_of ps) none;
-      fit = subst (λ (ps : List declared.Port). PortsFit None 1 ps) (sym none) tt;
+      made = ap (λ v. v.made) is;
+      others = ap (λ v. v.others) is;
+      numbered = ap (λ v. v.numbered) is;
+      streams = ap (λ v. v.streams) is;
+      ports = ap (λ ps. map port_of ps) none;
+      fit = subst (λ ps. PortsFit None 1 ps) (sym none) tt;
     }
 
 -- one more port
@@ -122,22 +109,22 @@ pub one_more_open : (store left : StoreView) (opened more : List declared.Port) 
 one_more_open store left opened more ms m p size so_far may size-is left-is more-is modes-are images =
     let new : KeptStream = record { number = store.numbered + 1; handle = 0; buffers = fresh size Rgbx8 3 } in
     let is : new ≡ screen (1 + length ms, m) =
-    ap (λ (n : ℕ). record { number = n; handle = 0; buffers = fresh size Rgbx8 3 }) (omega (arith, so_far.numbered))
-    ∙ ap (λ (s : Size). record { number = 1 + length ms; handle = 0; buffers = fresh s Rgbx8 3 }) size-is in
+    ap (λ n. record { number = n; handle = 0; buffers = fresh size Rgbx8 3 }) (omega (arith, so_far.numbered))
+    ∙ ap (λ s. record { number = 1 + length ms; handle = 0; buffers = fresh s Rgbx8 3 }) size-is in
     let few = and_parts (nat_le 1 (length m.sizes.items) && nat_le (length m.sizes.items) 4) (list_all has_sides m.sizes.items) may in
     let some = leb-true 1 (length m.sizes.items) (and_parts (nat_le 1 (length m.sizes.items)) (nat_le (length m.sizes.items) 4) few.0).0 in
     let many : 1 + length opened ≡ 1 + length opened = refl in
     record {
-      made = ap (λ (v : StoreView). v.made) left-is ∙ so_far.made;
-      others = ap (λ (v : StoreView). v.others) left-is ∙ so_far.others;
-      numbered = ap (λ (v : StoreView). v.numbered) left-is ∙ ap (λ (n : ℕ). n + 1) so_far.numbered ∙ sym (length-append ms (m ∷ []));
-      streams = ap (λ (v : StoreView). v.streams) left-is ∙ ap (λ (ss : List KeptStream). ss ++ new ∷ []) so_far.streams
-          ∙ ap (λ (s : KeptStream). screens 1 ms ++ s ∷ []) is ∙ sym (screens_more 1 ms m);
-      ports = ap (λ (ps : List declared.Port). map port_of ps) more-is ∙ map-append port_of opened (p ∷ [])
-          ∙ ap (λ (ps : List Port). ps ++ port_of p ∷ []) so_far.ports
-          ∙ ap (λ (q : Port). map initial_port ms ++ q ∷ []) (ap (λ (sizes : List Size). record { modes = sizes }) modes-are)
+      made = ap (λ v. v.made) left-is ∙ so_far.made;
+      others = ap (λ v. v.others) left-is ∙ so_far.others;
+      numbered = ap (λ v. v.numbered) left-is ∙ ap (λ n. n + 1) so_far.numbered ∙ sym (length-append ms (m ∷ []));
+      streams = ap (λ v. v.streams) left-is ∙ ap (λ ss. ss ++ new ∷ []) so_far.streams
+          ∙ ap (λ s. screens 1 ms ++ s ∷ []) is ∙ sym (screens_more 1 ms m);
+      ports = ap (λ ps. map port_of ps) more-is ∙ map-append port_of opened (p ∷ [])
+          ∙ ap (λ ps. ps ++ port_of p ∷ []) so_far.ports
+          ∙ ap (λ q. map initial_port ms ++ q ∷ []) (ap (λ sizes. record { modes = sizes }) modes-are)
           ∙ sym (map-append initial_port ms (m ∷ []));
-      fit = subst (λ (ps : List declared.Port). PortsFit None 1 ps) (sym more-is)
+      fit = subst (λ ps. PortsFit None 1 ps) (sym more-is)
           (ports_more None 1 opened p so_far.fit (record {
             some = omega (arith, some, ap length modes-are);
             sides = ap (list_all has_sides) modes-are ∙ few.1;
@@ -170,7 +157,7 @@ screens_bytes k (m ∷ ms) may =
       arith,
       screens_bytes (k + 1) ms each.1,
       screen_bytes m each.0,
-      sum_by-cons (λ (s : KeptStream). buffer_bytes s.buffers) (screen (k, m)) (screens (k + 1) ms),
+      sum_by-cons (λ s. buffer_bytes s.buffers) (screen (k, m)) (screens (k + 1) ms),
     )
 
 -- no objects fit a store without handles
@@ -194,7 +181,7 @@ pub sound_when_open : (m : Inside) (ms : List Modes) → IsOpen m.store m.ports.
     → list_all may_have ms ≡ true → m.core ≡ no_objects → m.frame ≡ None → IsSound m
 sound_when_open m ms opened few may empty none =
     let frame : Option Running = option_map running_of m.frame in
-    let no_frame : frame ≡ None = ap (λ (f : Option Frame). option_map running_of f) none in
+    let no_frame : frame ≡ None = ap (λ f. option_map running_of f) none in
     let contents-are : contents_of frame ≡ [] = ap contents_of no_frame in
     record {
       fits = rw empty (none_fit m.store opened.others);
@@ -202,7 +189,7 @@ sound_when_open m ms opened few may empty none =
       numbered = rw (opened.streams, opened.numbered) (screens_numbered 0 1 (length ms) ms (omega arith) (omega arith));
       few = few;
       screens = omega (arith, opened.numbered, length-map m.ports.items port_of, length-map ms initial_port, ap length opened.ports);
-      ports = subst (λ (f : Option Running). PortsFit f 1 m.ports.items) (sym no_frame) opened.fit;
+      ports = subst (λ f. PortsFit f 1 m.ports.items) (sym no_frame) opened.fit;
       small = rw opened.streams (omega (
         arith,
         screens_bytes 1 ms may,
@@ -238,7 +225,7 @@ first_of sizes m d is may =
     let some =
     leb-true 1 (length m.sizes.items) (and_parts (nat_le 1 (length m.sizes.items)) (nat_le (length m.sizes.items) 4)
     (and_parts (nat_le 1 (length m.sizes.items) && nat_le (length m.sizes.items) 4) (list_all has_sides m.sizes.items) may).0).0 in
-    ap (λ (xs : List Size). get_or xs 0 d) is ∙ first_mode m.sizes.items d (omega (arith, some))
+    ap (λ xs. get_or xs 0 d) is ∙ first_mode m.sizes.items d (omega (arith, some))
 
 -- the machine whose declared ports stand open is as it opens
 pub opening_is : (m : Inside) (ports : Ports) → IsOpen m.store m.ports.items ports.modes.items → m.core ≡ no_objects → m.begun ≡ 0
@@ -257,12 +244,12 @@ opening_is m ports opened empty begun none =
     } in
     let ps = map port_of m.ports.items in
     let frame = option_map running_of m.frame in
-    ap with_core empty ∙ ap (λ (n : ℕ). state n m.store.numbered m.begun m.store.streams ps frame) opened.made
-    ∙ ap (λ (n : ℕ). state 0 n m.begun m.store.streams ps frame) opened.numbered
-    ∙ ap (λ (n : ℕ). state 0 (length ports.modes.items) n m.store.streams ps frame) begun
-    ∙ ap (λ (ss : List KeptStream). state 0 (length ports.modes.items) 0 ss ps frame) opened.streams
-    ∙ ap (λ (qs : List Port). state 0 (length ports.modes.items) 0 (screens 1 ports.modes.items) qs frame) opened.ports
-    ∙ ap (λ (f : Option Frame). state 0 (length ports.modes.items) 0 (screens 1 ports.modes.items) (map initial_port ports.modes.items)
+    ap with_core empty ∙ ap (λ n. state n m.store.numbered m.begun m.store.streams ps frame) opened.made
+    ∙ ap (λ n. state 0 n m.begun m.store.streams ps frame) opened.numbered
+    ∙ ap (λ n. state 0 (length ports.modes.items) n m.store.streams ps frame) begun
+    ∙ ap (λ ss. state 0 (length ports.modes.items) 0 ss ps frame) opened.streams
+    ∙ ap (λ qs. state 0 (length ports.modes.items) 0 (screens 1 ports.modes.items) qs frame) opened.ports
+    ∙ ap (λ f. state 0 (length ports.modes.items) 0 (screens 1 ports.modes.items) (map initial_port ports.modes.items)
     (option_map running_of f)) none
 
 -- all the modes, once the last was passed

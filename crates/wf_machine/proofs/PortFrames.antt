@@ -1,52 +1,22 @@
 -- A port's frame that begins.
-use Rattle.std.proofs.Common.{◌≡◌, ◌≢◌, ℕ, zero, suc, ◌+◌, ◌-◌, ◌^◌, ◌<◌, ◌≤◌, true, List, [], ◌∷◌, length, map, Option, Some, None, refl}
-use Rattle.std.proofs.Common.{sym, ap, subst, ◌∙◌, arith, IsTrue, zero-add, get_or, Ok, nat_lt}
-use Rattle.std.specs.Prelude.{slice_get, nat_le, ℤ}
-use Rattle.std.specs.List.{list_all}
-use Rattle.std.specs.Option.{option_map, IfSome, IsSomeAnd}
-use Rattle.std.proofs.lemmas.Bool.{and_parts, le-leb, leb-true, lt-ltb}
-use Rattle.std.proofs.lemmas.Int.{ints}
-use Rattle.std.proofs.lemmas.List.{length-map}
-use Rattle.std.proofs.lemmas.Option.{slice_get_within}
-use Rattle.std.proofs.lemmas.List.Elements.{All-cons, All-nil}
-use Rattle.wf_words.specs.Keyed.{nth}
-use Rattle.wf_words.specs.Whole.{count_of}
-use Rattle.wf_pixel.specs.declared.Size.{Size}
-use Rattle.wf_pixel.specs.declared.Format.TheVariants.{Rgba8Pre, Rgbx8, A8}
-use Rattle.wf_pixel.specs.Choice.{has_sides, is_a8, is_side}
-use Rattle.wf_pixel.specs.Place.{IsDrawn}
-use Rattle.wf_image.specs.Bitmap.{Bitmap}
-use Rattle.wf_image.specs.Contents.{image_of}
-use Rattle.wf_scene.specs.declared.Scene.{Scene}
-use Rattle.wf_scene.specs.Layers.{holds_rect}
-use Rattle.wf_stream.specs.Buffers.{Buffers, HasShape}
-use Rattle.wf_stream.specs.Streams.{KeptStream, StoreView, buffers_at}
-use Rattle.wf_calls.specs.declared.code.Code.TheVariants as code
-use Rattle.wf_calls.specs.declared.call.Job.{Job}
+use Rattle.wf_machine.proofs.Common.{◌≡◌, ◌≢◌, ℕ, suc, ◌+◌, ◌-◌, ◌^◌, ◌<◌, ◌≤◌, true, List, [], ◌∷◌, length, Option, Some, None, refl, sym}
+use Rattle.wf_machine.proofs.Common.{ap, ◌∙◌, arith, IsTrue, get_or, Ok, slice_get, nat_le, ℤ, list_all, option_map, IfSome, IsSomeAnd}
+use Rattle.wf_machine.proofs.Common.{and_parts, leb-true, lt-ltb, ints, length-map, nth, count_of, Size, Rgbx8, A8, has_sides, is_side}
+use Rattle.wf_machine.proofs.Common.{IsDrawn, Bitmap, image_of, Scene, holds_rect, Buffers, HasShape, KeptStream, buffers_at, Content, Port}
+use Rattle.wf_machine.proofs.Common.{State, mode_size, scene_of_port, screen_layer, begin_port, Images, Inside, AllFit, IsScreen, IsSound}
+use Rattle.wf_machine.proofs.Common.{state_of, AreShapedAs, port_of, running_of, MayStart, beginning_of}
+use Rattle.std.proofs.Common.{zero-add, nat_lt}
+use Rattle.std.proofs.lemmas.Bool.{le-leb}
 use Rattle.wf_calls.specs.declared.call.JobKind.TheVariants as kind
-use Rattle.wf_calls.specs.declared.reply.Payload.TheVariants as payload
-use Rattle.wf_calls.specs.declared.reply.Reply.{Reply}
-use Rattle.wf_model.specs.declared.Content.{Content}
-use Rattle.wf_model.specs.State.{Port, Running, State, mode_size}
-use Rattle.wf_model.specs.Display.{scene_of_port, screen_layer, whole_of}
-use Rattle.wf_model.specs.Frames.{begin_port, content_shape, latch, newest_images, scene_streams}
-use Rattle.wf_model.specs.Picture.{Fits, Images, LayerFits}
-use Rattle.wf_machine.specs.declared.frame.Frame.{Frame}
-use Rattle.wf_machine.specs.declared.parts.Parts.TheInside.{Inside}
+use Rattle.wf_model.specs.Display.{whole_of}
+use Rattle.wf_model.specs.Picture.{LayerFits}
 use Rattle.wf_machine.specs.declared.port.Port as declared
-use Rattle.wf_machine.specs.Fitting.{AllFit, IsScreen, PortsFit}
-use Rattle.wf_machine.specs.Inside.{IsSound, state_of}
-use Rattle.wf_machine.specs.Latching.{AreShapedAs}
-use Rattle.wf_machine.specs.Object.{IsAnswer}
-use Rattle.wf_machine.specs.Ports.{IsFrameImage, port_of, running_of}
 use Rattle.wf_machine.proofs.Begun.{shaped_at}
-use Rattle.wf_machine.proofs.Beginning.{HasBegun, IsGiven, answer_begun, job, latched_fit, left_begun, none_running, some_left}
 use Rattle.wf_machine.proofs.Places.{get_port, fits_at}
 use Rattle.wf_machine.proofs.Screening.{screen_at}
-use Rattle.wf_machine.specs.Starting.{MayStart, beginning_of}
 
 pub nth_next : (n : ℕ) (ps : List Port) → nth (n + 1) ps ≡ slice_get ps n
-nth_next n ps = let next : n + 1 ≡ suc n = omega arith in ap (λ (k : ℕ). nth k ps) next
+nth_next n ps = let next : n + 1 ≡ suc n = omega arith in ap (λ k. nth k ps) next
 
 -- the scene of a port fits what was taken of its screen
 
@@ -105,7 +75,7 @@ layer_fits number mode port ports streams numbered contents cs sides mode-is her
         let is : IsScreen b port = rw here at screen in
         let size-is : i.size ≡ mode = shape.size_is ∙ is.0 ∙ sym mode-is in
         let format-is : i.format ≡ Rgbx8 = shape.format_is ∙ is.1 in
-        ((λ mask. (let no = sym format-is ∙ mask in cc)), ap (λ (s : Size). holds_rect s (whole_of mode)) size-is ∙ holds_whole mode sides)
+        ((λ mask. (let no = sym format-is ∙ mask in cc)), ap (λ s. holds_rect s (whole_of mode)) size-is ∙ holds_whole mode sides)
 
     of_image : (o : Option Bitmap) → image_of number contents ≡ o
         → IfSome (image_of number contents) (λ i. (i.format ≢ A8) × IsTrue (holds_rect i.size (whole_of mode)))
@@ -116,13 +86,13 @@ layer_fits number mode port ports streams numbered contents cs sides mode-is her
 module _ (m : Inside) (s : State) (seen : state_of m ≡ s) (place : ℕ) (p : declared.Port) (p-is : p ≡ get_or m.ports.items place p)
     (within : place < length s.display.ports) where
   as_many : place < length m.ports.items
-  as_many = omega (arith, within, ap (λ (t : State). length t.display.ports) seen, length-map m.ports.items port_of)
+  as_many = omega (arith, within, ap (λ t. length t.display.ports) seen, length-map m.ports.items port_of)
 
   -- the port at a place, as the state has it
   pub port_here : slice_get s.display.ports place ≡ Some (port_of p)
   port_here =
-      sym (ap (λ (t : State). slice_get t.display.ports place) seen) ∙ get_port m.ports.items place p as_many
-      ∙ ap (λ (q : declared.Port). Some (port_of q)) (sym p-is)
+      sym (ap (λ t. slice_get t.display.ports place) seen) ∙ get_port m.ports.items place p as_many
+      ∙ ap (λ q. Some (port_of q)) (sym p-is)
 
   pub has_mode : IsSound m → 1 ≤ length p.modes.items
   has_mode sound = (fits_at (option_map running_of m.frame) m.ports.items place p as_many p-is sound.ports).some
@@ -138,6 +108,6 @@ module _ (m : Inside) (s : State) (seen : state_of m ≡ s) (place : ℕ) (p : d
         → begin_port port s ≡ Ok (Some (beginning_of (kind.Port (place + 1)) scene (place + 1) s))
     port_begins port counted free few =
         let found : nth (count_of port) s.display.ports ≡ Some (port_of p) =
-        ap (λ (n : ℕ). nth n s.display.ports) counted ∙ nth_next place s.display.ports ∙ port_here in
+        ap (λ n. nth n s.display.ports) counted ∙ nth_next place s.display.ports ∙ port_here in
         let some : nat_lt s.begun (2 ^ 64 - 1) ≡ true = lt-ltb s.begun (2 ^ 64 - 1) few in
         rw (found, free, some, counted, scene-is) refl

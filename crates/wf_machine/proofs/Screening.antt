@@ -1,36 +1,25 @@
 -- The screens of ports are streams of pixels.
-use Rattle.std.proofs.Common.{◌≡◌, ℕ, false, cond, ◌==◌, ℤ, List, [], ◌∷◌, map, Option, Some, None, refl, subst, ap}
-use Rattle.std.specs.Option.{option_map, IfSome}
-use Rattle.wf_words.specs.Keyed.{nth}
-use Rattle.wf_words.specs.Whole.{count_of}
-use Rattle.wf_pixel.specs.Choice.{is_a8}
-use Rattle.wf_stream.specs.Buffers.{Buffers}
-use Rattle.wf_stream.specs.Streams.{KeptStream, buffers_at, stream_at}
-use Rattle.wf_objects.specs.Fits.{IsOfPixels}
-use Rattle.wf_model.specs.declared.Content.{Content}
-use Rattle.wf_model.specs.State.{Port, State}
-use Rattle.wf_calls.specs.declared.call.Call.{Call}
+use Rattle.wf_machine.proofs.Common.{◌≡◌, ℕ, false, cond, ◌==◌, List, [], ◌∷◌, map, Option, Some, None, refl, subst, ap, option_map, IfSome}
+use Rattle.wf_machine.proofs.Common.{nth, count_of, is_a8, Buffers, KeptStream, buffers_at, stream_at, IsOfPixels, Content, Port, State}
+use Rattle.wf_machine.proofs.Common.{Call, screen_of, Inside, AllFit, IsScreen, contents_of, IsSound, state_of, port_of, running_of}
+use Rattle.wf_machine.proofs.Common.{by_number}
+use Rattle.std.proofs.Common.{ℤ}
 use Rattle.wf_calls.specs.declared.call.Call.TheVariants as call
-use Rattle.wf_model.specs.Composing.{declared_screen, screen_of}
-use Rattle.wf_machine.specs.declared.parts.Parts.TheInside.{Inside}
-use Rattle.wf_machine.specs.Fitting.{AllFit, IsScreen, contents_of}
-use Rattle.wf_machine.specs.Inside.{IsSound, state_of}
-use Rattle.wf_machine.specs.Ports.{port_of, running_of}
-use Rattle.wf_words.specs.Once.{by_number}
+use Rattle.wf_model.specs.Composing.{declared_screen}
 
 -- the stream of a port's number is its screen
 pub screen_at : (n : ℕ) (ports : List Port) (cs : List Content) (ss : List KeptStream) → AllFit ports cs ss
     → IfSome (buffers_at n ss) (λ b. IfSome (nth n ports) (IsScreen b))
 screen_at n ports cs [] fits = tt
 screen_at n ports cs (s ∷ ss) fits =
-    by_number (IfSome (option_map (λ (t : KeptStream). t.buffers) (cond (s.number == n) (Some s) (stream_at n ss)))
+    by_number (IfSome (option_map (λ t. t.buffers) (cond (s.number == n) (Some s) (stream_at n ss)))
     (λ b. IfSome (nth n ports) (IsScreen b))) s.number n
-    (λ at same. rw at (subst (λ (k : ℕ). IfSome (nth k ports) (IsScreen s.buffers)) same fits.0.screen))
+    (λ at same. rw at (subst (λ k. IfSome (nth k ports) (IsScreen s.buffers)) same fits.0.screen))
     (λ apart. rw apart (screen_at n ports cs ss fits.1))
 
 pub screen_pixels : (m : Inside) (s : State) → state_of m ≡ s → IsSound m → (port : ℤ)
     → IfSome (declared_screen port s) (IsOfPixels m.store.streams)
-screen_pixels m s seen sound port = subst (λ (t : State). IfSome (declared_screen port t) (IsOfPixels m.store.streams)) seen
+screen_pixels m s seen sound port = subst (λ t. IfSome (declared_screen port t) (IsOfPixels m.store.streams)) seen
     (of_port (nth n ports) refl)
   where
     n : ℕ
@@ -50,7 +39,7 @@ screen_pixels m s seen sound port = subst (λ (t : State). IfSome (declared_scre
         let all = screen_at (count_of port) (map port_of m.ports.items) (contents_of (option_map running_of m.frame))
         m.store.streams sound.streams in
         let this : IfSome (buffers_at (count_of port) m.store.streams) (λ b. IfSome (Some p) (IsScreen b)) =
-        subst (λ (o : Option Port). IfSome (buffers_at (count_of port) m.store.streams) (λ b. IfSome o (IsScreen b))) some all in
+        subst (λ o. IfSome (buffers_at (count_of port) m.store.streams) (λ b. IfSome o (IsScreen b))) some all in
         rw some (pixels p (buffers_at (count_of port) m.store.streams) this)
 
 -- the screen that a call asks for is one of pixels

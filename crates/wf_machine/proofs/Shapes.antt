@@ -1,18 +1,7 @@
 -- The contents of a Job that has the shape of the running frame: the images of the frame's streams, each once.
-use Rattle.std.proofs.Common.{◌≡◌, ℕ, suc, ◌+◌, Bool, true, false, cond, ◌==◌, List, [], ◌∷◌, length, Option, Some, None, refl, sym, ap}
-use Rattle.std.proofs.Common.{subst, ◌∙◌, arith}
-use Rattle.std.specs.Prelude.{find}
-use Rattle.std.specs.List.{list_all}
-use Rattle.std.specs.Option.{option_map, IsSomeAnd}
-use Rattle.std.proofs.lemmas.Bool.{and_parts, eq-eqb}
-use Rattle.std.proofs.lemmas.Bool.Decides.{nat_tests}
-use Rattle.wf_image.specs.Bitmap.{Bitmap}
-use Rattle.wf_image.specs.Contents.{image_of}
-use Rattle.wf_model.specs.declared.Content.{Content}
-use Rattle.wf_model.specs.Frames.{has_shape}
-use Rattle.wf_model.specs.Picture.{Images}
-use Rattle.wf_machine.specs.Fitting.{AreOnce, content_at}
-use Rattle.wf_words.specs.Once.{by_number}
+use Rattle.wf_machine.proofs.Common.{◌≡◌, ℕ, suc, ◌+◌, Bool, true, false, cond, ◌==◌, List, [], ◌∷◌, length, Option, Some, None, refl, sym}
+use Rattle.wf_machine.proofs.Common.{ap, subst, ◌∙◌, arith, find, list_all, option_map, IsSomeAnd, and_parts, eq-eqb, nat_tests, Bitmap}
+use Rattle.wf_machine.proofs.Common.{image_of, Content, has_shape, Images, AreOnce, content_at, by_number}
 
 -- the first image of a stream is taken out
 abbrev without : ℕ → Images → Images
@@ -48,9 +37,9 @@ others_stay : (n m : ℕ) (xs : Images) → (n == m) ≡ false → image_of m (w
 others_stay n m [] other = refl
 others_stay n m (p ∷ xs) other =
     let at : Bool → Images
-    → Option Bitmap = λ b ys. option_map (λ (q : ℕ × Bitmap). q.1) (cond b (Some p) (find (λ (q : ℕ × Bitmap). q.0 == m) ys)) in
+    → Option Bitmap = λ b ys. option_map (λ q. q.1) (cond b (Some p) (find (λ q. q.0 == m) ys)) in
     by_number (image_of m (cond (p.0 == n) xs (p ∷ without n xs)) ≡ at (p.0 == m) xs) p.0 n
-    (λ here same. (let no : (p.0 == m) ≡ false = ap (λ (k : ℕ). k == m) same ∙ other in rw (here, no) refl))
+    (λ here same. (let no : (p.0 == m) ≡ false = ap (λ k. k == m) same ∙ other in rw (here, no) refl))
     (λ apart. rw apart (elim (p.0 == m) as (λ b. at b (without n xs) ≡ at b xs) [ true ↦ refl | false ↦ others_stay n m xs other ]))
 
 -- what holds of all but the first image of a stream, and of that
@@ -61,7 +50,7 @@ back fs n (p ∷ xs) first rest =
     by_number (AreOf fs (p ∷ xs)) p.0 n
     (λ here same. (
     let found : image_of n (p ∷ xs) ≡ Some p.1 = rw here refl in
-    (subst (λ (k : ℕ). IsSomeAnd (content_at k fs) (λ c. IsOfShape c p.1)) (sym same) (first p.1 found), rw here at rest)))
+    (subst (λ k. IsSomeAnd (content_at k fs) (λ c. IsOfShape c p.1)) (sym same) (first p.1 found), rw here at rest)))
     (λ apart. (
     let both : AreOf fs (p ∷ without n xs) = rw apart at rest in
     (both.0, back fs n xs (λ i found. first i (rw apart found)) both.1)))
@@ -72,7 +61,7 @@ apart_back n (p ∷ xs) none rest =
     by_number (Apart (p ∷ xs)) p.0 n
     (λ here same. (
     let behind : image_of n xs ≡ None = rw here at none in
-    (ap (λ (k : ℕ). image_of k xs) same ∙ behind, rw here at rest)))
+    (ap (λ k. image_of k xs) same ∙ behind, rw here at rest)))
     (λ apart. (
     let both : Apart (p ∷ without n xs) = rw apart at rest in
     let gone : image_of n (p ∷ without n xs) ≡ None = rw apart at none in
@@ -84,7 +73,7 @@ none_of : (fs : List Content) (n : ℕ) (xs : Images) → content_at n fs ≡ No
 none_of fs n [] none are = refl
 none_of fs n (p ∷ xs) none are =
     by_number (image_of n (p ∷ xs) ≡ None) p.0 n
-    (λ here same. (let gone : content_at p.0 fs ≡ None = ap (λ (k : ℕ). content_at k fs) same ∙ none in absurd (rw gone at are.0)))
+    (λ here same. (let gone : content_at p.0 fs ≡ None = ap (λ k. content_at k fs) same ∙ none in absurd (rw gone at are.0)))
     (λ apart. rw apart (none_of fs n xs none are.1))
 
 -- one stream more
@@ -92,7 +81,7 @@ more_of : (c : Content) (fs : List Content) (xs : Images) → content_at c.strea
 more_of c fs [] none are = tt
 more_of c fs (p ∷ xs) none are = (
   by_number (IsSomeAnd (cond (c.stream == p.0) (Some c) (content_at p.0 fs)) (λ d. IsOfShape d p.1)) c.stream p.0
-      (λ here same. (let gone : content_at p.0 fs ≡ None = ap (λ (k : ℕ). content_at k fs) (sym same) ∙ none in absurd (rw gone at are.0)))
+      (λ here same. (let gone : content_at p.0 fs ≡ None = ap (λ k. content_at k fs) (sym same) ∙ none in absurd (rw gone at are.0)))
       (λ apart. rw apart are.0),
   more_of c fs xs none are.1,
 )
@@ -127,7 +116,7 @@ all_of (c ∷ fs) xs once many there =
         let here : (n == n) ≡ true = eq-eqb n n refl in
         let shape : IsOfShape c i = rw is at first in
         let this : (j : Bitmap) → image_of n xs ≡ Some j → IsSomeAnd (content_at n (c ∷ fs)) (λ d. IsOfShape d j) =
-        (λ j found. (let same : i ≡ j = cc (is, found) in rw here (subst (λ (k : Bitmap). IsOfShape c k) same shape))) in (
+        (λ j found. (let same : i ≡ j = cc (is, found) in rw here (subst (λ k. IsOfShape c k) same shape))) in (
           back (c ∷ fs) n xs this (more_of c fs (without n xs) once.0 deeper.0),
           apart_back n xs (none_of fs n (without n xs) once.0 deeper.0) deeper.1,
         )
@@ -138,6 +127,6 @@ none_there n [] xs there none = refl
 none_there n (c ∷ fs) xs there none =
     let each = and_parts (has_shape (image_of c.stream xs) c) (all_there fs xs) there in
     by_number (cond (c.stream == n) (Some c) (content_at n fs) ≡ None) c.stream n
-    (λ here same. absurd (let gone : image_of c.stream xs ≡ None = ap (λ (k : ℕ). image_of k xs) same ∙ none in
+    (λ here same. absurd (let gone : image_of c.stream xs ≡ None = ap (λ k. image_of k xs) same ∙ none in
     let no : has_shape None c ≡ true = rw gone at each.0 in cc))
     (λ apart. rw apart (none_there n fs xs each.1 none))

@@ -1,30 +1,19 @@
 -- What holds of the machine holds after each call on streams.
-use Rattle.std.proofs.Common.{◌≡◌, ℕ, ◌+◌, ◌≤◌, true, false, ◌||◌, ◌==◌, List, [], ◌∷◌, ◌++◌, length, map, cond, Option, Some, None, refl}
-use Rattle.std.proofs.Common.{sym, ap, subst, ◌∙◌, arith}
-use Rattle.std.specs.Prelude.{nat_le, nat_lt, ℤ, pos, negsuc, ◌&&◌}
-use Rattle.std.specs.Option.{option_map, IfSome}
-use Rattle.std.proofs.lemmas.Bool.{and_from, and_parts, ltb-false}
-use Rattle.std.proofs.lemmas.List.{length-map}
+use Rattle.wf_machine.proofs.Common.{◌≡◌, ℕ, ◌+◌, ◌≤◌, true, false, ◌||◌, ◌==◌, List, [], ◌∷◌, ◌++◌, length, map, cond, Option, Some, None}
+use Rattle.wf_machine.proofs.Common.{refl, sym, ap, subst, ◌∙◌, arith, nat_le, nat_lt, ℤ, pos, negsuc, option_map, IfSome, and_parts}
+use Rattle.wf_machine.proofs.Common.{length-map, count_of, Size, Format, has_sides, is_side, Buffers, buffer_bytes, fresh, KeptStream}
+use Rattle.wf_machine.proofs.Common.{StoreView, buffers_at, change_stream, held, stream_at, unnamed, with_live_stream, JobKind, Reply, Port}
+use Rattle.wf_machine.proofs.Common.{Running, State, bare, done, refusal, refused, new_buffers, size_from, stream_new, stream_step, Inside}
+use Rattle.wf_machine.proofs.Common.{FrameFits, IsOfTarget, KindFits, contents_of, IsSound, state_of, port_of, running_of}
+use Rattle.std.specs.Prelude.{◌&&◌}
+use Rattle.std.proofs.lemmas.Bool.{and_from, ltb-false}
 use Rattle.std.proofs.lemmas.List.Sums.{sum_by_push}
-use Rattle.wf_words.specs.Whole.{count_of}
-use Rattle.wf_pixel.specs.declared.Size.{Size}
-use Rattle.wf_pixel.specs.declared.Format.{Format}
-use Rattle.wf_pixel.specs.Choice.{has_sides, is_between, is_side}
+use Rattle.wf_pixel.specs.Choice.{is_between}
 use Rattle.wf_life.specs.Handles.{is_full}
-use Rattle.wf_stream.specs.Buffers.{Buffers, buffer_bytes, fresh}
-use Rattle.wf_stream.specs.Streams.{KeptStream, StoreView, buffers_at, change_stream, has_no_room, held, stream_at, unnamed}
-use Rattle.wf_stream.specs.Streams.{with_live_stream}
+use Rattle.wf_stream.specs.Streams.{has_no_room}
 use Rattle.wf_calls.specs.declared.code.Code.TheVariants as code
-use Rattle.wf_calls.specs.declared.call.JobKind.{JobKind}
 use Rattle.wf_calls.specs.declared.call.JobKind.TheVariants as kind
-use Rattle.wf_calls.specs.declared.reply.Reply.{Reply}
-use Rattle.wf_model.specs.State.{Port, Running, State}
-use Rattle.wf_calls.specs.Replies.{bare, done, refusal, refused}
-use Rattle.wf_model.specs.Streams.{may_make, is_wide_side, new_buffers, size_from, stream_made, stream_new, stream_step}
-use Rattle.wf_machine.specs.declared.parts.Parts.TheInside.{Inside}
-use Rattle.wf_machine.specs.Fitting.{FrameFits, IsOfTarget, KindFits, contents_of}
-use Rattle.wf_machine.specs.Inside.{IsSound, state_of}
-use Rattle.wf_machine.specs.Ports.{port_of, running_of}
+use Rattle.wf_model.specs.Streams.{may_make, is_wide_side, stream_made}
 use Rattle.wf_machine.proofs.Drawing.{frame_unnamed}
 use Rattle.wf_machine.proofs.Mapped.{SeenSame, bytes_mapped, changed_at, changed_keeps, numbered_mapped, seen_mapped, unnamed_keeps}
 use Rattle.wf_machine.proofs.StillComposed.{still_fits}
@@ -86,8 +75,8 @@ room new streams free =
 found_pushed : (n : ℕ) (ss : List KeptStream) (t : KeptStream) → SeenSame (buffers_at n ss) (buffers_at n (ss ++ t ∷ []))
 found_pushed n [] t b found = absurd cc
 found_pushed n (s ∷ ss) t b found =
-    elim (s.number == n) as (λ x. option_map (λ (u : KeptStream). u.buffers) (cond x (Some s) (stream_at n ss)) ≡ Some b
-    → (c : Buffers) × (option_map (λ (u : KeptStream). u.buffers) (cond x (Some s) (stream_at n (ss ++ t ∷ []))) ≡ Some c)
+    elim (s.number == n) as (λ x. option_map (λ u. u.buffers) (cond x (Some s) (stream_at n ss)) ≡ Some b
+    → (c : Buffers) × (option_map (λ u. u.buffers) (cond x (Some s) (stream_at n (ss ++ t ∷ []))) ≡ Some c)
     × (c.size ≡ b.size) × (c.format ≡ b.format)) [
       | true ↦ λ is. (b, is, refl, refl)
       | false ↦ λ is. found_pushed n ss t b is
@@ -102,9 +91,9 @@ frame_pushed ports ss t (Some f) fits = of_kind f.kind fits
         → IsOfTarget (buffers_at target (us ++ t ∷ [])) f.size f.format
     of_target target [] is = absurd is
     of_target target (s ∷ us) is =
-        elim (s.number == target) as (λ x. IsOfTarget (option_map (λ (u : KeptStream). u.buffers) (cond x (Some s) (stream_at target us)))
+        elim (s.number == target) as (λ x. IsOfTarget (option_map (λ u. u.buffers) (cond x (Some s) (stream_at target us)))
         f.size f.format
-        → IsOfTarget (option_map (λ (u : KeptStream). u.buffers) (cond x (Some s) (stream_at target (us ++ t ∷ [])))) f.size f.format) [
+        → IsOfTarget (option_map (λ u. u.buffers) (cond x (Some s) (stream_at target (us ++ t ∷ [])))) f.size f.format) [
           | true ↦ λ at. at
           | false ↦ λ at. of_target target us at
         ] is
@@ -133,7 +122,7 @@ sound_made m size format buffers sides free sound =
       small = omega (
         arith,
         room (fresh size format buffers) m.store.streams free,
-        sum_by_push (λ (s : KeptStream). buffer_bytes s.buffers) m.store.streams new,
+        sum_by_push (λ s. buffer_bytes s.buffers) m.store.streams new,
       );
       streams = all_push ports contents m.store.streams new sound.streams
           (new_fits ports contents m.store.numbered new few sound.known refl sides refl);
@@ -175,16 +164,16 @@ module _ (m : Inside) (s : State) (seen : state_of m ≡ s) (step : State → Re
   pub stays : (left : StoreView) (r was : Reply) → left ≡ m.store → r ≡ was → step (state_of m) was ≡ (state_of m, was)
       → step s r ≡ (state_of (record m { store = left }), r)
   stays left r was same answered is =
-      subst (λ (t : State). step t r ≡ (state_of (record m { store = left }), r)) seen
-      (ap (λ (x : Reply). step (state_of m) x) answered ∙ is
-      ∙ ap (λ (v : StoreView). (state_of (record m { store = v }), was)) (sym same)
-      ∙ ap (λ (x : Reply). (state_of (record m { store = left }), x)) (sym answered))
+      subst (λ t. step t r ≡ (state_of (record m { store = left }), r)) seen
+      (ap (λ x. step (state_of m) x) answered ∙ is
+      ∙ ap (λ v. (state_of (record m { store = v }), was)) (sym same)
+      ∙ ap (λ x. (state_of (record m { store = left }), x)) (sym answered))
 
   -- the store was left so
   pub leaves : (left now : StoreView) (r was : Reply) → left ≡ now → r ≡ was
       → step (state_of m) was ≡ (state_of (record m { store = now }), was) → step s r ≡ (state_of (record m { store = left }), r)
   leaves left now r was same answered is =
-      subst (λ (t : State). step t r ≡ (state_of (record m { store = left }), r)) seen
-      (ap (λ (x : Reply). step (state_of m) x) answered ∙ is
-      ∙ ap (λ (v : StoreView). (state_of (record m { store = v }), was)) (sym same)
-      ∙ ap (λ (x : Reply). (state_of (record m { store = left }), x)) (sym answered))
+      subst (λ t. step t r ≡ (state_of (record m { store = left }), r)) seen
+      (ap (λ x. step (state_of m) x) answered ∙ is
+      ∙ ap (λ v. (state_of (record m { store = v }), was)) (sym same)
+      ∙ ap (λ x. (state_of (record m { store = left }), x)) (sym answered))

@@ -1,40 +1,18 @@
 -- A frame that starts: its kind decides what it draws into and what its Job shows; the rest is one for all kinds.
-use Rattle.std.proofs.Common.{◌≡◌, ℕ, zero, suc, ◌+◌, ◌-◌, ◌^◌, ◌<◌, ◌≤◌, Bool, true, false, List, [], ◌∷◌, length, map, Option, Some, None}
-use Rattle.std.proofs.Common.{refl, sym, ap, subst, ◌∙◌, arith}
-use Rattle.std.specs.Prelude.{slice_get, Ok, ℤ}
-use Rattle.std.specs.List.{list_all}
-use Rattle.std.specs.Option.{option_map, IfSome, IsSomeAnd}
-use Rattle.std.proofs.lemmas.Bool.{and_parts}
-use Rattle.std.proofs.lemmas.List.{length-map}
-use Rattle.std.proofs.lemmas.List.Elements.{All-cons, All-nil}
+use Rattle.wf_machine.proofs.Common.{◌≡◌, ℕ, zero, suc, ◌+◌, ◌-◌, ◌<◌, Bool, true, false, List, [], ◌∷◌, length, map, Option, Some, None}
+use Rattle.wf_machine.proofs.Common.{refl, sym, ap, subst, ◌∙◌, arith, slice_get, option_map, IfSome, IsSomeAnd, and_parts, length-map}
+use Rattle.wf_machine.proofs.Common.{All-cons, All-nil, is_in, nth, Rgba8Pre, has_sides, is_a8, is_side, Bitmap, blank, Scene, Buffers}
+use Rattle.wf_machine.proofs.Common.{acquired, is_blocked, latched_if, KeptStream, StoreView, buffers_at, gives_job, Job, JobKind}
+use Rattle.wf_machine.proofs.Common.{scene_of_port, screen_layer, Beginning, content_shape, drawing, latch, latched_among, newest_images}
+use Rattle.wf_machine.proofs.Common.{scene_streams, start, target_ready, Images, Port, Running, State, mode_size, Frame, Inside, KindFits}
+use Rattle.wf_machine.proofs.Common.{PortsFit, away_of, IsSound, state_of, AreShapedAs, IsAnswer, IsOfSomePort, SameImage, HoldsBut}
+use Rattle.wf_machine.proofs.Common.{IsFrameImage, port_of, running_of, IsReady, MayStart, beginning_of}
+use Rattle.std.specs.Prelude.{Ok}
 use Rattle.std.proofs.lemmas.Option.{slice_get_within}
-use Rattle.wf_words.specs.Keyed.{is_in, nth}
-use Rattle.wf_pixel.specs.declared.Format.{Format}
-use Rattle.wf_pixel.specs.declared.Format.TheVariants.{Rgba8Pre}
-use Rattle.wf_pixel.specs.declared.Size.{Size}
-use Rattle.wf_pixel.specs.Choice.{has_sides, is_a8, is_side}
-use Rattle.wf_image.specs.Bitmap.{Bitmap, blank}
-use Rattle.wf_scene.specs.declared.Scene.{Scene}
-use Rattle.wf_stream.specs.Buffers.{Buffers, acquired, is_blocked, latched_if}
-use Rattle.wf_stream.specs.Streams.{KeptStream, StoreView, buffers_at, change_stream}
-use Rattle.wf_calls.specs.Replies.{gives_job}
-use Rattle.wf_calls.specs.declared.call.Job.{Job}
-use Rattle.wf_calls.specs.declared.call.JobKind.{JobKind}
 use Rattle.wf_calls.specs.declared.call.JobKind.TheVariants as kind
-use Rattle.wf_model.specs.Display.{scene_of_port, screen_layer}
-use Rattle.wf_model.specs.Frames.{Beginning, content_shape, drawing, latch, latched_among, newest_images, scene_streams, start}
-use Rattle.wf_model.specs.Frames.{target_ready}
-use Rattle.wf_model.specs.Picture.{Fits, Images, LayerFits}
-use Rattle.wf_model.specs.State.{Port, Running, State, mode_size}
-use Rattle.wf_machine.specs.declared.frame.Frame.{Frame}
-use Rattle.wf_machine.specs.declared.parts.Parts.TheInside.{Inside}
+use Rattle.wf_model.specs.Picture.{Fits, LayerFits}
 use Rattle.wf_machine.specs.declared.port.Port as declared
-use Rattle.wf_machine.specs.Fitting.{IsComposable, KindFits, PortsFit, away_of}
-use Rattle.wf_machine.specs.Inside.{IsSound, state_of}
-use Rattle.wf_machine.specs.Latching.{AreShapedAs}
-use Rattle.wf_machine.specs.Object.{IsAnswer, IsOfSomePort, SameImage}
-use Rattle.wf_machine.specs.Ports.{HoldsBut, IsFrameImage, port_of, running_of}
-use Rattle.wf_machine.specs.Starting.{IsReady, IsTargetOf, MayStart, beginning_of, format_for}
+use Rattle.wf_machine.specs.Starting.{IsTargetOf, format_for}
 use Rattle.wf_machine.proofs.Beginning.{HasBegun, IsGiven, answer_begun, latched_fit, left_begun}
 use Rattle.wf_machine.proofs.ContextFrames.{changed_here, composable_kept, is_ready, latched_here, latched_if_out, target_of}
 use Rattle.wf_machine.proofs.Drawable.{scene_shows}
@@ -68,7 +46,7 @@ module _ (handle target : ℕ) (scene : Scene) (ss : List KeptStream) (b : Buffe
       → image ≡ blank scene.size (format_for (kind.Context handle target) ss)
   target_image image ports is =
       let there : image ≡ blank late.size late.format = rw late_at at is in
-      there ∙ ap (λ (x : Size). blank x late.format) late_size ∙ ap (λ (f : Format). blank scene.size f) (late_format ∙ sym format_is)
+      there ∙ ap (λ x. blank x late.format) late_size ∙ ap (λ f. blank scene.size f) (late_format ∙ sym format_is)
 
   target_fits : (ports : List Port)
       → KindFits ports (drawing (kind.Context handle target) (latch (scene_streams scene) ss)) scene.size
@@ -87,7 +65,7 @@ pub all_home : (f : Running) (handle target : ℕ) → f.kind ≡ kind.Context h
 all_home f handle target is k [] fit = tt
 all_home f handle target is k (p ∷ ps) fit =
     let none : 0 ≡ away_of (Some f) k = rw is refl in
-    let images = subst (λ (n : ℕ). HoldsBut n p.modes.items p.images.items) none fit.0.images in
+    let images = subst (λ n. HoldsBut n p.modes.items p.images.items) none fit.0.images in
     (record { some = fit.0.some; sides = fit.0.sides; images = images }, all_home f handle target is (k + 1) ps fit.1)
 
 -- what is known of the machine before a frame that may start
@@ -102,7 +80,7 @@ module _ (was : Inside) (scene : Scene) (value : ℕ) (sound : IsSound was) (fre
   seen_ports = map port_of was.ports.items
 
   at_home : PortsFit None 1 was.ports.items
-  at_home = subst (λ (o : Option Frame). PortsFit (option_map running_of o) 1 was.ports.items) free sound.ports
+  at_home = subst (λ o. PortsFit (option_map running_of o) 1 was.ports.items) free sound.ports
 
   port_within : (port : ℕ) → IsSomeAnd (slice_get seen_ports (port - 1)) (λ p. scene ≡ scene_of_port port p)
       → port - 1 < length was.ports.items
@@ -134,10 +112,10 @@ module _ (was : Inside) (scene : Scene) (value : ℕ) (sound : IsSound was) (fre
       let same = target_image handle target scene was.store.streams found.0 found.1 found.2 image seen_ports is in
       let format : format_for (kind.Context handle target) was.store.streams ≡ found.0.format =
       format_is handle target scene was.store.streams found.0 found.1 found.2 in (
-        ap (λ (i : Bitmap). i.size) same,
-        ap (λ (i : Bitmap). i.format) same,
+        ap (λ i. i.size) same,
+        ap (λ i. i.format) same,
         same,
-        ap (λ (i : Bitmap). is_a8 i.format) same
+        ap (λ i. is_a8 i.format) same
             ∙ ap is_a8 format ∙ found.3,
       )
   suited (kind.Port port) image may is = of_port (slice_get seen_ports (port - 1)) is may.1
@@ -146,7 +124,7 @@ module _ (was : Inside) (scene : Scene) (value : ℕ) (sound : IsSound was) (fre
           → IsSomeAnd o (λ p. scene ≡ scene_of_port port p) → IsSuited (kind.Port port) image
       of_port None shaped shown = absurd shown
       of_port (Some p) shaped shown =
-          let size = shaped.0 ∙ sym (ap (λ (s : Scene). s.size) shown) in
+          let size = shaped.0 ∙ sym (ap (λ s. s.size) shown) in
           (size, shaped.1, (size, shaped.1), ap is_a8 shaped.1)
 
   -- the image belongs to what it is taken from
@@ -162,8 +140,8 @@ module _ (was : Inside) (scene : Scene) (value : ℕ) (sound : IsSound was) (fre
       of_port None at shown = absurd shown
       of_port (Some p) at shown =
           let next : port - 1 + 1 ≡ port = omega (arith, may.0) in
-          let here : nth port seen_ports ≡ Some p = ap (λ (n : ℕ). nth n seen_ports) (sym next) ∙ nth_next (port - 1) seen_ports ∙ at in
-          rw here (ap (λ (s : Scene). s.size) shown, refl)
+          let here : nth port seen_ports ≡ Some p = ap (λ n. nth n seen_ports) (sym next) ∙ nth_next (port - 1) seen_ports ∙ at in
+          rw here (ap (λ s. s.size) shown, refl)
 
   pub some_port : (k : JobKind) → MayStart k scene (state_of was) → IsOfSomePort k
   some_port (kind.Context handle target) may = tt
@@ -198,18 +176,18 @@ module _ (was now : Inside) (k : JobKind) (scene : Scene) (value : ℕ) (latched
   b = beginning_of k scene value (state_of was)
 
   streams_are : latched.streams ≡ latch (scene_streams scene) was.store.streams
-  streams_are = ap (λ (v : StoreView). v.streams) s.latched_is
+  streams_are = ap (λ v. v.streams) s.latched_is
 
   taken_image : IsTargetOf (latch (scene_streams scene) was.store.streams) (map port_of was.ports.items) k image
-  taken_image = subst (λ (ss : List KeptStream). IsTargetOf ss (map port_of was.ports.items) k image) streams_are s.image_is
+  taken_image = subst (λ ss. IsTargetOf ss (map port_of was.ports.items) k image) streams_are s.image_is
 
   image_shape : IsSuited was scene value s.sound s.free k image
   image_shape = suited was scene value s.sound s.free k image s.may taken_image
 
   shaped_contents : AreShapedAs (latch (scene_streams scene) was.store.streams) contents
   shaped_contents =
-      subst (λ (c : Images). AreShapedAs (latch (scene_streams scene) was.store.streams) c) (sym s.contents_are)
-      (subst (λ (ss : List KeptStream). AreShapedAs ss images) streams_are s.shaped)
+      subst (λ c. AreShapedAs (latch (scene_streams scene) was.store.streams) c) (sym s.contents_are)
+      (subst (λ ss. AreShapedAs ss images) streams_are s.shaped)
 
   pub begun : HasBegun was now b frame contents
   begun =
@@ -227,7 +205,7 @@ module _ (was now : Inside) (k : JobKind) (scene : Scene) (value : ℕ) (latched
         kind_is = s.kind_is;
         size = s.size ∙ image_shape.0;
         format_is = s.format ∙ image_shape.1;
-        shapes = s.shapes ∙ ap (λ (c : Images). map content_shape c) (sym s.contents_are);
+        shapes = s.shapes ∙ ap (λ c. map content_shape c) (sym s.contents_are);
         own = own was scene value s.sound s.free k s.may;
       }
 
@@ -235,14 +213,14 @@ module _ (was now : Inside) (k : JobKind) (scene : Scene) (value : ℕ) (latched
   shown_fits : (j : JobKind) → k ≡ j → Fits scene contents
   shown_fits (kind.Context handle target) is =
       let may : MayStart (kind.Context handle target) scene (state_of was) =
-      subst (λ (x : JobKind). MayStart x scene (state_of was)) is s.may in
+      subst (λ x. MayStart x scene (state_of was)) is s.may in
       let fit = latched_fit was now b frame contents begun s.sound in
       let there = composable_kept was.store.streams (latch (scene_streams scene) was.store.streams) target scene
       (λ n. seen_mapped (latched_among (scene_streams scene)) (latch_keeps (scene_streams scene)) n was.store.streams) may.0 in
       scene_shows (map port_of was.ports.items) (map content_shape (newest_images (scene_streams scene) was.store.streams))
       (latch (scene_streams scene) was.store.streams) contents fit shaped_contents target scene there
   shown_fits (kind.Port port) is =
-      let may : MayStart (kind.Port port) scene (state_of was) = subst (λ (x : JobKind). MayStart x scene (state_of was)) is s.may in
+      let may : MayStart (kind.Port port) scene (state_of was) = subst (λ x. MayStart x scene (state_of was)) is s.may in
       of_port (slice_get (map port_of was.ports.items) (port - 1)) refl may.1
     where
       sides_of : (p : Port) (ps : List declared.Port) (i n : ℕ) → PortsFit (option_map running_of was.frame) n ps
@@ -251,7 +229,7 @@ module _ (was now : Inside) (k : JobKind) (scene : Scene) (value : ℕ) (latched
       sides_of p [] i n fit at = absurd cc
       sides_of p (q ∷ ps) zero n fit at =
           let same : port_of q ≡ p = cc in
-          subst (λ (r : Port). has_sides (mode_size 1 r.modes) ≡ true) same (first_sides q.modes.items fit.0.some fit.0.sides)
+          subst (λ r. has_sides (mode_size 1 r.modes) ≡ true) same (first_sides q.modes.items fit.0.some fit.0.sides)
       sides_of p (q ∷ ps) (suc i) n fit at = sides_of p ps i (n + 1) fit.1 at
 
       of_port : (o : Option Port) → slice_get (map port_of was.ports.items) (port - 1) ≡ o → IsSomeAnd o (λ p. scene ≡ scene_of_port port p)
@@ -261,18 +239,18 @@ module _ (was now : Inside) (k : JobKind) (scene : Scene) (value : ℕ) (latched
           let sides = sides_of p was.ports.items (port - 1) 1 s.sound.ports at in
           let each = and_parts (is_side (mode_size 1 p.modes).w) (is_side (mode_size 1 p.modes).h) sides in
           let layer = screen_layer port (mode_size 1 p.modes) (mode_size 1 p.modes) in
-          let next : port - 1 + 1 ≡ port = omega (arith, (subst (λ (x : JobKind). MayStart x scene (state_of was)) is s.may).0) in
-          let here : nth port (map port_of was.ports.items) ≡ Some p = ap (λ (n : ℕ). nth n (map port_of was.ports.items)) (sym next)
+          let next : port - 1 + 1 ≡ port = omega (arith, (subst (λ x. MayStart x scene (state_of was)) is s.may).0) in
+          let here : nth port (map port_of was.ports.items) ≡ Some p = ap (λ n. nth n (map port_of was.ports.items)) (sym next)
           ∙ nth_next (port - 1) (map port_of was.ports.items) ∙ at in
           let fit = layer_fits port (mode_size 1 p.modes) p (map port_of was.ports.items) (latch (scene_streams scene) was.store.streams)
           was.store.numbered contents (map content_shape (newest_images (scene_streams scene) was.store.streams)) sides refl here
           (latched_fit was now b frame contents begun s.sound) shaped_contents in
           let fits : Fits (scene_of_port port p) contents =
           record { w = each.0; h = each.1; layers = All-cons (LayerFits contents) layer [] fit (All-nil (LayerFits contents)) } in
-          subst (λ (x : Scene). Fits x contents) (sym shown) fits
+          subst (λ x. Fits x contents) (sym shown) fits
 
   pub left : (h : State) → state_of was ≡ h → state_of now ≡ (start (beginning_of k scene value h) h).0
-  left h seen = subst (λ (t : State). state_of now ≡ (start (beginning_of k scene value t) t).0) seen
+  left h seen = subst (λ t. state_of now ≡ (start (beginning_of k scene value t) t).0) seen
       (left_begun was now b frame contents begun s.sound)
 
   pub answers : (h : State) → state_of was ≡ h → (given : Job) → given.number ≡ was.begun + 1 → given.kind ≡ k → given.scene ≡ scene
@@ -285,10 +263,10 @@ module _ (was now : Inside) (k : JobKind) (scene : Scene) (value : ℕ) (latched
         scene_is = scene_is;
         contents_are = contents_are;
         image = rw given_image image_shape.2;
-        size = ap (λ (i : Bitmap). i.size) given_image ∙ image_shape.0;
-        four = ap (λ (i : Bitmap). is_a8 i.format) given_image ∙ image_shape.3;
+        size = ap (λ i. i.size) given_image ∙ image_shape.0;
+        four = ap (λ i. is_a8 i.format) given_image ∙ image_shape.3;
         port = some_port was scene value s.sound s.free k s.may;
         fits = shown_fits k refl;
       } in
-      subst (λ (t : State). IsAnswer (start (beginning_of k scene value t) t).1 (gives_job value given)) seen
+      subst (λ t. IsAnswer (start (beginning_of k scene value t) t).1 (gives_job value given)) seen
       (answer_begun was now b frame contents begun s.sound given is)

@@ -1,16 +1,9 @@
 -- What is done, and then dropped where it was carried out, is the step.
-use Rattle.std.proofs.Common.{◌≡◌, ℕ, Bool, true, false, not, refl, sym, ap, subst, ◌∙◌}
-use Rattle.wf_calls.specs.declared.call.Call.{Call}
-use Rattle.wf_calls.specs.declared.reply.Reply.{Reply}
-use Rattle.wf_calls.specs.declared.code.Code.{Code}
-use Rattle.wf_calls.specs.Codes.{is_ok_code, is_out_of_memory}
-use Rattle.wf_calls.specs.Parts.{Register, no_register, of_device, register_of}
+use Rattle.wf_machine.proofs.Common.{◌≡◌, ℕ, Bool, true, false, not, refl, sym, ap, subst, ◌∙◌, Call, Reply, Code, is_ok_code}
+use Rattle.wf_machine.proofs.Common.{is_out_of_memory, Register, no_register, of_device, register_of, settle_if, offered, State, act, step}
+use Rattle.wf_machine.proofs.Common.{IsAct, IsSettled, IsStep}
 use Rattle.wf_model.specs.Effects.{refused_leaves}
-use Rattle.wf_model.specs.Names.{settle, settle_if}
-use Rattle.wf_model.specs.Registers.{offered}
-use Rattle.wf_model.specs.State.{State}
-use Rattle.wf_model.specs.Step.{act, step}
-use Rattle.wf_machine.specs.Object.{IsAct, IsRefusal, IsSettled, IsStep, after}
+use Rattle.wf_machine.specs.Object.{IsRefusal}
 use Rattle.wf_machine.proofs.Dropping.{settled}
 
 not_ok : (b : Bool) → not b ≡ true → b ≡ false
@@ -21,7 +14,7 @@ not_ok false is = refl
 refusal_of : (h : State) (c : Call) (left : State) (r : Reply) → IsAct h c left r → IsRefusal h left c r.code
 refusal_of h c left r acts refused =
     acts.left_is ∙ refused_leaves h c (is_out_of_memory r.code) (ap is_ok_code (sym acts.answer.code) ∙ not_ok (is_ok_code r.code) refused)
-    ∙ ap (λ (x : Code). offered (register_of c) x h) (sym acts.answer.code)
+    ∙ ap (λ x. offered (register_of c) x h) (sym acts.answer.code)
 
 -- what has a name still has it where a register takes a code
 settled_offered : (register : Register) (refused : Code) (h : State) → IsSettled h → IsSettled (offered register refused h)
@@ -40,11 +33,11 @@ module _ (h : State) (client : ℕ) (c : Call) (left : State) (r : Reply) (acts 
   unfolding step
   stepped now is =
       record {
-        after_is = is ∙ ap (λ (t : State). settle_if (is_ok_code r.code) t) acts.left_is
-            ∙ sym (ap (λ (b : Bool). settle_if b done.0) code_is);
+        after_is = is ∙ ap (λ t. settle_if (is_ok_code r.code) t) acts.left_is
+            ∙ sym (ap (λ b. settle_if b done.0) code_is);
         answer = acts.answer;
         settled = λ named. subst IsSettled (sym is) (settled_if named (is_ok_code r.code) refl);
-        refused = λ refused. is ∙ ap (λ (b : Bool). settle_if b left) (not_ok (is_ok_code r.code) refused) ∙ left_so refused;
+        refused = λ refused. is ∙ ap (λ b. settle_if b left) (not_ok (is_ok_code r.code) refused) ∙ left_so refused;
       }
     where
       left_so : not (is_ok_code r.code) ≡ true → left ≡ offered (register_of c) r.code h
@@ -56,4 +49,4 @@ module _ (h : State) (client : ℕ) (c : Call) (left : State) (r : Reply) (acts 
 
 -- what is done to a state is done to the state that is seen there
 pub acts : (h was : State) → was ≡ h → (c : Call) (left : State) (r : Reply) → IsAct was c left r → IsAct h c left r
-acts h was seen c left r done = subst (λ (t : State). IsAct t c left r) seen done
+acts h was seen c left r done = subst (λ t. IsAct t c left r) seen done

@@ -1,19 +1,13 @@
 -- The objects of composition fit the store still where the streams that they name keep their shapes.
-use Rattle.std.proofs.Common.{◌≡◌, ℕ, ◌≤◌, Bool, true, false, ◌==◌, ◌||◌, List, [], ◌∷◌, ◌++◌, map, flat_map, Option, Some, None, refl, ap}
-use Rattle.std.proofs.Common.{◌∙◌, arith}
-use Rattle.std.specs.List.{AllByRecursion}
-use Rattle.std.specs.Option.{IsSomeAnd}
-use Rattle.std.proofs.lemmas.Bool.{eq-eqb}
-use Rattle.std.proofs.lemmas.List.Folds.{list_any-append}
-use Rattle.wf_words.specs.Keyed.{is_in}
-use Rattle.wf_pixel.specs.Choice.{is_a8}
-use Rattle.wf_life.specs.Handles.{IsRising, Live}
-use Rattle.wf_stream.specs.Buffers.{Buffers}
-use Rattle.wf_stream.specs.Streams.{KeptStream, StoreView, buffers_at}
-use Rattle.wf_scene.specs.declared.Layer.{Layer}
-use Rattle.wf_model.specs.Objects.{Context, CoreState, Source}
-use Rattle.wf_model.specs.Names.{context_names, core_names, layer_names}
-use Rattle.wf_objects.specs.Fits.{ContextFits, Fits, HandlesFit, LayerFits, Shows, StreamsFit}
+use Rattle.wf_machine.proofs.Common.{◌≡◌, ℕ, ◌≤◌, Bool, true, false, ◌==◌, ◌||◌, List, [], ◌∷◌, ◌++◌, map, Option, Some, None, refl, ap}
+use Rattle.wf_machine.proofs.Common.{◌∙◌, arith, AllByRecursion, IsSomeAnd, eq-eqb, list_any-append, is_in, is_a8, Live, Buffers}
+use Rattle.wf_machine.proofs.Common.{KeptStream, StoreView, buffers_at, Layer, Context, CoreState, core_names, layer_names, ContextFits}
+use Rattle.wf_machine.proofs.Common.{Fits, LayerFits}
+use Rattle.std.proofs.Common.{flat_map}
+use Rattle.wf_life.specs.Handles.{IsRising}
+use Rattle.wf_model.specs.Objects.{Source}
+use Rattle.wf_model.specs.Names.{context_names}
+use Rattle.wf_objects.specs.Fits.{HandlesFit, Shows, StreamsFit}
 use Rattle.wf_machine.proofs.Mapped.{SeenSame}
 
 -- numbers in lists
@@ -25,10 +19,10 @@ pub in_behind : (n x : ℕ) (ns : List ℕ) → is_in n ns ≡ true → is_in n 
 in_behind n x ns within = elim (x == n) as (λ b. (b || is_in n ns) ≡ true) [ true ↦ refl | false ↦ within ]
 
 pub in_front : (n : ℕ) (ns ms : List ℕ) → is_in n ns ≡ true → is_in n (ns ++ ms) ≡ true
-in_front n ns ms within = list_any-append (λ (x : ℕ). x == n) ns ms ∙ ap (λ (b : Bool). b || is_in n ms) within
+in_front n ns ms within = list_any-append (λ x. x == n) ns ms ∙ ap (λ b. b || is_in n ms) within
 
 pub in_back : (n : ℕ) (ns ms : List ℕ) → is_in n ms ≡ true → is_in n (ns ++ ms) ≡ true
-in_back n ns ms within = list_any-append (λ (x : ℕ). x == n) ns ms ∙ ap (λ (b : Bool). is_in n ns || b) within ∙ or_true (is_in n ns)
+in_back n ns ms within = list_any-append (λ x. x == n) ns ms ∙ ap (λ b. is_in n ns || b) within ∙ or_true (is_in n ns)
   where
     or_true : (b : Bool) → (b || true) ≡ true
     or_true true = refl
@@ -45,11 +39,11 @@ some_kept P Q None p same gives is = absurd is
 some_kept P Q (Some b) p same gives is = let there = same b refl in rw there.1 (gives b there.0 there.2 there.3 is)
 
 module _ (old new : List KeptStream) where
-  sources_kept : (mask : Bool) (ss : List Source) → KeepsNamed (map (λ (s : Source). s.stream) ss) old new
+  sources_kept : (mask : Bool) (ss : List Source) → KeepsNamed (map (λ s. s.stream) ss) old new
       → AllByRecursion (Shows mask old) ss → AllByRecursion (Shows mask new) ss
   sources_kept mask [] keeps fit = tt
   sources_kept mask (s ∷ ss) keeps fit =
-      let behind = map (λ (t : Source). t.stream) ss in (
+      let behind = map (λ t. t.stream) ss in (
         some_kept (λ b. is_a8 b.format ≡ mask) (λ b. is_a8 b.format ≡ mask) (buffers_at s.stream old) (buffers_at s.stream new)
             (keeps s.stream (in_first s.stream behind)) (λ b c size format is. ap is_a8 format ∙ is) fit.0,
         sources_kept mask ss (λ n within. keeps n (in_behind n s.stream behind within)) fit.1,
@@ -95,8 +89,8 @@ module _ (old new : List KeptStream) where
 
   streams_kept : (core : CoreState) → KeepsNamed (core_names core) old new → StreamsFit core old → StreamsFit core new
   streams_kept core keeps fit =
-      let sources = map (λ (s : Source). s.stream) core.sources in
-      let masks = map (λ (m : Source). m.stream) core.masks in
+      let sources = map (λ s. s.stream) core.sources in
+      let masks = map (λ m. m.stream) core.masks in
       let contexts = flat_map context_names core.contexts in
       record {
         sources =

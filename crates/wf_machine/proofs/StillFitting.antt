@@ -1,17 +1,11 @@
 -- Streams fit still when one is added or its buffers change.
-use Rattle.std.proofs.Common.{◌≡◌, ℕ, zero, suc, ◌+◌, ◌<◌, ◌≤◌, true, false, cond, ◌==◌, List, [], ◌∷◌, ◌++◌, length, map, Option, Some}
-use Rattle.std.proofs.Common.{None, refl, sym, ◌∙◌, arith}
+use Rattle.wf_machine.proofs.Common.{◌≡◌, ℕ, zero, suc, ◌+◌, ◌<◌, ◌≤◌, true, false, cond, ◌==◌, List, [], ◌∷◌, ◌++◌, length, map, Option}
+use Rattle.wf_machine.proofs.Common.{Some, None, refl, sym, ◌∙◌, arith, nat_tests, nth, has_sides, Buffers, acquired, discarded, posted}
+use Rattle.wf_machine.proofs.Common.{KeptStream, IsNumbered, change_stream, unnamed, Bitmap, Content, Port, AllFit, AreNumbered, IsRead}
+use Rattle.wf_machine.proofs.Common.{IsScreen, StreamFits, content_at}
 use Rattle.std.specs.Prelude.{IfSome}
-use Rattle.std.proofs.lemmas.Bool.Decides.{nat_tests}
 use Rattle.std.proofs.lemmas.Option.{slice_get_past}
-use Rattle.wf_words.specs.Keyed.{nth}
-use Rattle.wf_pixel.specs.Choice.{has_sides}
-use Rattle.wf_stream.specs.Buffers.{Buffers, acquired, discarded, never, posted}
-use Rattle.wf_stream.specs.Streams.{KeptStream, IsNumbered, change_stream, unnamed}
-use Rattle.wf_image.specs.Bitmap.{Bitmap}
-use Rattle.wf_model.specs.declared.Content.{Content}
-use Rattle.wf_model.specs.State.{Port}
-use Rattle.wf_machine.specs.Fitting.{AllFit, AreNumbered, IsRead, IsScreen, StreamFits, content_at}
+use Rattle.wf_stream.specs.Buffers.{never}
 use Rattle.wf_machine.proofs.Latches.{KeepsShape}
 
 -- a change of buffers that keeps the size, the format, the number of buffers and what is read

@@ -1,22 +1,12 @@
 -- The images that a frame takes are of streams that stand once each.
-use Rattle.std.proofs.Common.{◌≡◌, ◌∙◌, ℕ, Bool, true, false, cond, ◌==◌, ◌||◌, List, [], ◌∷◌, map, Option, Some, None}
-use Rattle.std.proofs.Common.{flat_map, refl, sym, ap, subst}
-use Rattle.wf_words.specs.Keyed.{is_in}
-use Rattle.wf_words.specs.Once.{NoneTwice, once_none_twice}
-use Rattle.wf_image.specs.Bitmap.{Bitmap}
-use Rattle.wf_stream.specs.Streams.{KeptStream, stream_at}
-use Rattle.wf_calls.specs.declared.call.Call.{Call}
-use Rattle.wf_calls.specs.declared.code.Code.{Code}
-use Rattle.wf_calls.specs.declared.reply.Reply.{Reply}
-use Rattle.wf_calls.specs.Parts.{Register, no_register, of_device, register_of}
+use Rattle.wf_machine.proofs.Common.{◌≡◌, ◌∙◌, ℕ, Bool, true, false, ◌==◌, ◌||◌, List, [], ◌∷◌, map, Option, Some, None, refl, sym, ap}
+use Rattle.wf_machine.proofs.Common.{subst, is_in, NoneTwice, once_none_twice, Bitmap, KeptStream, stream_at, Call, Code, Reply, Register}
+use Rattle.wf_machine.proofs.Common.{no_register, of_device, register_of, Effect, effect, Beginning, content_shape, job_of, newest_images}
+use Rattle.wf_machine.proofs.Common.{newest_of, scene_streams, layer_names, offered, Running, State, act, step}
+use Rattle.std.proofs.Common.{flat_map}
 use Rattle.wf_machine.specs.Begun.{TakesOnce}
-use Rattle.wf_model.specs.Effects.{Effect, effect}
 use Rattle.wf_model.specs.Effects.{acquires, begins, composes, ends, makes, refuses, returns, tells, unnames}
-use Rattle.wf_model.specs.Frames.{Beginning, content_shape, job_of, newest_images, newest_of, running_of, scene_streams}
-use Rattle.wf_model.specs.Names.{layer_names}
-use Rattle.wf_model.specs.Registers.{offered}
-use Rattle.wf_model.specs.State.{Running, State}
-use Rattle.wf_model.specs.Step.{act, step}
+use Rattle.wf_model.specs.Frames.{running_of}
 
 -- the numbers of the images that streams of these numbers have
 abbrev taken : List ℕ → List KeptStream → List ℕ
@@ -61,18 +51,18 @@ module _ (h : State) (c : Call) (x : State × Reply) (free : h.frame ≡ None) (
   not_so same = absurd (let no : None ≡ Some f = sym free ∙ sym same ∙ runs in cc)
 
   by_effect : Effect h c x → TakesOnce f
-  by_effect (refuses honest left) = not_so (ap (λ (s : State). s.frame) left ∙ offered_frame (register_of c) x.1.code)
-  by_effect (composes made core value is) = not_so (ap (λ (y : State × Reply). y.0.frame) is)
-  by_effect (makes new is) = not_so (ap (λ (y : State × Reply). y.0.frame) is)
-  by_effect (unnames handle is) = not_so (ap (λ (y : State × Reply). y.0.frame) is)
-  by_effect (acquires handle s at is) = not_so (ap (λ (y : State × Reply). y.0.frame) is)
-  by_effect (returns canvas g way out is) = not_so (ap (λ (y : State × Reply). y.0.frame) is)
+  by_effect (refuses honest left) = not_so (ap (λ s. s.frame) left ∙ offered_frame (register_of c) x.1.code)
+  by_effect (composes made core value is) = not_so (ap (λ y. y.0.frame) is)
+  by_effect (makes new is) = not_so (ap (λ y. y.0.frame) is)
+  by_effect (unnames handle is) = not_so (ap (λ y. y.0.frame) is)
+  by_effect (acquires handle s at is) = not_so (ap (λ y. y.0.frame) is)
+  by_effect (returns canvas g way out is) = not_so (ap (λ y. y.0.frame) is)
   by_effect (begins b free' begun is) =
-      let same : Some (running_of (job_of b h)) ≡ Some f = sym (ap (λ (y : State × Reply). y.0.frame) is) ∙ runs in
+      let same : Some (running_of (job_of b h)) ≡ Some f = sym (ap (λ y. y.0.frame) is) ∙ runs in
       let this : running_of (job_of b h) ≡ f = cc in
       subst TakesOnce this (begun_once b h)
   by_effect (ends job g call_is at own is) = absurd (let no : None ≡ Some g = sym free ∙ at in cc)
-  by_effect (tells value is) = not_so (ap (λ (y : State × Reply). y.0.frame) is)
+  by_effect (tells value is) = not_so (ap (λ y. y.0.frame) is)
 
 pub takes_once : (h : State) (client : ℕ) (c : Call) (m : Bool) (f : Running) → h.frame ≡ None → (step h client c m).0.frame ≡ Some f
     → TakesOnce f

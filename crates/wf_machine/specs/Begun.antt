@@ -1,5 +1,5 @@
 -- What a frame takes when it begins.
-use Rattle.std.specs.Prelude.{ℕ, List, map}
+use Rattle.std.specs.Prelude.{map}
 use Rattle.wf_words.specs.Once.{NoneTwice}
 use Rattle.wf_model.specs.State.{Running}
 

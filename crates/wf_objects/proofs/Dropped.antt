@@ -10,7 +10,7 @@ use Rattle.wf_life.specs.Handles.{Live, IsRising, is_live, same_kind, without, r
 use Rattle.wf_stream.specs.Streams.{StoreView}
 use Rattle.wf_scene.specs.Cached as cached
 use Rattle.wf_scene.specs.Cached.{handle_of, handles, has_element}
-use Rattle.wf_model.specs.Objects.{Context, CoreState, Device, Source}
+use Rattle.wf_model.specs.Objects.{Context, CoreState}
 use Rattle.wf_model.specs.Core.{without_source}
 use Rattle.wf_objects.specs.Fits.{ContextFits, Fits, HandlesFit, HasElements, Shows, context_live, element_live, has_owner, of_kind}
 use Rattle.wf_objects.specs.Fits.{device_live, elements_of}
@@ -57,12 +57,12 @@ abbrev pub under : (h : ℕ) (k : Kind) (made : ℕ) (others : List Live) (l : L
     → find (λ x. (x.handle == h) && same_kind x.kind k) others ≡ Some l → IsUnder h k others
 under h k made others l rising found =
     let parts = and_parts (l.handle == h) (same_kind l.kind k)
-    (passes (λ (x : Live). (x.handle == h) && same_kind x.kind k) others l found) in
-    let there = found_above (λ (x : Live). x.handle) (λ (x : Live). (x.handle == h) && same_kind x.kind k) 0 others l
+    (passes (λ x. (x.handle == h) && same_kind x.kind k) others l found) in
+    let there = found_above (λ x. x.handle) (λ x. (x.handle == h) && same_kind x.kind k) 0 others l
     (rises_live 0 made others rising) found in
     record {
       object = l;
-      found = ap (λ n. find (λ (x : Live). x.handle == n) others) (sym (eqb-true l.handle h parts.0)) ∙ there.1;
+      found = ap (λ n. find (λ x. x.handle == n) others) (sym (eqb-true l.handle h parts.0)) ∙ there.1;
       kind_is = same_is l.kind k parts.1;
     }
 
@@ -73,9 +73,9 @@ object_under k g h made xs others rising is any = of_found (find (λ x. (x.handl
   where
     some : is_some (find (λ x. (x.handle == h) && same_kind x.kind k) others) ≡ true
     some =
-        ap is_some (find_filtered (λ (l : Live). l.handle == h) (λ (l : Live). same_kind l.kind k) others
-        ∙ ap (find (λ (l : Live). l.handle == h)) is)
-        ∙ sym (any_found (λ (l : Live). l.handle == h) (map g xs)) ∙ any_mapped (λ (l : Live). l.handle == h) g xs ∙ any
+        ap is_some (find_filtered (λ l. l.handle == h) (λ l. same_kind l.kind k) others
+        ∙ ap (find (λ l. l.handle == h)) is)
+        ∙ sym (any_found (λ l. l.handle == h) (map g xs)) ∙ any_mapped (λ l. l.handle == h) g xs ∙ any
 
     of_found : (o : Option Live) → find (λ x. (x.handle == h) && same_kind x.kind k) others ≡ o → is_some o ≡ true → IsUnder h k others
     of_found None at there = absurd cc
@@ -88,7 +88,7 @@ no_element true = refl
 
 -- what is under a handle lives
 pub lives : (h : ℕ) (k : Kind) (others : List Live) → IsUnder h k others → is_live h others ≡ true
-lives h k others u = any_found (λ (l : Live). l.handle == h) others ∙ ap is_some u.found
+lives h k others u = any_found (λ l. l.handle == h) others ∙ ap is_some u.found
 
 -- without the object of a handle
 abbrev pub dead : ℕ → StoreView → StoreView
@@ -100,26 +100,26 @@ module _ (core : CoreState) (store : StoreView) (fits : HandlesFit core store) (
   stays q fails = left_out q h 0 store.others u.object (rises_live 0 store.made store.others fits.rising) u.found (fails u.object u.kind_is)
 
   other_kind : (j : Kind) → same_kind k j ≡ false → of_kind j (without h store.others) ≡ of_kind j store.others
-  other_kind j other = stays (λ (l : Live). same_kind l.kind j) (λ l is. ap (λ (i : Kind). same_kind i j) is ∙ other)
+  other_kind j other = stays (λ l. same_kind l.kind j) (λ l is. ap (λ i. same_kind i j) is ∙ other)
 
   elements_stay : same_kind k kind.Element ≡ false → AllByRecursion (HasElements (without h store.others)) core.contexts
   elements_stay other =
       each_other (HasElements store.others) (HasElements (without h store.others))
-      (λ c has. stays (λ (l : Live). same_kind l.kind kind.Element && (l.key == c.handle))
-      (λ l is. ap (λ (i : Kind). same_kind i kind.Element && (l.key == c.handle)) is ∙ ap (λ b. b && (l.key == c.handle)) other) ∙ has)
+      (λ c has. stays (λ l. same_kind l.kind kind.Element && (l.key == c.handle))
+      (λ l is. ap (λ i. same_kind i kind.Element && (l.key == c.handle)) is ∙ ap (λ b. b && (l.key == c.handle)) other) ∙ has)
       core.contexts fits.elements
 
   owned_stay : list_all (has_owner core.contexts) (without h store.others) ≡ true
-  owned_stay = all_filtered (has_owner core.contexts) (λ (l : Live). not (l.handle == h)) store.others fits.owned
+  owned_stay = all_filtered (has_owner core.contexts) (λ l. not (l.handle == h)) store.others fits.owned
 
   pub loses : is_of_composition k ≡ true → same_kind k kind.DisplaySource ≡ false → Loses store (dead h store)
   loses ours other =
       record {
         rest = refl;
-        others = stays (λ (l : Live). not (is_of_composition l.kind)) (λ l is. ap (λ (i : Kind). not (is_of_composition i)) is
+        others = stays (λ l. not (is_of_composition l.kind)) (λ l is. ap (λ i. not (is_of_composition i)) is
             ∙ ap not ours);
-        display = count_stays (λ (l : Live). same_kind l.kind kind.DisplaySource) h 0 store.others u.object
-            (rises_live 0 store.made store.others fits.rising) u.found (ap (λ (i : Kind). same_kind i kind.DisplaySource) u.kind_is
+        display = count_stays (λ l. same_kind l.kind kind.DisplaySource) h 0 store.others u.object
+            (rises_live 0 store.made store.others fits.rising) u.found (ap (λ i. same_kind i kind.DisplaySource) u.kind_is
             ∙ other);
       }
 
@@ -155,10 +155,10 @@ module _ (core : CoreState) (store : StoreView) (fits : Fits core store) (h : �
       → Fits (with_links mask (without_source h (links mask core)) core) (dead h store)
   link_dropped mask u =
       links_fit core store fits store.made (without h store.others) mask (without_source h (links mask core)) (died (link_kind mask) u)
-      (taken_out (λ (l : Live). same_kind l.kind (link_kind mask)) (link_live mask) h (links mask core) store.others
+      (taken_out (λ l. same_kind l.kind (link_kind mask)) (link_live mask) h (links mask core) store.others
       (links_live core store fits.handles mask))
       (still_housed (link_kind mask) u (no_element mask))
-      (each_filtered (Shows mask store.streams) (λ (s : Source). not (s.handle == h)) (links mask core)
+      (each_filtered (Shows mask store.streams) (λ s. not (s.handle == h)) (links mask core)
       (links_show core store.streams fits.streams mask))
 
   pub link_loses : (mask : Bool) → IsUnder h (link_kind mask) store.others → Loses store (dead h store)
@@ -177,7 +177,7 @@ module _ (core : CoreState) (store : StoreView) (fits : Fits core store) (h plac
       ∙ has)
     where
       of_found : (o : Option Live) → find (λ x. (x.handle == h) && same_kind x.kind kind.Element) store.others ≡ o
-          → is_named (option_map (λ (l : Live). l.key) o) c.handle ≡ true → InContext
+          → is_named (option_map (λ l. l.key) o) c.handle ≡ true → InContext
       of_found None there is = absurd cc
       of_found (Some l) there is = (under h kind.Element store.made store.others l fits.handles.rising there, eqb-true l.key c.handle is)
 
@@ -189,23 +189,23 @@ module _ (core : CoreState) (store : StoreView) (fits : Fits core store) (h plac
       let rises = rises_live 0 store.made store.others fits.handles.rising in
       let has = each_at (HasElements store.others) core.contexts place c fits.handles.elements at in
       let fit = each_at (ContextFits store.streams) core.contexts place c fits.streams.contexts at in
-      let named : map (λ (y : Context). y.handle) (set core.contexts place left) ≡ map (λ (y : Context). y.handle) core.contexts =
-      map_set (λ (y : Context). y.handle) core.contexts place c left at refl in
+      let named : map (λ y. y.handle) (set core.contexts place left) ≡ map (λ y. y.handle) core.contexts =
+      map_set (λ y. y.handle) core.contexts place c left at refl in
       contexts_fit kind.Element refl refl refl core store fits store.made (without h store.others) (set core.contexts place left)
       (died core store fits h kind.Element u)
       (other_kind core store fits.handles h kind.Element u kind.Context refl ∙ fits.handles.contexts
       ∙ sym (map_set context_live core.contexts place c left at refl))
       (record {
         elements =
-            each_replaced (λ (y : Context). y.handle) (HasElements store.others) (HasElements (without h store.others)) 0
+            each_replaced (λ y. y.handle) (HasElements store.others) (HasElements (without h store.others)) 0
             core.contexts place c left (rises_contexts core store fits.handles) at
-            (λ z other held. left_out (λ (l : Live). same_kind l.kind kind.Element && (l.key == z.handle)) h 0 store.others u.object
+            (λ z other held. left_out (λ l. same_kind l.kind kind.Element && (l.key == z.handle)) h 0 store.others u.object
             rises u.found (elsewhere u.object z under_is.1 (λ equal. other (sym equal))) ∙ held) fits.handles.elements
-            (taken_out (λ (l : Live). same_kind l.kind kind.Element && (l.key == c.handle)) (element_live c.handle) h
+            (taken_out (λ l. same_kind l.kind kind.Element && (l.key == c.handle)) (element_live c.handle) h
             (handles c.cached.elements) store.others has
             ∙ ap (map (element_live c.handle)) (filter_mapped (λ n. not (n == h)) handle_of c.cached.elements));
         owned =
-            subst (λ (hs : List ℕ). list_all (λ (l : Live). not (same_kind l.kind kind.Element) || is_in l.key hs)
+            subst (λ hs. list_all (λ l. not (same_kind l.kind kind.Element) || is_in l.key hs)
             (without h store.others) ≡ true) (sym named)
             (owned_stay core store fits.handles h kind.Element u);
       })
@@ -221,12 +221,12 @@ module _ (core : CoreState) (store : StoreView) (fits : Fits core store) (h plac
 module _ (h : ℕ) where
   -- a context with another handle stays
   named_still : (n : ℕ) (cs : List Context) → (h == n) ≡ false
-      → is_in n (map (λ (c : Context). c.handle) (filter (λ c. not (c.handle == h)) cs)) ≡ is_in n (map (λ (c : Context). c.handle) cs)
+      → is_in n (map (λ c. c.handle) (filter (λ c. not (c.handle == h)) cs)) ≡ is_in n (map (λ c. c.handle) cs)
   named_still n cs other =
-      any_mapped (λ m. m == n) (λ (c : Context). c.handle) (filter (λ c. not (c.handle == h)) cs)
-      ∙ any_left (λ (c : Context). c.handle == n) (λ (c : Context). c.handle == h) (λ c is. ap (λ m. m == n) (eqb-true c.handle h is)
+      any_mapped (λ m. m == n) (λ c. c.handle) (filter (λ c. not (c.handle == h)) cs)
+      ∙ any_left (λ c. c.handle == n) (λ c. c.handle == h) (λ c is. ap (λ m. m == n) (eqb-true c.handle h is)
       ∙ other) cs
-      ∙ sym (any_mapped (λ m. m == n) (λ (c : Context). c.handle) cs)
+      ∙ sym (any_mapped (λ m. m == n) (λ c. c.handle) cs)
 
   owned_still : (cs : List Context) (others : List Live) → list_all (has_owner cs) others ≡ true → elements_of h others ≡ []
       → list_all (has_owner (filter (λ c. not (c.handle == h)) cs)) others ≡ true
@@ -242,14 +242,14 @@ module _ (h : ℕ) where
 
       by_tests : (elements_of h others ≡ [] → list_all (has_owner (filter (λ c. not (c.handle == h)) cs)) others ≡ true) → (a b : Bool)
           → same_kind l.kind kind.Element ≡ a → (l.key == h) ≡ b
-          → (not (same_kind l.kind kind.Element) || is_in l.key (map (λ (c : Context). c.handle) cs)) ≡ true
+          → (not (same_kind l.kind kind.Element) || is_in l.key (map (λ c. c.handle) cs)) ≡ true
           → cond (a && b) (l ∷ elements_of h others) (elements_of h others) ≡ []
-          → ((not (same_kind l.kind kind.Element) || is_in l.key (map (λ (c : Context). c.handle) (filter (λ c. not (c.handle == h)) cs)))
+          → ((not (same_kind l.kind kind.Element) || is_in l.key (map (λ c. c.handle) (filter (λ c. not (c.handle == h)) cs)))
           && list_all (has_owner (filter (λ c. not (c.handle == h)) cs)) others) ≡ true
       by_tests later false b is at owner empty = rw is (later empty)
       by_tests later true true is at owner empty = absurd cc
       by_tests later true false is at owner empty = rw (named_still l.key cs (turned l.key h at))
-          (and_from (not (same_kind l.kind kind.Element) || is_in l.key (map (λ (c : Context). c.handle) cs)) _ owner (later empty))
+          (and_from (not (same_kind l.kind kind.Element) || is_in l.key (map (λ c. c.handle) cs)) _ owner (later empty))
 
 module _ (core : CoreState) (store : StoreView) (fits : Fits core store) (h : ℕ) where
   pub context_under : list_any (λ c. c.handle == h) core.contexts ≡ true → IsUnder h kind.Context store.others
@@ -261,23 +261,23 @@ module _ (core : CoreState) (store : StoreView) (fits : Fits core store) (h : �
   context_dropped u none =
       contexts_fit kind.Context refl refl refl core store fits store.made (without h store.others) (but_context h core).contexts
       (died core store fits h kind.Context u)
-      (taken_out (λ (l : Live). same_kind l.kind kind.Context) context_live h core.contexts store.others fits.handles.contexts)
+      (taken_out (λ l. same_kind l.kind kind.Context) context_live h core.contexts store.others fits.handles.contexts)
       (record {
-        elements = each_filtered (HasElements (without h store.others)) (λ (c : Context). not (c.handle == h)) core.contexts
+        elements = each_filtered (HasElements (without h store.others)) (λ c. not (c.handle == h)) core.contexts
             (elements_stay core store fits.handles h kind.Context u refl);
-        owned = all_filtered (has_owner (but_context h core).contexts) (λ (l : Live). not (l.handle == h)) store.others
+        owned = all_filtered (has_owner (but_context h core).contexts) (λ l. not (l.handle == h)) store.others
             (owned_still h core.contexts store.others fits.handles.owned none);
       })
-      (each_filtered (ContextFits store.streams) (λ (c : Context). not (c.handle == h)) core.contexts fits.streams.contexts)
+      (each_filtered (ContextFits store.streams) (λ c. not (c.handle == h)) core.contexts fits.streams.contexts)
 
   pub device_under : list_any (λ x. x.handle == h) core.devices ≡ true → IsUnder h kind.Device store.others
   device_under any = object_under kind.Device device_live h store.made core.devices store.others fits.handles.rising fits.handles.devices
       any
 
   pub device_dropped : IsUnder h kind.Device store.others
-      → Fits (record core { devices = filter (λ (x : Device). not (x.handle == h)) core.devices }) (dead h store)
+      → Fits (record core { devices = filter (λ x. not (x.handle == h)) core.devices }) (dead h store)
   device_dropped u =
-      devices_fit core store fits store.made (without h store.others) (filter (λ (x : Device). not (x.handle == h)) core.devices)
+      devices_fit core store fits store.made (without h store.others) (filter (λ x. not (x.handle == h)) core.devices)
       (died core store fits h kind.Device u)
-      (taken_out (λ (l : Live). same_kind l.kind kind.Device) device_live h core.devices store.others fits.handles.devices)
+      (taken_out (λ l. same_kind l.kind kind.Device) device_live h core.devices store.others fits.handles.devices)
       (still_housed core store fits h kind.Device u refl)

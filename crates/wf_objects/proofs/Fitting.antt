@@ -21,7 +21,7 @@ use Rattle.wf_objects.specs.Links.{link_kind, link_live, links, with_links}
 pub register_fits : (d : ℕ) (f : Option Code → Option Code) (core new : CoreState) (store : StoreView) → new ≡ change_register d f core
     → Fits core store → Fits new store
 register_fits d f core new store is fits =
-    let named = map_change (λ (x : Device). x.handle) d (λ (x : Device). record x { register = f x.register }) device_live (λ x. refl)
+    let named = map_change (λ x. x.handle) d (λ x. record x { register = f x.register }) device_live (λ x. refl)
     core.devices in
     rw is (record {
       handles =
@@ -39,7 +39,7 @@ register_fits d f core new store is fits =
 
 -- the code of a register is taken out of it
 pub takes_error : (d : ℕ) (core new : CoreState) (store : StoreView) (x : Device) (n : ℕ) → Fits core store
-    → at_key (λ (x : Device). x.handle) d core.devices ≡ Some x → new ≡ change_register d (λ _. None) core → n ≡ register_number x.register
+    → at_key (λ x. x.handle) d core.devices ≡ Some x → new ≡ change_register d (λ _. None) core → n ≡ register_number x.register
     → Does (λ _. get_error d) core new store store (Ok n)
 takes_error d core new store x n fits at is number =
     let done : CoreState → ℕ → Outcome CoreSide = λ k m. (let both : CoreSide × ℕ = (side_of k store, m) in Ok both) in

@@ -1,6 +1,6 @@
 -- A creation: it is refused, or a new object fits with the handle that was made for it.
 use Rattle.std.proofs.Common.{◌≡◌, ℕ, zero, suc, ◌+◌, ◌≤◌, Bool, true, false, cond, not, ◌==◌, ◌&&◌, ◌||◌, List, [], ◌∷◌, ◌++◌, map, set}
-use Rattle.std.proofs.Common.{length, slice_get, Option, Some, None, option_map, Result, Ok, refl, sym, ap, subst, ◌∙◌, arith}
+use Rattle.std.proofs.Common.{length, slice_get, Some, None, option_map, Ok, refl, sym, ap, subst, ◌∙◌, arith}
 use Rattle.std.specs.List.{list_all, AllByRecursion}
 use Rattle.std.proofs.lemmas.Bool.{and_parts, eqb-true, eq-eqb, ne_eqb}
 use Rattle.std.proofs.lemmas.Bool.Decides.{nat_tests}
@@ -18,7 +18,6 @@ use Rattle.wf_model.specs.Outcome.{Outcome}
 use Rattle.wf_model.specs.Composition.{CoreSide, change_context, created, with_cached}
 use Rattle.wf_model.specs.Core.{room}
 use Rattle.wf_words.specs.Refusals.{◌>>=◌}
-use Rattle.wf_calls.specs.declared.reply.Refusal.{Refusal}
 use Rattle.std.specs.Prelude.{nat_le}
 use Rattle.wf_objects.specs.Does.{Does, element_made, in_place}
 use Rattle.wf_objects.proofs.Scenes.{placed_is}
@@ -58,14 +57,14 @@ module _ (core : CoreState) (store : StoreView) (fits : Fits core store) where
         Ok left) in
         record {
           case = is false ∙ ap (λ b. room b false (side_of core store) >>= after) below
-              ∙ ap (λ (x : Result (Unit {0}) Refusal). x >>= after) (sym given)
-              ∙ ap done (sym (count_left (λ (l : Live). same_kind l.kind kind.DisplaySource) store.others new other));
+              ∙ ap (λ x. x >>= after) (sym given)
+              ∙ ap done (sym (count_left (λ l. same_kind l.kind kind.DisplaySource) store.others new other));
           refused = tt;
           untouched = tt;
           kept = record {
             streams = refl;
             numbered = refl;
-            others = more_left (λ (l : Live). not (is_of_composition l.kind)) store.others new (ap not ours);
+            others = more_left (λ l. not (is_of_composition l.kind)) store.others new (ap not ours);
           };
           fits = fit;
         }
@@ -79,7 +78,7 @@ module _ (core : CoreState) (store : StoreView) (fits : Fits core store) where
   made_more k key =
       record {
         rising = rising_more 0 store.made store.others k key fits.handles.rising;
-        other = λ j other. more_left (λ (x : Live). same_kind x.kind j) store.others (live k next key) other;
+        other = λ j other. more_left (λ x. same_kind x.kind j) store.others (live k next key) other;
       }
 
   -- one that is of no element
@@ -88,7 +87,7 @@ module _ (core : CoreState) (store : StoreView) (fits : Fits core store) where
       record {
         elements =
             each_other (HasElements store.others) (HasElements (with_other k key store).others)
-            (λ c has. more_left (λ (x : Live). same_kind x.kind kind.Element && (x.key == c.handle)) store.others (live k next key)
+            (λ c has. more_left (λ x. same_kind x.kind kind.Element && (x.key == c.handle)) store.others (live k next key)
             (rw other refl) ∙ has) core.contexts fits.handles.elements;
         owned = all_more (has_owner core.contexts) store.others (live k next key) fits.handles.owned (rw other refl);
       }
@@ -97,8 +96,8 @@ module _ (core : CoreState) (store : StoreView) (fits : Fits core store) where
   of_kind_more : {A : Type 0} (k : Kind) (key : ℕ) (g : A → Live) (x : A) (xs : List A) → same_kind k k ≡ true
       → of_kind k store.others ≡ map g xs → g x ≡ live k next key → of_kind k (with_other k key store).others ≡ map g (xs ++ x ∷ [])
   of_kind_more k key g x xs same have is =
-      more_passed (λ (l : Live). same_kind l.kind k) store.others (live k next key) same
-      ∙ ap (λ (ls : List Live). ls ++ live k next key ∷ []) have ∙ ap (λ (l : Live). map g xs ++ l ∷ []) (sym is)
+      more_passed (λ l. same_kind l.kind k) store.others (live k next key) same
+      ∙ ap (λ ls. ls ++ live k next key ∷ []) have ∙ ap (λ l. map g xs ++ l ∷ []) (sym is)
       ∙ sym (map-append g xs (x ∷ []))
 
   pub device_fits : Fits (record core { devices = core.devices ++ record { handle = next; register = None } ∷ [] })
@@ -130,8 +129,8 @@ module _ (core : CoreState) (store : StoreView) (fits : Fits core store) where
   pub fresh : (c : Context) → HasElements store.others c → cached.has_element next c.cached ≡ false
   fresh c has =
       has_by_key core store fits.handles next c has
-      ∙ ap (λ (o : Option ℕ). is_named o c.handle) (ap (option_map (λ (l : Live). l.key))
-      (none_over (λ (l : Live). l.handle) (λ (l : Live). same_kind l.kind kind.Element) 0 store.made next store.others
+      ∙ ap (λ o. is_named o c.handle) (ap (option_map (λ l. l.key))
+      (none_over (λ l. l.handle) (λ l. same_kind l.kind kind.Element) 0 store.made next store.others
       fits.handles.rising (omega arith)))
 
   -- another element in the context at a place
@@ -145,35 +144,35 @@ module _ (core : CoreState) (store : StoreView) (fits : Fits core store) where
       let has = each_at (HasElements store.others) core.contexts place c fits.handles.elements at in
       let more = map-append handle_of c.cached.elements (new_element next ∷ []) in
       let fit = each_at (ContextFits store.streams) core.contexts place c fits.streams.contexts at in
-      let named : map (λ (y : Context). y.handle) (set core.contexts place grown) ≡ map (λ (y : Context). y.handle) core.contexts =
-      map_set (λ (y : Context). y.handle) core.contexts place c grown at refl in
+      let named : map (λ y. y.handle) (set core.contexts place grown) ≡ map (λ y. y.handle) core.contexts =
+      map_set (λ y. y.handle) core.contexts place c grown at refl in
       contexts_fit kind.Element refl refl refl core store fits next others (set core.contexts place grown)
       (made_more kind.Element c.handle)
-      (more_left (λ (l : Live). same_kind l.kind kind.Context) store.others new refl ∙ fits.handles.contexts
+      (more_left (λ l. same_kind l.kind kind.Context) store.others new refl ∙ fits.handles.contexts
       ∙ sym (map_set context_live core.contexts place c grown at refl))
       (record {
         elements =
-            each_replaced (λ (y : Context). y.handle) (HasElements store.others) (HasElements others) 0 core.contexts place c grown
+            each_replaced (λ y. y.handle) (HasElements store.others) (HasElements others) 0 core.contexts place c grown
             (rises_contexts core store fits.handles) at
-            (λ z other held. more_left (λ (l : Live). same_kind l.kind kind.Element && (l.key == z.handle)) store.others new
+            (λ z other held. more_left (λ l. same_kind l.kind kind.Element && (l.key == z.handle)) store.others new
             (ne_eqb c.handle z.handle (λ same. other (sym same))) ∙ held) fits.handles.elements
-            (more_passed (λ (l : Live). same_kind l.kind kind.Element && (l.key == c.handle)) store.others new
+            (more_passed (λ l. same_kind l.kind kind.Element && (l.key == c.handle)) store.others new
             (eq-eqb c.handle c.handle refl)
-            ∙ ap (λ (ls : List Live). ls ++ new ∷ []) has ∙ sym (ap (map (element_live c.handle)) more
+            ∙ ap (λ ls. ls ++ new ∷ []) has ∙ sym (ap (map (element_live c.handle)) more
             ∙ map-append (element_live c.handle) (handles c.cached.elements) (next ∷ [])));
         owned =
-            subst (λ (hs : List ℕ). list_all (λ (l : Live). not (same_kind l.kind kind.Element) || is_in l.key hs) others ≡ true)
+            subst (λ hs. list_all (λ l. not (same_kind l.kind kind.Element) || is_in l.key hs) others ≡ true)
             (sym named)
             (all_more (has_owner core.contexts) store.others new fits.handles.owned (stands core.contexts place at));
       })
       (each_set (ContextFits store.streams) core.contexts place grown fits.streams.contexts
       (record { target = fit.target; size = fit.size; layers = fit.layers }))
     where
-      stands : (cs : List Context) (i : ℕ) → slice_get cs i ≡ Some c → is_in c.handle (map (λ (y : Context). y.handle) cs) ≡ true
+      stands : (cs : List Context) (i : ℕ) → slice_get cs i ≡ Some c → is_in c.handle (map (λ y. y.handle) cs) ≡ true
       stands [] i here = absurd cc
-      stands (y ∷ cs) zero here = (let same : y ≡ c = cc in rw (eq-eqb y.handle c.handle (ap (λ (z : Context). z.handle) same)) refl)
+      stands (y ∷ cs) zero here = (let same : y ≡ c = cc in rw (eq-eqb y.handle c.handle (ap (λ z. z.handle) same)) refl)
       stands (y ∷ cs) (suc i) here = (let later = stands cs i here in
-          elim (y.handle == c.handle) as (λ b. (b || is_in c.handle (map (λ (z : Context). z.handle) cs))
+          elim (y.handle == c.handle) as (λ b. (b || is_in c.handle (map (λ z. z.handle) cs))
           ≡ true) [ true ↦ refl | false ↦ later ])
 
   pub element_creates : (place : ℕ) (c : Context) (at : slice_get core.contexts place ≡ Some c)
@@ -185,32 +184,32 @@ module _ (core : CoreState) (store : StoreView) (fits : Fits core store) where
       let grown = change_context c.handle (with_cached (cached.add next c.cached)) core in
       let is = placed_is core store fits place c at (with_cached (cached.add next c.cached)) in
       let now = with_other kind.Element c.handle store in
-      subst (λ (k : CoreState). Does (in_place place element_made) core k store now (Ok next)) is
+      subst (λ k. Does (in_place place element_made) core k store now (Ok next)) is
       (creates (in_place place element_made) (nat_le 64 (length c.cached.elements)) grown (λ m. rw at refl) kind.Element c.handle refl
-      refl below given (subst (λ (k : CoreState). Fits k now) (sym is) (element_fits place c at)))
+      refl below given (subst (λ k. Fits k now) (sym is) (element_fits place c at)))
 
   -- the contexts have handles that were given
   abbrev IsUnder : List Context → Type 0
-  IsUnder = AllByRecursion (λ (y : Context). y.handle ≤ store.made)
+  IsUnder = AllByRecursion (λ y. y.handle ≤ store.made)
 
   all_under : IsUnder core.contexts
   all_under =
-      of_live core.contexts (subst (λ (ls : List Live). AllByRecursion (λ (l : Live). l.handle ≤ store.made) ls) fits.handles.contexts
+      of_live core.contexts (subst (λ ls. AllByRecursion (λ l. l.handle ≤ store.made) ls) fits.handles.contexts
       (of_filter store.others (under_made 0 store.made store.others fits.handles.rising)))
     where
-      under_made : (low high : ℕ) (ls : List Live) → IsRising low ls high → AllByRecursion (λ (l : Live). l.handle ≤ high) ls
+      under_made : (low high : ℕ) (ls : List Live) → IsRising low ls high → AllByRecursion (λ l. l.handle ≤ high) ls
       under_made low high [] rising = tt
       under_made low high (l ∷ ls) rising = (last_under l.handle high ls rising.1, under_made l.handle high ls rising.1)
 
-      of_filter : (ls : List Live) → AllByRecursion (λ (l : Live). l.handle ≤ store.made) ls
-          → AllByRecursion (λ (l : Live). l.handle ≤ store.made) (of_kind kind.Context ls)
+      of_filter : (ls : List Live) → AllByRecursion (λ l. l.handle ≤ store.made) ls
+          → AllByRecursion (λ l. l.handle ≤ store.made) (of_kind kind.Context ls)
       of_filter [] all = tt
       of_filter (l ∷ ls) all =
           let later = of_filter ls all.1 in
-          elim (same_kind l.kind kind.Context) as (λ b. AllByRecursion (λ (x : Live). x.handle ≤ store.made)
+          elim (same_kind l.kind kind.Context) as (λ b. AllByRecursion (λ x. x.handle ≤ store.made)
           (cond b (l ∷ of_kind kind.Context ls) (of_kind kind.Context ls))) [ true ↦ (all.0, later) | false ↦ later ]
 
-      of_live : (cs : List Context) → AllByRecursion (λ (l : Live). l.handle ≤ store.made) (map context_live cs) → IsUnder cs
+      of_live : (cs : List Context) → AllByRecursion (λ l. l.handle ≤ store.made) (map context_live cs) → IsUnder cs
       of_live [] all = tt
       of_live (c ∷ cs) all = (all.0, of_live cs all.1)
 
@@ -222,8 +221,8 @@ module _ (core : CoreState) (store : StoreView) (fits : Fits core store) where
       parts : (has_owner core.contexts l ≡ true) × (list_all (has_owner core.contexts) others ≡ true)
       parts = and_parts (has_owner core.contexts l) (list_all (has_owner core.contexts) others) owned
 
-      absent : (cs : List Context) (low : ℕ) → Rises (λ (y : Context). y.handle) low cs → IsUnder cs
-          → is_in next (map (λ (y : Context). y.handle) cs) ≡ false
+      absent : (cs : List Context) (low : ℕ) → Rises (λ y. y.handle) low cs → IsUnder cs
+          → is_in next (map (λ y. y.handle) cs) ≡ false
       absent [] low up under = refl
       absent (y ∷ cs) low up under =
           let other : (y.handle == next) ≡ false = grind (arith, nat_tests, under.0) in
@@ -236,11 +235,11 @@ module _ (core : CoreState) (store : StoreView) (fits : Fits core store) where
       by_kind later true false is at owner = later
       by_kind later true true is at owner =
           let key : l.key ≡ next = eqb-true l.key next at in
-          let none : is_in l.key (map (λ (y : Context). y.handle) core.contexts) ≡ false =
-          ap (λ (n : ℕ). is_in n (map (λ (y : Context). y.handle) core.contexts)) key
+          let none : is_in l.key (map (λ y. y.handle) core.contexts) ≡ false =
+          ap (λ n. is_in n (map (λ y. y.handle) core.contexts)) key
           ∙ absent core.contexts 0 (rises_contexts core store fits.handles) all_under in
-          let both : (not true || is_in l.key (map (λ (y : Context). y.handle) core.contexts)) ≡ true =
-          ap (λ b. not b || is_in l.key (map (λ (y : Context). y.handle) core.contexts)) (sym is) ∙ owner in
+          let both : (not true || is_in l.key (map (λ y. y.handle) core.contexts)) ≡ true =
+          ap (λ b. not b || is_in l.key (map (λ y. y.handle) core.contexts)) (sym is) ∙ owner in
           let no = sym none ∙ both in absurd cc
 
   -- another context, without elements
@@ -251,7 +250,7 @@ module _ (core : CoreState) (store : StoreView) (fits : Fits core store) where
       let housed = still_housed kind.Context c.device refl in
       let here : elements_of c.handle others ≡ [] =
       ap (λ n. elements_of n others) handle
-      ∙ more_left (λ (l : Live). same_kind l.kind kind.Element && (l.key == next)) store.others (live kind.Context next c.device) refl
+      ∙ more_left (λ l. same_kind l.kind kind.Element && (l.key == next)) store.others (live kind.Context next c.device) refl
       ∙ unowned store.others fits.handles.owned in
       let handles_none : map (element_live c.handle) (handles c.cached.elements) ≡ [] =
       ap (λ es. map (element_live c.handle) (handles es)) none in
@@ -264,21 +263,21 @@ module _ (core : CoreState) (store : StoreView) (fits : Fits core store) where
       })
       (each_more (ContextFits store.streams) core.contexts c fits.streams.contexts fit)
     where
-      in_wider : (n : ℕ) (cs : List Context) → is_in n (map (λ (y : Context). y.handle) cs) ≡ true
-          → is_in n (map (λ (y : Context). y.handle) (cs ++ c ∷ [])) ≡ true
+      in_wider : (n : ℕ) (cs : List Context) → is_in n (map (λ y. y.handle) cs) ≡ true
+          → is_in n (map (λ y. y.handle) (cs ++ c ∷ [])) ≡ true
       in_wider n [] there = absurd cc
       in_wider n (y ∷ cs) there = by_test (in_wider n cs) (y.handle == n) there
         where
-          by_test : (is_in n (map (λ (z : Context). z.handle) cs) ≡ true → is_in n (map (λ (z : Context). z.handle) (cs ++ c ∷ [])) ≡ true)
-              → (b : Bool) → (b || is_in n (map (λ (z : Context). z.handle) cs)) ≡ true
-              → (b || is_in n (map (λ (z : Context). z.handle) (cs ++ c ∷ []))) ≡ true
+          by_test : (is_in n (map (λ z. z.handle) cs) ≡ true → is_in n (map (λ z. z.handle) (cs ++ c ∷ [])) ≡ true)
+              → (b : Bool) → (b || is_in n (map (λ z. z.handle) cs)) ≡ true
+              → (b || is_in n (map (λ z. z.handle) (cs ++ c ∷ []))) ≡ true
           by_test later true at = refl
           by_test later false at = later at
 
       wider : (l : Live) → has_owner core.contexts l ≡ true → has_owner (core.contexts ++ c ∷ []) l ≡ true
       wider l owner = by_kind (same_kind l.kind kind.Element) owner
         where
-          by_kind : (b : Bool) → (not b || is_in l.key (map (λ (y : Context). y.handle) core.contexts)) ≡ true
-              → (not b || is_in l.key (map (λ (y : Context). y.handle) (core.contexts ++ c ∷ []))) ≡ true
+          by_kind : (b : Bool) → (not b || is_in l.key (map (λ y. y.handle) core.contexts)) ≡ true
+              → (not b || is_in l.key (map (λ y. y.handle) (core.contexts ++ c ∷ []))) ≡ true
           by_kind false at = refl
           by_kind true at = in_wider l.key core.contexts at

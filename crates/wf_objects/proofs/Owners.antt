@@ -1,5 +1,5 @@
 -- The context at a place that was found is the one that the call names.
-use Rattle.std.proofs.Common.{◌≡◌, ℕ, ◌<◌, length, true, false, ◌&&◌, ◌||◌, ◌==◌, is_some, List, slice_get, slice_index_or, option_and_then}
+use Rattle.std.proofs.Common.{◌≡◌, ℕ, ◌<◌, length, true, false, ◌&&◌, ◌||◌, ◌==◌, is_some, slice_get, slice_index_or, option_and_then}
 use Rattle.std.proofs.Common.{Option, Some, None, IfSome, refl, sym, ap, ◌∙◌}
 use Rattle.std.specs.List.{list_any}
 use Rattle.std.proofs.lemmas.Bool.{and_parts, eqb-true}
@@ -22,7 +22,7 @@ module _ (d : ℕ) (core : CoreState) where
       of_context : (x : Option Context) → x ≡ of_device d h core.contexts → IfSome x (λ c. c.handle ≡ h)
       of_context None at = tt
       of_context (Some c) at = eqb-true c.handle h (and_parts (c.handle == h) (c.device == d)
-          (passes (λ (x : Context). (x.handle == h) && (x.device == d)) core.contexts c (sym at))).0
+          (passes (λ x. (x.handle == h) && (x.device == d)) core.contexts c (sym at))).0
 
   -- and one that was found by an element of the context in which it lives
   pub found_lives : (e : ℕ) (o : Option ℕ) → option_and_then (slice_get core.contexts) o ≡ of_element d e core.contexts
@@ -33,23 +33,23 @@ module _ (d : ℕ) (core : CoreState) where
       of_context : (x : Option Context) → x ≡ of_element d e core.contexts → IfSome x (λ c. has_element e c.cached ≡ true)
       of_context None at = tt
       of_context (Some c) at = (and_parts (c.device == d) (has_element e c.cached)
-          (passes (λ (x : Context). (x.device == d) && has_element e x.cached) core.contexts c (sym at))).1
+          (passes (λ x. (x.device == d) && has_element e x.cached) core.contexts c (sym at))).1
 
 -- the context that is read at a place
 pub standing : (view core : CoreState) (place : ℕ) (x y : Context) → view ≡ core → place < length core.contexts
     → x ≡ slice_index_or view.contexts place x → y ≡ x → slice_get core.contexts place ≡ Some y
 standing view core place x y is less read same =
     slice_get_read core.contexts (length core.contexts) place x refl less (read
-    ∙ ap (λ (cs : List Context). slice_index_or cs place x) (ap (λ (k : CoreState). k.contexts) is))
-    ∙ ap (λ (c : Context). Some c) (sym same)
+    ∙ ap (λ cs. slice_index_or cs place x) (ap (λ k. k.contexts) is))
+    ∙ ap (λ c. Some c) (sym same)
 
 -- a handle is 0 or that of an element, by the place that was found
 pub any_element : (d h : ℕ) (w : CoreSide) (o : Option ℕ) → (h == 0) ≡ false
     → option_and_then (slice_get w.core.contexts) o ≡ of_element d h w.core.contexts → IfSome o (λ place. place < length w.core.contexts)
     → is_some o ≡ is_element_or_0 d h w
 any_element d h w o other found less =
-    of_place o less ∙ ap is_some found ∙ sym (any_found (λ (c : Context). (c.device == d) && has_element h c.cached) w.core.contexts)
-    ∙ sym (ap (λ b. b || list_any (λ (c : Context). (c.device == d) && has_element h c.cached) w.core.contexts) other)
+    of_place o less ∙ ap is_some found ∙ sym (any_found (λ c. (c.device == d) && has_element h c.cached) w.core.contexts)
+    ∙ sym (ap (λ b. b || list_any (λ c. (c.device == d) && has_element h c.cached) w.core.contexts) other)
   where
     of_place : (p : Option ℕ) → IfSome p (λ place. place < length w.core.contexts)
         → is_some p ≡ is_some (option_and_then (slice_get w.core.contexts) p)

@@ -27,50 +27,50 @@ use Rattle.wf_objects.proofs.Scenes.{placed_is}
 
 -- the handle of the first source or mask of a context
 abbrev pub first_of : ℕ → List Source → Option ℕ
-first_of context sources = option_map (λ (s : Source). s.handle) (find (λ (s : Source). s.context == context) sources)
+first_of context sources = option_map (λ s. s.handle) (find (λ s. s.context == context) sources)
 
 -- it is that of a source
 pub record IsFirst (context handle : ℕ) (sources : List Source) : Type 0 where
   pub source : Source
-  pub found : find (λ (s : Source). s.context == context) sources ≡ Some source
+  pub found : find (λ s. s.context == context) sources ≡ Some source
   pub handle_is : source.handle ≡ handle
 
 pub first_is : (context handle : ℕ) (sources : List Source) → Some handle ≡ first_of context sources → IsFirst context handle sources
-first_is context handle sources is = of_found (find (λ (s : Source). s.context == context) sources) refl is
+first_is context handle sources is = of_found (find (λ s. s.context == context) sources) refl is
   where
-    of_found : (o : Option Source) → find (λ (s : Source). s.context == context) sources ≡ o
-        → Some handle ≡ option_map (λ (s : Source). s.handle) o → IsFirst context handle sources
+    of_found : (o : Option Source) → find (λ s. s.context == context) sources ≡ o
+        → Some handle ≡ option_map (λ s. s.handle) o → IsFirst context handle sources
     of_found None at told = absurd cc
     of_found (Some s) at told = record { source = s; found = at; handle_is = cc }
 
 pub none_is : (context : ℕ) (sources : List Source) → None ≡ first_of context sources → without_those_of context sources ≡ sources
-none_is context sources is = none_out (λ (s : Source). s.context == context) sources
-    (of_found (find (λ (s : Source). s.context == context) sources) is)
+none_is context sources is = none_out (λ s. s.context == context) sources
+    (of_found (find (λ s. s.context == context) sources) is)
   where
-    of_found : (o : Option Source) → None ≡ option_map (λ (s : Source). s.handle) o → o ≡ None
+    of_found : (o : Option Source) → None ≡ option_map (λ s. s.handle) o → o ≡ None
     of_found None told = refl
     of_found (Some s) told = absurd cc
 
-module _ (context handle : ℕ) (sources : List Source) (rises : Rises (λ (s : Source). s.handle) 0 sources)
+module _ (context handle : ℕ) (sources : List Source) (rises : Rises (λ s. s.handle) 0 sources)
     (first : IsFirst context handle sources) where
   -- it is found by its handle
-  by_handle : find (λ (s : Source). s.handle == handle) sources ≡ Some first.source
-  by_handle = ap (λ n. find (λ (s : Source). s.handle == n) sources) (sym first.handle_is)
-      ∙ (found_above (λ (s : Source). s.handle) (λ (s : Source). s.context == context) 0 sources first.source rises first.found).1
+  by_handle : find (λ s. s.handle == handle) sources ≡ Some first.source
+  by_handle = ap (λ n. find (λ s. s.handle == n) sources) (sym first.handle_is)
+      ∙ (found_above (λ s. s.handle) (λ s. s.context == context) 0 sources first.source rises first.found).1
 
-  pub first_lives : list_any (λ (s : Source). s.handle == handle) sources ≡ true
-  first_lives = any_found (λ (s : Source). s.handle == handle) sources ∙ ap is_some by_handle
+  pub first_lives : list_any (λ s. s.handle == handle) sources ≡ true
+  first_lives = any_found (λ s. s.handle == handle) sources ∙ ap is_some by_handle
 
   pub first_leaves : without_those_of context (without_source handle sources) ≡ without_those_of context sources
   first_leaves =
       ap (λ n. without_those_of context (without_source n sources)) (sym first.handle_is)
-      ∙ one_fewer (λ (s : Source). s.handle) (λ (s : Source). s.context == context) sources first.source rises first.found
+      ∙ one_fewer (λ s. s.handle) (λ s. s.context == context) sources first.source rises first.found
 
   pub fewer : length (without_source handle sources) < length sources
-  fewer = shorter (λ (s : Source). s.handle == handle) sources first.source by_handle
+  fewer = shorter (λ s. s.handle == handle) sources first.source by_handle
 
 pub rises_links : (core : CoreState) (store : StoreView) → HandlesFit core store → (mask : Bool)
-    → Rises (λ (s : Source). s.handle) 0 (links mask core)
+    → Rises (λ s. s.handle) 0 (links mask core)
 rises_links core store fits mask = rises_kind (link_kind mask) (link_live mask) (links mask core) store.others store.made fits.rising
     (links_live core store fits mask)
 
@@ -98,10 +98,10 @@ element_count (Some c) = length c.cached.elements
 
 -- the first element is one of them, and is found by its handle
 pub element_first : (e : ℕ) (es : List Element) → Some e ≡ option_map handle_of (slice_get es 0) → (x : Element)
-    × (find (λ (y : Element). y.handle == e) es ≡ Some x)
+    × (find (λ y. y.handle == e) es ≡ Some x)
 element_first e [] is = absurd cc
 element_first e (x ∷ es) is = (let same : e ≡ x.handle = cc in let here : (x.handle == e) ≡ true = eq-eqb x.handle e (sym same) in
-    (x, ap (λ b. cond b (Some x) (find (λ (y : Element). y.handle == e) es)) here))
+    (x, ap (λ b. cond b (Some x) (find (λ y. y.handle == e) es)) here))
 
 pub element_none : (es : List Element) → None ≡ option_map handle_of (slice_get es 0) → es ≡ []
 element_none [] is = refl
@@ -130,7 +130,7 @@ module _ (core : CoreState) (store : StoreView) (fits : Fits core store) (h plac
   left_is = is ∙ placed_is core store fits place c at (with_cached (cached.forget e c.cached))
 
   pub still_at : slice_get left.contexts place ≡ Some fewer_in
-  still_at = ap (λ (k : CoreState). slice_get k.contexts place) left_is ∙ get_set core.contexts place c fewer_in at
+  still_at = ap (λ k. slice_get k.contexts place) left_is ∙ get_set core.contexts place c fewer_in at
 
   pub still_stands : place < length core.contexts → Stands h place left.contexts
   still_stands less =
@@ -144,28 +144,28 @@ module _ (core : CoreState) (store : StoreView) (fits : Fits core store) (h plac
   pub others_stay : but_context h left ≡ but_context h core
   others_stay =
       ap (but_context h) is ∙ ap (λ n. but_context n (change_context c.handle (with_cached (cached.forget e c.cached)) core)) (sym handle)
-      ∙ ap (λ (cs : List Context). record core { contexts = cs })
-      (change_left (λ (y : Context). y.handle) c.handle (with_cached (cached.forget e c.cached)) (λ y. refl) core.contexts)
+      ∙ ap (λ cs. record core { contexts = cs })
+      (change_left (λ y. y.handle) c.handle (with_cached (cached.forget e c.cached)) (λ y. refl) core.contexts)
       ∙ ap (λ n. but_context n core) handle
 
   pub fewer_elements : Some e ≡ option_map handle_of (slice_get c.cached.elements 0)
       → element_count (slice_get left.contexts place) < element_count (slice_get core.contexts place)
   fewer_elements first = (let x = element_first e c.cached.elements first in
-      rw (still_at, at) (shorter (λ (y : Element). y.handle == e) c.cached.elements x.0 x.1))
+      rw (still_at, at) (shorter (λ y. y.handle == e) c.cached.elements x.0 x.1))
 
 -- the context at a place has no elements left
 pub emptied : (core : CoreState) (store : StoreView) (fits : Fits core store) (h place : ℕ) (c : Context)
     → slice_get core.contexts place ≡ Some c → c.handle ≡ h → c.cached.elements ≡ [] → elements_of h store.others ≡ []
 emptied core store fits h place c at handle none =
     ap (λ n. elements_of n store.others) (sym handle) ∙ each_at (HasElements store.others) core.contexts place c fits.handles.elements at
-    ∙ ap (λ (es : List Element). map (element_live c.handle) (handles es)) none
+    ∙ ap (λ es. map (element_live c.handle) (handles es)) none
 
 -- contexts of a device
 
 -- the first context of a device leaves with all that is its
 module _ (core : CoreState) (store : StoreView) (fits : Fits core store) (d : ℕ) (c : Context)
-    (found : find (λ (x : Context). x.device == d) core.contexts ≡ Some c) where
-  rises : Rises (λ (x : Context). x.handle) 0 core.contexts
+    (found : find (λ x. x.device == d) core.contexts ≡ Some c) where
+  rises : Rises (λ x. x.handle) 0 core.contexts
   rises = rises_contexts core store fits.handles
 
   -- a source or a mask that is not the context's has the owner that it had
@@ -182,13 +182,13 @@ module _ (core : CoreState) (store : StoreView) (fits : Fits core store) (d : �
       by_test true equal =
           let here : ((c.handle == n) && (c.device == d)) ≡ true =
           and_from (c.handle == n) (c.device == d) (eq-eqb c.handle n (sym (eqb-true n c.handle equal)))
-          (passes (λ (x : Context). x.device == d) core.contexts c found) in
+          (passes (λ x. x.device == d) core.contexts c found) in
           and_false (not (is_of_device d (without_context c.handle core) n))
-          ∙ sym (ap not (any_by (λ (x : Context). x.device == d) (λ (x : Context). (x.handle == n) && (x.device == d)) core.contexts c
+          ∙ sym (ap not (any_by (λ x. x.device == d) (λ x. (x.handle == n) && (x.device == d)) core.contexts c
           found here))
       by_test false differs =
           and_true (not (is_of_device d (without_context c.handle core) n))
-          ∙ ap not (any_left (λ (x : Context). (x.handle == n) && (x.device == d)) (λ (x : Context). x.handle == c.handle) (other differs)
+          ∙ ap not (any_left (λ x. (x.handle == n) && (x.device == d)) (λ x. x.handle == c.handle) (other differs)
           core.contexts)
 
   pub one_context_fewer : but_contexts_of d (without_context c.handle core) ≡ but_contexts_of d core
@@ -196,43 +196,43 @@ module _ (core : CoreState) (store : StoreView) (fits : Fits core store) (d : �
       let of : List Context → List Source → List Source → CoreState =
       λ cs ss ms. record { devices = core.devices; contexts = cs; sources = ss; masks = ms } in
       let gone : List Source
-      → List Source = λ ss. filter (λ (s : Source). not (is_of_device d (without_context c.handle core) s.context))
+      → List Source = λ ss. filter (λ s. not (is_of_device d (without_context c.handle core) s.context))
       (without_those_of c.handle ss) in
-      let kept : List Source → List Source = λ ss. filter (λ (s : Source). not (is_of_device d core s.context)) ss in
+      let kept : List Source → List Source = λ ss. filter (λ s. not (is_of_device d core s.context)) ss in
       let same : (ss : List Source) → gone ss ≡ kept ss =
-      λ ss. filter_twice (λ (s : Source). not (is_of_device d (without_context c.handle core) s.context))
-      (λ (s : Source). not (s.context == c.handle)) (λ (s : Source). not (is_of_device d core s.context)) (λ s. still_owned s.context)
+      λ ss. filter_twice (λ s. not (is_of_device d (without_context c.handle core) s.context))
+      (λ s. not (s.context == c.handle)) (λ s. not (is_of_device d core s.context)) (λ s. still_owned s.context)
       ss in
-      ap (λ (cs : List Context). of cs (gone core.sources) (gone core.masks))
-      (one_fewer (λ (x : Context). x.handle) (λ (x : Context). x.device == d) core.contexts c rises found)
-      ∙ ap (λ (ss : List Source). of (filter (λ (x : Context). not (x.device == d)) core.contexts) ss (gone core.masks)) (same core.sources)
-      ∙ ap (of (filter (λ (x : Context). not (x.device == d)) core.contexts) (kept core.sources)) (same core.masks)
+      ap (λ cs. of cs (gone core.sources) (gone core.masks))
+      (one_fewer (λ x. x.handle) (λ x. x.device == d) core.contexts c rises found)
+      ∙ ap (λ ss. of (filter (λ x. not (x.device == d)) core.contexts) ss (gone core.masks)) (same core.sources)
+      ∙ ap (of (filter (λ x. not (x.device == d)) core.contexts) (kept core.sources)) (same core.masks)
 
-  pub contexts_fewer : length (filter (λ (x : Context). not (x.handle == c.handle)) core.contexts) < length core.contexts
-  contexts_fewer = shorter (λ (x : Context). x.handle == c.handle) core.contexts c
-      (found_above (λ (x : Context). x.handle) (λ (x : Context). x.device == d) 0 core.contexts c rises found).1
+  pub contexts_fewer : length (filter (λ x. not (x.handle == c.handle)) core.contexts) < length core.contexts
+  contexts_fewer = shorter (λ x. x.handle == c.handle) core.contexts c
+      (found_above (λ x. x.handle) (λ x. x.device == d) 0 core.contexts c rises found).1
 
 -- a device without contexts has no sources or masks
-pub no_contexts : (d : ℕ) (core : CoreState) → find (λ (x : Context). x.device == d) core.contexts ≡ None → but_contexts_of d core ≡ core
+pub no_contexts : (d : ℕ) (core : CoreState) → find (λ x. x.device == d) core.contexts ≡ None → but_contexts_of d core ≡ core
 no_contexts d core none =
     let of : List Context → List Source → List Source → CoreState =
     λ cs ss ms. record { devices = core.devices; contexts = cs; sources = ss; masks = ms } in
-    let kept : List Source → List Source = λ ss. filter (λ (s : Source). not (is_of_device d core s.context)) ss in
+    let kept : List Source → List Source = λ ss. filter (λ s. not (is_of_device d core s.context)) ss in
     let all : (ss : List Source)
-    → kept ss ≡ ss = λ ss. all_kept (λ (s : Source). not (is_of_device d core s.context))
+    → kept ss ≡ ss = λ ss. all_kept (λ s. not (is_of_device d core s.context))
     (λ s. ap not (unowned s.context core.contexts none)) ss in
-    ap (λ (cs : List Context). of cs (kept core.sources) (kept core.masks)) (none_out (λ (x : Context). x.device == d) core.contexts none)
-    ∙ ap (λ (ss : List Source). of core.contexts ss (kept core.masks)) (all core.sources)
+    ap (λ cs. of cs (kept core.sources) (kept core.masks)) (none_out (λ x. x.device == d) core.contexts none)
+    ∙ ap (λ ss. of core.contexts ss (kept core.masks)) (all core.sources)
     ∙ ap (of core.contexts core.sources) (all core.masks)
   where
-    unowned : (n : ℕ) (cs : List Context) → find (λ (x : Context). x.device == d) cs ≡ None
-        → list_any (λ (x : Context). (x.handle == n) && (x.device == d)) cs ≡ false
+    unowned : (n : ℕ) (cs : List Context) → find (λ x. x.device == d) cs ≡ None
+        → list_any (λ x. (x.handle == n) && (x.device == d)) cs ≡ false
     unowned n [] empty = refl
     unowned n (x ∷ cs) empty = by_device (x.device == d) empty (unowned n cs)
       where
-        by_device : (b : Bool) → cond b (Some x) (find (λ (y : Context). y.device == d) cs) ≡ None
-            → (find (λ (y : Context). y.device == d) cs ≡ None → list_any (λ (y : Context). (y.handle == n) && (y.device == d)) cs ≡ false)
-            → (((x.handle == n) && b) || list_any (λ (y : Context). (y.handle == n) && (y.device == d)) cs) ≡ false
+        by_device : (b : Bool) → cond b (Some x) (find (λ y. y.device == d) cs) ≡ None
+            → (find (λ y. y.device == d) cs ≡ None → list_any (λ y. (y.handle == n) && (y.device == d)) cs ≡ false)
+            → (((x.handle == n) && b) || list_any (λ y. (y.handle == n) && (y.device == d)) cs) ≡ false
         by_device true at later = absurd cc
-        by_device false at later = ap (λ b. b || list_any (λ (y : Context). (y.handle == n) && (y.device == d)) cs)
+        by_device false at later = ap (λ b. b || list_any (λ y. (y.handle == n) && (y.device == d)) cs)
             (and_false (x.handle == n)) ∙ later at

@@ -8,7 +8,7 @@ use Rattle.wf_words.specs.Places.{map_set}
 use Rattle.wf_words.specs.Refusals.{left_by}
 use Rattle.wf_words.specs.Rising.{change_at}
 use Rattle.wf_life.specs.declared.Kind.TheVariants as kind
-use Rattle.wf_life.specs.Handles.{Live, same_kind}
+use Rattle.wf_life.specs.Handles.{same_kind}
 use Rattle.wf_stream.specs.Streams.{StoreView}
 use Rattle.wf_scene.specs.declared.attributes.ElementAttr.{ElementAttr}
 use Rattle.wf_scene.specs.declared.attributes.Refused.{Refused}
@@ -31,8 +31,8 @@ use Rattle.wf_objects.proofs.Lookups.{rises_contexts}
 -- what stands at a place, written there again
 set_back : {A : Type 0} (xs : List A) (i : ℕ) (x : A) → slice_get xs i ≡ Some x → set xs i x ≡ xs
 set_back [] i x at = refl
-set_back (y ∷ xs) zero x at = (let same : y ≡ x = cc in ap (λ (z : _). z ∷ xs) (sym same))
-set_back (y ∷ xs) (suc i) x at = ap (λ (zs : List _). y ∷ zs) (set_back xs i x at)
+set_back (y ∷ xs) zero x at = (let same : y ≡ x = cc in ap (λ z. z ∷ xs) (sym same))
+set_back (y ∷ xs) (suc i) x at = ap (λ zs. y ∷ zs) (set_back xs i x at)
 
 -- one context replaced by another of the same handles and streams
 module _ (core : CoreState) (store : StoreView) (fits : Fits core store) (place : ℕ) (c : Context)
@@ -44,9 +44,9 @@ module _ (core : CoreState) (store : StoreView) (fits : Fits core store) (place 
   pub placed_fits : (x : Context) → context_live x ≡ context_live c → handles x.cached.elements ≡ handles c.cached.elements
       → ContextFits store.streams x → Fits (placed x) store
   placed_fits x same elements fit =
-      let handle : x.handle ≡ c.handle = ap (λ (l : Live). l.handle) same in
-      let named : map (λ (y : Context). y.handle) (set core.contexts place x) ≡ map (λ (y : Context). y.handle) core.contexts =
-      map_set (λ (y : Context). y.handle) core.contexts place c x at handle in
+      let handle : x.handle ≡ c.handle = ap (λ l. l.handle) same in
+      let named : map (λ y. y.handle) (set core.contexts place x) ≡ map (λ y. y.handle) core.contexts =
+      map_set (λ y. y.handle) core.contexts place c x at handle in
       contexts_fit kind.Element refl refl refl core store fits store.made store.others (set core.contexts place x)
       (record { rising = fits.handles.rising; other = λ j other. refl })
       (fits.handles.contexts ∙ sym (map_set context_live core.contexts place c x at same))
@@ -54,15 +54,15 @@ module _ (core : CoreState) (store : StoreView) (fits : Fits core store) (place 
         elements = each_set (HasElements store.others) core.contexts place x fits.handles.elements
             (rw (handle, elements) (each_at (HasElements store.others) core.contexts place c fits.handles.elements at));
         owned = subst
-            (λ (hs : List ℕ). list_all (λ (l : Live). not (same_kind l.kind kind.Element) || is_in l.key hs) store.others ≡ true)
+            (λ hs. list_all (λ l. not (same_kind l.kind kind.Element) || is_in l.key hs) store.others ≡ true)
             (sym named) fits.handles.owned;
       })
       (each_set (ContextFits store.streams) core.contexts place x fits.streams.contexts fit)
 
   -- the change of the context is that of its place
   pub placed_is : (f : Context → Context) → change_context c.handle f core ≡ placed (f c)
-  placed_is f = ap (λ (cs : List Context). record core { contexts = cs })
-      (change_at (λ (y : Context). y.handle) f 0 core.contexts place c (rises_contexts core store fits.handles) at)
+  placed_is f = ap (λ cs. record core { contexts = cs })
+      (change_at (λ y. y.handle) f 0 core.contexts place c (rises_contexts core store fits.handles) at)
 
   done : CoreState → Outcome CoreSide
   done k = Ok (record (side_of core store) { core = k }, 0)
@@ -115,8 +115,8 @@ module _ (core : CoreState) (store : StoreView) (fits : Fits core store) (place 
       })
   edits call (Err x) s r is same keeps answered =
       let back : placed (record c { cached = s }) ≡ core =
-      ap (λ (t : CachedScene). placed (record c { cached = t })) same
-      ∙ ap (λ (cs : List Context). record core { contexts = cs }) (set_back core.contexts place c at) in
+      ap (λ t. placed (record c { cached = t })) same
+      ∙ ap (λ cs. record core { contexts = cs }) (set_back core.contexts place c at) in
       rw (answered, back) (refuses (in_place place (scene_set call)) core store _ fits (rw (at, is) refl))
 
   module _ (d element : ℕ) (attr : ElementAttr) (value : List ℤ) where

@@ -32,7 +32,7 @@ without_none h (l ∷ live) none =
 none_not_some : (h : ℕ) (streams : List KeptStream) → is_some (stream_of h streams) ≡ false → number_of h streams ≡ None
 none_not_some h streams none =
     elim (stream_of h streams) as (λ o. is_some o ≡ false
-    → option_map (λ (s : KeptStream). s.number) o ≡ None) [ None ↦ λ is. refl | Some s ↦ λ is. cc ] none
+    → option_map (λ s. s.number) o ≡ None) [ None ↦ λ is. refl | Some s ↦ λ is. cc ] none
 
 -- no stream loses a handle that another object has
 pub other_kept : (made h : ℕ) (live : List Live) (streams : List KeptStream) → IsRising 0 live made

@@ -38,7 +38,7 @@ stream_other kind.Mask is = refl
 stream_other kind.DisplaySource is = refl
 
 entry_other : (k l : Kind) → is_stream k ≡ false → is_stream l ≡ true → same_kind l k ≡ false
-entry_other k l other is = subst (λ (x : Kind). same_kind x k ≡ false) (sym (is_stream_is l is)) (stream_other k other)
+entry_other k l other is = subst (λ x. same_kind x k ≡ false) (sym (is_stream_is l is)) (stream_other k other)
 
 -- a stream's key stands among the streams
 
@@ -70,7 +70,7 @@ pub key_found : (h : ℕ) (k : Kind) (live : List Live) (streams : List KeptStre
     → key_of h k live ≡ cond (is_stream k) (number_of h streams) (key_of h k (others_of live))
 key_found h k live streams tied =
     elim (is_stream k) as (λ b. is_stream k ≡ b → key_of h k live ≡ cond b (number_of h streams) (key_of h k (others_of live))) [
-      | true ↦ λ is. subst (λ (x : Kind). key_of h x live ≡ number_of h streams) (sym (is_stream_is k is))
+      | true ↦ λ is. subst (λ x. key_of h x live ≡ number_of h streams) (sym (is_stream_is k is))
           (number_found h live streams tied)
       | false ↦ λ other. key_of_others h k live other
     ] refl
@@ -81,16 +81,16 @@ count_streams : (live : List Live) → live_count kind.Stream live ≡ live_coun
 count_streams [] = refl
 count_streams (l ∷ live) =
     let later = count_streams live in
-    let whole = sum_by-cons (λ (x : Live). cond (same_kind x.kind kind.Stream) 1 0) l live in
-    let part = sum_by-cons (λ (x : Live). cond (same_kind x.kind kind.Stream) 1 0) l (stream_handles live) in
+    let whole = sum_by-cons (λ x. cond (same_kind x.kind kind.Stream) 1 0) l live in
+    let part = sum_by-cons (λ x. cond (same_kind x.kind kind.Stream) 1 0) l (stream_handles live) in
     grind (arith, nat_tests, later, whole, part)
 
 count_entries : (streams : List KeptStream) → live_count kind.Stream (live_streams streams) ≡ count_by has_handle streams
 count_entries [] = refl
 count_entries (s ∷ streams) =
     let later = count_entries streams in
-    let whole = sum_by-cons (λ (x : KeptStream). cond (has_handle x) 1 0) s streams in
-    let part = sum_by-cons (λ (x : Live). cond (same_kind x.kind kind.Stream) 1 0) (live_of s) (live_streams streams) in
+    let whole = sum_by-cons (λ x. cond (has_handle x) 1 0) s streams in
+    let part = sum_by-cons (λ x. cond (same_kind x.kind kind.Stream) 1 0) (live_of s) (live_streams streams) in
     grind (arith, nat_tests, later, whole, part)
 
 count_others : (k : Kind) (live : List Live) → is_stream k ≡ false → live_count k live ≡ live_count k (others_of live)
@@ -98,8 +98,8 @@ count_others k [] other = refl
 count_others k (l ∷ live) other =
     let later = count_others k live other in
     let apart = λ (is : is_stream l.kind ≡ true). entry_other k l.kind other is in
-    let whole = sum_by-cons (λ (x : Live). cond (same_kind x.kind k) 1 0) l live in
-    let part = sum_by-cons (λ (x : Live). cond (same_kind x.kind k) 1 0) l (others_of live) in
+    let whole = sum_by-cons (λ x. cond (same_kind x.kind k) 1 0) l live in
+    let part = sum_by-cons (λ x. cond (same_kind x.kind k) 1 0) l (others_of live) in
     grind (arith, nat_tests, later, apart, whole, part)
 
 pub count_found : (k : Kind) (live : List Live) (streams : List KeptStream) → stream_handles live ≡ live_streams streams
@@ -107,7 +107,7 @@ pub count_found : (k : Kind) (live : List Live) (streams : List KeptStream) → 
 count_found k live streams tied =
     elim (is_stream k) as (λ b. is_stream k ≡ b → live_count k live
     ≡ cond b (count_by has_handle streams) (live_count k (others_of live))) [
-      | true ↦ λ is. subst (λ (x : Kind). live_count x live ≡ count_by has_handle streams) (sym (is_stream_is k is)) (count_streams live
+      | true ↦ λ is. subst (λ x. live_count x live ≡ count_by has_handle streams) (sym (is_stream_is k is)) (count_streams live
           ∙ ap (live_count kind.Stream) tied ∙ count_entries streams)
       | false ↦ λ other. count_others k live other
     ] refl
@@ -129,7 +129,7 @@ live_entries h (s ∷ streams) =
 pub live_found : (h : ℕ) (live : List Live) (streams : List KeptStream) → stream_handles live ≡ live_streams streams
     → is_live h live ≡ is_some (stream_of h streams) || is_live h (others_of live)
 live_found h live streams tied =
-    live_split h live ∙ ap (λ (b : Bool). b || is_live h (others_of live)) (ap (is_live h) tied ∙ live_entries h streams)
+    live_split h live ∙ ap (λ b. b || is_live h (others_of live)) (ap (is_live h) tied ∙ live_entries h streams)
 
 -- a handle that dies
 
@@ -211,7 +211,7 @@ number_above low high h n (s ∷ streams) rising found =
     grind (arith, nat_tests, later)
 
 pub bare_same : (s : KeptStream) → s.handle ≡ 0 → under_handle 0 s ≡ s
-bare_same s is = ap (λ (h : ℕ). under_handle h s) (sym is)
+bare_same s is = ap (λ h. under_handle h s) (sym is)
 
 -- no stream has a handle that is not found
 pub unnamed_none : (h : ℕ) (streams : List KeptStream) → number_of h streams ≡ None → map (unnamed h) streams ≡ streams
@@ -234,7 +234,7 @@ pub unnamed_found : (low high bottom top h n : ℕ) (streams : List KeptStream) 
 unnamed_found low high bottom top h n [] rising under found = cc
 unnamed_found low high bottom top h n (s ∷ streams) rising under found =
     elim ((s.handle == h) && not (h == 0)) as (λ b. ((s.handle == h) && not (h == 0)) ≡ b
-    → option_map (λ (x : KeptStream). x.number) (cond b (Some s) (stream_of h streams)) ≡ Some n
+    → option_map (λ x. x.number) (cond b (Some s) (stream_of h streams)) ≡ Some n
     → hand_over n 0 (s ∷ streams) ≡ map (unnamed h) (s ∷ streams)) [
       | true ↦ λ is here. (
           let same : s.handle ≡ h = grind (arith, nat_tests) in
@@ -260,7 +260,7 @@ unnamed_found low high bottom top h n (s ∷ streams) rising under found =
 pub rising_streams : (made : ℕ) (live : List Live) (streams : List KeptStream) → IsRising 0 live made
     → stream_handles live ≡ live_streams streams → IsRising 0 (live_streams streams) made
 rising_streams made live streams rising tied =
-    subst (λ (ls : List Live). IsRising 0 ls made) tied (rising_filter 0 made is_of_stream live rising)
+    subst (λ ls. IsRising 0 ls made) tied (rising_filter 0 made is_of_stream live rising)
 
 pub rising_without : (made h : ℕ) (live : List Live) → IsRising 0 live made → IsRising 0 (without h live) made
 rising_without made h live rising = rising_filter 0 made _ live rising
@@ -334,15 +334,15 @@ without_last low high (x ∷ streams) s rising above =
 pub screen_tied : (streams : List KeptStream) (s : KeptStream) → s.handle ≡ 0 → live_streams (streams ++ s ∷ []) ≡ live_streams streams
 screen_tied streams s zero =
     let none : live_streams (s ∷ []) ≡ [] = grind (arith, nat_tests) in
-    entries_push streams s ∙ ap (λ (ls : List Live). live_streams streams ++ ls) none ∙ append-nil (live_streams streams)
+    entries_push streams s ∙ ap (λ ls. live_streams streams ++ ls) none ∙ append-nil (live_streams streams)
 
 pub made_tied : (live : List Live) (streams : List KeptStream) (s : KeptStream) → stream_handles live ≡ live_streams streams → 0 < s.handle
     → stream_handles (live ++ live_of s ∷ []) ≡ live_streams (streams ++ s ∷ [])
 made_tied live streams s tied some =
     let one : live_streams (s ∷ []) ≡ live_of s ∷ [] = grind (arith, nat_tests) in
-    filter-append is_of_stream live (live_of s ∷ []) ∙ ap (λ (ls : List Live). ls ++ live_of s ∷ []) tied
-    ∙ ap (λ (ls : List Live). live_streams streams ++ ls) (sym one) ∙ sym (entries_push streams s)
+    filter-append is_of_stream live (live_of s ∷ []) ∙ ap (λ ls. ls ++ live_of s ∷ []) tied
+    ∙ ap (λ ls. live_streams streams ++ ls) (sym one) ∙ sym (entries_push streams s)
 
 pub made_others : (live : List Live) (s : KeptStream) → others_of (live ++ live_of s ∷ []) ≡ others_of live
 made_others live s =
-    filter-append (λ (l : Live). not (is_of_stream l)) live (live_of s ∷ []) ∙ append-nil (others_of live)
+    filter-append (λ l. not (is_of_stream l)) live (live_of s ∷ []) ∙ append-nil (others_of live)

@@ -51,7 +51,7 @@ found_sole n o p (e ∷ es) found sole =
     elim (at n e.0) as (λ b. cond b (Some e.1) (lookup (at n) es) ≡ Some o
     → count_at o.key p ≡ 1) [
       | true ↦ λ is. (let same : e.1 ≡ o = cc in
-          subst (λ (x : Place). count_at x.key p ≡ 1) same sole.0)
+          subst (λ x. count_at x.key p ≡ 1) same sole.0)
       | false ↦ later
     ] found
 
@@ -59,7 +59,7 @@ pub placed_sole : (n : ℕ) (f : Place → Place) (p : Slots) (es : Places) → 
 placed_sole n f p [] same sole = tt
 placed_sole n f p (e ∷ es) same sole =
     elim (at n e.0) as (λ b. AreSole p (cond b ((e.0, f e.1) ∷ es) (e ∷ placed n f es))) [
-      | true ↦ (subst (λ (k : ℕ). count_at k p ≡ 1) (sym (same e.1)) sole.0, sole.1)
+      | true ↦ (subst (λ k. count_at k p ≡ 1) (sym (same e.1)) sole.0, sole.1)
       | false ↦ (sole.0, placed_sole n f p es same sole.1)
     ]
 
@@ -71,7 +71,7 @@ held_count w (Some kept) = refl
 lent_count : (key other : ℕ) (p : Slots) (w : Buffers) → IsKept key p → count_at other (with_value key p w) ≡ count_at other p
 lent_count key other p w found =
     by_key (count_at other (with_value key p w) ≡ count_at other p) other key
-    (λ same. subst (λ (k : ℕ). count_at k (with_value key p w) ≡ count_at k p) (sym same) (ap count_of (lent_slot key p w found)
+    (λ same. subst (λ k. count_at k (with_value key p w) ≡ count_at k p) (sym same) (ap count_of (lent_slot key p w found)
     ∙ held_count w (kept_at key p)))
     (λ apart. ap count_of (set_agrees key p (option_map (holding w) (kept_at key p)) other apart))
 
@@ -82,7 +82,7 @@ lent_sole key p (e ∷ es) w found sole = (lent_count key e.1.key p w found ∙ 
 -- nothing is left under a key whose one holder let go
 less_of_one : (slot : Option (Kept Buffers)) → count_of slot ≡ 1 → option_and_then one_less slot ≡ None
 less_of_one None one = refl
-less_of_one (Some kept) one = ap (λ (n : ℕ). cond (n - 1 == 0) None (Some (record kept { count = n - 1 }))) one
+less_of_one (Some kept) one = ap (λ n. cond (n - 1 == 0) None (Some (record kept { count = n - 1 }))) one
 
 pub let_go : (key : ℕ) (p : Slots) → IsKept key p → count_at key p ≡ 1 → kept_at key (released key p) ≡ None
 let_go key p kept one = get_or-set_same p key _ None (kept_inside key p kept) ∙ less_of_one (kept_at key p) one
@@ -100,7 +100,7 @@ other_push p q es e agree no_other key none =
 
 pub other_same : (key : ℕ) (p q : Slots) (es : Places) → kept_at key q ≡ None → AgreeBut key p q → KeepsNoOther p es → KeepsNoOther q es
 other_same key p q es free agree no_other k none =
-    by_key (kept_at k q ≡ None) k key (λ same. ap (λ (n : ℕ). kept_at n q) same ∙ free) (λ apart. agree k apart ∙ no_other k none)
+    by_key (kept_at k q ≡ None) k key (λ same. ap (λ n. kept_at n q) same ∙ free) (λ apart. agree k apart ∙ no_other k none)
 
 none_restored : (n k : ℕ) (o : Place) (es : Places) → lookup (at n) es ≡ Some o → o.key ≢ k → HasNone k (remove_entry (at n) es)
     → HasNone k es
@@ -108,21 +108,21 @@ none_restored n k o [] found other none = tt
 none_restored n k o (e ∷ es) found other none =
     elim (at n e.0) as (λ b. cond b (Some e.1) (lookup (at n) es) ≡ Some o → HasNone k (cond b es (e ∷ remove_entry (at n) es))
     → HasNone k (e ∷ es)) [
-      | true ↦ λ is left. (let same : o ≡ e.1 = cc in (subst (λ (x : Place). x.key ≢ k) same other, left))
+      | true ↦ λ is left. (let same : o ≡ e.1 = cc in (subst (λ x. x.key ≢ k) same other, left))
       | false ↦ λ is left. (left.0, none_restored n k o es is other left.1)
     ] found none
 
 pub other_removed : (n : ℕ) (o : Place) (p q : Slots) (es : Places) → lookup (at n) es ≡ Some o → kept_at o.key q ≡ None
     → AgreeBut o.key p q → KeepsNoOther p es → KeepsNoOther q (remove_entry (at n) es)
 other_removed n o p q es found free agree no_other k none =
-    by_key (kept_at k q ≡ None) k o.key (λ same. ap (λ (m : ℕ). kept_at m q) same ∙ free) (λ apart. agree k apart
+    by_key (kept_at k q ≡ None) k o.key (λ same. ap (λ m. kept_at m q) same ∙ free) (λ apart. agree k apart
     ∙ no_other k (none_restored n k o es found (λ same. apart (sym same)) none))
 
 none_unplaced : (n : ℕ) (f : Place → Place) (key : ℕ) (es : Places) → KeepsKey f → HasNone key (placed n f es) → HasNone key es
 none_unplaced n f key [] same none = tt
 none_unplaced n f key (e ∷ es) same none =
     elim (at n e.0) as (λ b. HasNone key (cond b ((e.0, f e.1) ∷ es) (e ∷ placed n f es)) → HasNone key (e ∷ es)) [
-      | true ↦ λ left. (subst (λ (k : ℕ). k ≢ key) (same e.1) left.0, left.1)
+      | true ↦ λ left. (subst (λ k. k ≢ key) (same e.1) left.0, left.1)
       | false ↦ λ left. (left.0, none_unplaced n f key es same left.1)
     ] none
 
@@ -132,6 +132,6 @@ other_placed n f p es same no_other key none = no_other key (none_unplaced n f k
 pub other_lent : (key : ℕ) (p : Slots) (es : Places) (w : Buffers) → IsKept key p → KeepsNoOther p es → KeepsNoOther (with_value key p w) es
 other_lent key p es w found no_other k none =
     by_key (kept_at k (with_value key p w) ≡ None) k key
-    (λ same. (let free : kept_at key p ≡ None = ap (λ (n : ℕ). kept_at n p) (sym same) ∙ no_other k none in let no = rw free at found in
+    (λ same. (let free : kept_at key p ≡ None = ap (λ n. kept_at n p) (sym same) ∙ no_other k none in let no = rw free at found in
     cc))
     (λ apart. set_agrees key p (option_map (holding w) (kept_at key p)) k apart ∙ no_other k none)

@@ -5,7 +5,7 @@ use Rattle.std.specs.Map.{remove_entry}
 use Rattle.std.proofs.lemmas.Bool.Decides.{nat_tests}
 use Rattle.wf_words.specs.Keyed.{is_in}
 use Rattle.wf_stream.specs.declared.streams.Place.{Place}
-use Rattle.wf_stream.specs.Streams.{KeptStream, IsNumbered, stream_at, is_own, first_unmarked, names_of}
+use Rattle.wf_stream.specs.Streams.{IsNumbered, stream_at, is_own, first_unmarked, names_of}
 use Rattle.wf_stream.specs.Placed.{placed, with_handle, with_mark, remarked}
 use Rattle.wf_stream.specs.Shelf.{kept_stream, is_marked_or_own, shelved, marks_of, AreKept, HasNone, KeepsNoOther, AreSole, AreApart}
 use Rattle.wf_stream.proofs.Shelves.{Slots, Places, at, numbered_room}
@@ -18,7 +18,7 @@ is_bare e = not e.1.marked
 
 pub remarked_view : (t : Place → Bool) (p : Slots) (es : Places) → shelved p (remarked t es) ≡ shelved p es
 remarked_view t p [] = refl
-remarked_view t p (e ∷ es) = ap (λ (ss : List KeptStream). kept_stream p e ∷ ss) (remarked_view t p es)
+remarked_view t p (e ∷ es) = ap (λ ss. kept_stream p e ∷ ss) (remarked_view t p es)
 
 pub remarked_kept : (t : Place → Bool) (p : Slots) (es : Places) → AreKept p es → AreKept p (remarked t es)
 remarked_kept t p [] kept = tt
@@ -63,7 +63,7 @@ pub mark_view : (n : ℕ) (b : Bool) (p : Slots) (es : Places) → shelved p (pl
 mark_view n b p [] = refl
 mark_view n b p (e ∷ es) =
     elim (at n e.0) as (λ c. shelved p (cond c ((e.0, with_mark b e.1) ∷ es) (e ∷ placed n (with_mark b) es))
-    ≡ shelved p (e ∷ es)) [ true ↦ refl | false ↦ ap (λ (ss : List KeptStream). kept_stream p e ∷ ss) (mark_view n b p es) ]
+    ≡ shelved p (e ∷ es)) [ true ↦ refl | false ↦ ap (λ ss. kept_stream p e ∷ ss) (mark_view n b p es) ]
 
 -- and that number is a mark too
 pub marks_marked : (m n : ℕ) (p : Slots) (es : Places) → IsSome (stream_at n (shelved p es))
@@ -140,9 +140,9 @@ marks_are low high p (e ∷ es) rising =
     let later = marks_are e.0 high p es rising.1 in
     elim (e.1.marked)
     as (λ b. (is_in e.0
-    (map (λ (x : ℕ × Place). x.0) (cond b (e ∷ filter (λ (x : ℕ × Place). x.1.marked) es) (filter (λ (x : ℕ × Place). x.1.marked) es)))
+    (map (λ x. x.0) (cond b (e ∷ filter (λ x. x.1.marked) es) (filter (λ x. x.1.marked) es)))
     ≡ b) × AreMarks
-    (map (λ (x : ℕ × Place). x.0) (cond b (e ∷ filter (λ (x : ℕ × Place). x.1.marked) es) (filter (λ (x : ℕ × Place). x.1.marked) es)))
+    (map (λ x. x.0) (cond b (e ∷ filter (λ x. x.1.marked) es) (filter (λ x. x.1.marked) es)))
     es) [
       | true ↦ (grind (arith, nat_tests), marks_more e.0 high e.0 p (marks_of es) es rising.1 (omega arith) later)
       | false ↦ (marks_below e.0 high e.0 p es rising.1 (omega arith), later)

@@ -129,19 +129,19 @@ found_other n key o [] found none = cc
 found_other n key o (e ∷ es) found none =
     let later = λ (found_later : lookup (at n) es ≡ Some o). found_other n key o es found_later none.1 in
     elim (at n e.0) as (λ b. cond b (Some e.1) (lookup (at n) es) ≡ Some o
-    → o.key ≢ key) [ true ↦ λ is. (let same : e.1 ≡ o = cc in subst (λ (x : Place). x.key ≢ key) same none.0) | false ↦ later ] found
+    → o.key ≢ key) [ true ↦ λ is. (let same : e.1 ≡ o = cc in subst (λ x. x.key ≢ key) same none.0) | false ↦ later ] found
 
 pub found_kept : (n : ℕ) (o : Place) (p : Slots) (es : Places) → lookup (at n) es ≡ Some o → AreKept p es → IsKept o.key p
 found_kept n o p [] found kept = cc
 found_kept n o p (e ∷ es) found kept =
     let later = λ (found_later : lookup (at n) es ≡ Some o). found_kept n o p es found_later kept.1 in
     elim (at n e.0) as (λ b. cond b (Some e.1) (lookup (at n) es) ≡ Some o
-    → IsKept o.key p) [ true ↦ λ is. (let same : e.1 ≡ o = cc in subst (λ (x : Place). IsKept x.key p) same kept.0) | false ↦ later ]
+    → IsKept o.key p) [ true ↦ λ is. (let same : e.1 ≡ o = cc in subst (λ x. IsKept x.key p) same kept.0) | false ↦ later ]
     found
 
 -- the buffers of the place that is found
 pub buffers_lookup : (n : ℕ) (p : Slots) (es : Places)
-    → buffers_at n (shelved p es) ≡ option_map (λ (o : Place). pooled o.key p) (lookup (at n) es)
+    → buffers_at n (shelved p es) ≡ option_map (λ o. pooled o.key p) (lookup (at n) es)
 buffers_lookup n p [] = refl
 buffers_lookup n p (e ∷ es) =
     let later = buffers_lookup n p es in
@@ -149,8 +149,8 @@ buffers_lookup n p (e ∷ es) =
 
 pub value_pooled : (key : ℕ) (p : Slots) → IsKept key p → value_at key p ≡ Some (pooled key p)
 value_pooled key p = elim (kept_at key p) as (λ slot. IsSome slot
-    → option_map (λ (kept : Kept Buffers). kept.value) slot
-    ≡ Some (unwrap_or (option_map (λ (kept : Kept Buffers). kept.value) slot) (pooled 0 []))) [
+    → option_map (λ kept. kept.value) slot
+    ≡ Some (unwrap_or (option_map (λ kept. kept.value) slot) (pooled 0 []))) [
       | None ↦ λ none. cc
       | Some kept ↦
           λ some. refl
@@ -202,7 +202,7 @@ found_none n o (e ∷ es) found apart =
     elim (at n e.0) as (λ b. cond b (Some e.1) (lookup (at n) es) ≡ Some o
     → HasNone o.key (cond b es (e ∷ remove_entry (at n) es))) [
       | true ↦
-          λ is. (let same : e.1 ≡ o = cc in subst (λ (x : Place). HasNone x.key es) same apart.0)
+          λ is. (let same : e.1 ≡ o = cc in subst (λ x. HasNone x.key es) same apart.0)
       | false ↦
           λ is. ((λ same. found_other n e.1.key o es is apart.0 (sym same)), found_none n o es is apart.1)
     ] found
@@ -246,7 +246,7 @@ pub placed_kept : (n : ℕ) (f : Place → Place) (p : Slots) (es : Places) → 
 placed_kept n f p [] same kept = tt
 placed_kept n f p (e ∷ es) same kept =
     elim (at n e.0) as (λ b. AreKept p (cond b ((e.0, f e.1) ∷ es) (e ∷ placed n f es))) [
-      | true ↦ (subst (λ (k : ℕ). IsKept k p) (sym (same e.1)) kept.0, kept.1)
+      | true ↦ (subst (λ k. IsKept k p) (sym (same e.1)) kept.0, kept.1)
       | false ↦ (kept.0, placed_kept n f p es same kept.1)
     ]
 
@@ -254,7 +254,7 @@ placed_none : (n : ℕ) (f : Place → Place) (key : ℕ) (es : Places) → Keep
 placed_none n f key [] same none = tt
 placed_none n f key (e ∷ es) same none =
     elim (at n e.0) as (λ b. HasNone key (cond b ((e.0, f e.1) ∷ es) (e ∷ placed n f es))) [
-      | true ↦ (subst (λ (k : ℕ). k ≢ key) (sym (same e.1)) none.0, none.1)
+      | true ↦ (subst (λ k. k ≢ key) (sym (same e.1)) none.0, none.1)
       | false ↦ (none.0, placed_none n f key es same none.1)
     ]
 
@@ -262,7 +262,7 @@ pub placed_apart : (n : ℕ) (f : Place → Place) (es : Places) → KeepsKey f 
 placed_apart n f [] same apart = tt
 placed_apart n f (e ∷ es) same apart =
     elim (at n e.0) as (λ b. AreApart (cond b ((e.0, f e.1) ∷ es) (e ∷ placed n f es))) [
-      | true ↦ (subst (λ (k : ℕ). HasNone k es) (sym (same e.1)) apart.0, apart.1)
+      | true ↦ (subst (λ k. HasNone k es) (sym (same e.1)) apart.0, apart.1)
       | false ↦
           (placed_none n f e.1.key es same apart.0, placed_apart n f es same apart.1)
     ]
@@ -292,7 +292,7 @@ pub lent_slot : (key : ℕ) (p : Slots) (w : Buffers) → IsKept key p
 lent_slot key p w kept = get_or-set_same p key _ None (kept_inside key p kept)
 
 held_value : (w : Buffers) (slot : Option (Kept Buffers)) → IsSome slot → (fallback : Buffers)
-    → unwrap_or (option_map (λ (kept : Kept Buffers). kept.value) (option_map (holding w) slot)) fallback ≡ w
+    → unwrap_or (option_map (λ kept. kept.value) (option_map (holding w) slot)) fallback ≡ w
 held_value w None some fallback = cc
 held_value w (Some kept) some fallback = refl
 
@@ -318,22 +318,22 @@ lent_view low high n o p (e ∷ es) w rising kept apart found =
     let q : Slots = with_value o.key p w in
     let agree : AgreeBut o.key p q = set_agrees o.key p (option_map (holding w) (kept_at o.key p)) in
     let found_here : cond (e.0 == n) (Some e.1) (lookup (at n) es) ≡ Some o =
-    subst (λ (b : Bool). cond b (Some e.1) (lookup (at n) es) ≡ Some o) (at_same n e.0) found in
+    subst (λ b. cond b (Some e.1) (lookup (at n) es) ≡ Some o) (at_same n e.0) found in
     elim (e.0 == n) as (λ b. (e.0 == n) ≡ b → cond b (Some e.1) (lookup (at n) es) ≡ Some o
     → kept_stream q e ∷ shelved q es ≡ cond b (with_here w e) (kept_stream p e) ∷ change_stream n (λ _. w) (shelved p es)) [
       | true ↦ λ here is. (
           let same : e.1 ≡ o = cc in
-          let key : e.1.key ≡ o.key = ap (λ (x : Place). x.key) same in
-          let value : pooled e.1.key q ≡ w = subst (λ (k : ℕ). pooled k q ≡ w) (sym key)
-          (lent_here o.key p w (subst (λ (k : ℕ). IsKept k p) key kept.0)) in
-          let head : kept_stream q e ≡ with_here w e = ap (λ (b : Buffers). with_here b e) value in
+          let key : e.1.key ≡ o.key = ap (λ x. x.key) same in
+          let value : pooled e.1.key q ≡ w = subst (λ k. pooled k q ≡ w) (sym key)
+          (lent_here o.key p w (subst (λ k. IsKept k p) key kept.0)) in
+          let head : kept_stream q e ≡ with_here w e = ap (λ b. with_here b e) value in
           let under : n ≤ e.0 = grind (arith, nat_tests) in
           let rest : shelved q es ≡ change_stream n (λ _. w) (shelved p es) =
-          shelved_same o.key p q es agree (subst (λ (k : ℕ). HasNone k es) key apart.0)
+          shelved_same o.key p q es agree (subst (λ k. HasNone k es) key apart.0)
           ∙ sym (change_below e.0 high n (λ s. record s { buffers = w }) (shelved p es) rising.1 under) in
           cc)
       | false ↦ λ other is. (
-          let head : kept_stream q e ≡ kept_stream p e = ap (λ (b : Buffers). with_here b e)
+          let head : kept_stream q e ≡ kept_stream p e = ap (λ b. with_here b e)
           (pooled_same e.1.key p q (agree e.1.key (λ same. found_other n e.1.key o es is apart.0 (sym same)))) in
           let rest = lent_view e.0 high n o p es w rising.1 kept.1 apart.1 is in
           cc)
@@ -348,7 +348,7 @@ shelf_push n o p q es after counted rising fits kept apart free agree new is =
     let none = none_free o.key p es free kept in
     let last : after ≡ es ++ (n, o) ∷ [] = is ∙ insert_last 0 (n - 1) n o p es rising (omega arith) in
     let view : shelved q (es ++ (n, o) ∷ []) ≡ shelved p es ++ kept_stream q (n, o) ∷ [] =
-    map-append (kept_stream q) es ((n, o) ∷ []) ∙ ap (λ (ss : List KeptStream). ss ++ kept_stream q (n, o) ∷ [])
+    map-append (kept_stream q) es ((n, o) ∷ []) ∙ ap (λ ss. ss ++ kept_stream q (n, o) ∷ [])
     (shelved_same o.key p q es agree none) in
     rw last (
       view,
@@ -380,7 +380,7 @@ lent_kept_at key other p w found kept =
     elim (other == key) as (λ b. (other == key) ≡ b → IsKept other (with_value key p w)) [
       | true ↦ λ is. (
           let same : key ≡ other = grind (arith, nat_tests) in
-          subst (λ (k : ℕ). IsKept k (with_value key p w)) same (rw (lent_slot key p w found) (held_some w (kept_at key p) found)))
+          subst (λ k. IsKept k (with_value key p w)) same (rw (lent_slot key p w found) (held_some w (kept_at key p) found)))
       | false ↦ λ is. (
           let apart : other ≢ key = λ same. (let yes : (other == key) ≡ true = grind (arith, nat_tests) in cc) in
           rw (set_agrees key p (option_map (holding w) (kept_at key p)) other apart) kept)

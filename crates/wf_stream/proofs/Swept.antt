@@ -22,7 +22,7 @@ found_number : (low high h n : ℕ) (streams : List KeptStream) → IsRising low
     → 0 < h → number_of h streams ≡ Some n
 found_number low high h n [] rising found some = cc
 found_number low high h n (s ∷ streams) rising found some =
-    elim (s.number == n) as (λ b. (s.number == n) ≡ b → option_map (λ (x : KeptStream). x.handle) (cond b (Some s) (stream_at n streams))
+    elim (s.number == n) as (λ b. (s.number == n) ≡ b → option_map (λ x. x.handle) (cond b (Some s) (stream_at n streams))
     ≡ Some h → number_of h (s ∷ streams) ≡ Some n) [
       | true ↦ λ is here. (
           let same : s.handle ≡ h = cc in
@@ -48,7 +48,7 @@ same_bare : (low high n : ℕ) (streams : List KeptStream) → IsNumbered low st
     → hand_over n 0 streams ≡ streams
 same_bare low high n [] rising found = cc
 same_bare low high n (s ∷ streams) rising found =
-    elim (s.number == n) as (λ b. (s.number == n) ≡ b → option_map (λ (x : KeptStream). x.handle) (cond b (Some s) (stream_at n streams))
+    elim (s.number == n) as (λ b. (s.number == n) ≡ b → option_map (λ x. x.handle) (cond b (Some s) (stream_at n streams))
     ≡ Some 0 → cond b (under_handle 0 s) s ∷ hand_over n 0 streams ≡ s ∷ streams) [
       | true ↦ λ is here. (
           let zero : s.handle ≡ 0 = cc in
@@ -56,7 +56,7 @@ same_bare low high n (s ∷ streams) rising found =
           let head = bare_same s zero in
           let rest : hand_over n 0 streams ≡ streams = change_below s.number high n (under_handle 0) streams rising.1 under in
           cc)
-      | false ↦ λ isnt found_later. ap (λ (ss : List KeptStream). s ∷ ss) (same_bare s.number high n streams rising.1 found_later)
+      | false ↦ λ isnt found_later. ap (λ ss. s ∷ ss) (same_bare s.number high n streams rising.1 found_later)
     ] refl found
 
 -- the handle table and the streams after one was dropped that had no handle
@@ -86,7 +86,7 @@ pub marked_without : (marked : List ℕ) (n : ℕ) (streams : List KeptStream) �
 marked_without marked n [] none = refl
 marked_without marked n (s ∷ streams) none =
     let later = marked_without marked n streams none in
-    let here = λ (is : s.number ≡ n). ap (λ (k : ℕ). is_in k marked) is ∙ none in
+    let here = λ (is : s.number ≡ n). ap (λ k. is_in k marked) is ∙ none in
     grind (arith, nat_tests, later, here)
 
 -- and all, where none is not marked
@@ -116,13 +116,13 @@ first_kept low high n h marked (s ∷ streams) rising found =
           record { above = omega (arith, rising.0, later.above); kept = rw other later.kept; unmarked = later.unmarked })
       | false ↦ λ is here. (
           let both : names_of s ≡ (n, h) = cc in
-          let number : s.number ≡ n = ap (λ (q : ℕ × ℕ). q.0) both in
-          let handle : s.handle ≡ h = ap (λ (q : ℕ × ℕ). q.1) both in
+          let number : s.number ≡ n = ap (λ q. q.0) both in
+          let handle : s.handle ≡ h = ap (λ q. q.1) both in
           let same : (s.number == n) ≡ true = grind (arith, nat_tests, number) in
           record {
             above = omega (arith, rising.0, number);
             kept = rw (same, handle) refl;
-            unmarked = ap (λ (k : ℕ). is_in k marked) (sym number) ∙ is;
+            unmarked = ap (λ k. is_in k marked) (sym number) ∙ is;
           })
     ] refl found
 

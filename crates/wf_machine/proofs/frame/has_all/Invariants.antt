@@ -1,7 +1,4 @@
-use Rattle.std.proofs.Common.{◌≡◌, true, take}
-use Rattle.std.specs.List.{list_all}
-use Rattle.wf_image.specs.Contents.{image_of}
-use Rattle.wf_model.specs.Frames.{has_shape}
+use Rattle.wf_machine.proofs.Common.{◌≡◌, true, take, list_all, image_of, has_shape}
 use Rattle.wf_machine.proofs.frame.has_all.Given as goal
 
 -- the shapes so far have their images

@@ -1,10 +1,8 @@
-use Rattle.std.proofs.Common.{subst, ◌∙◌}
-use Rattle.wf_calls.specs.declared.call.JobKind.{JobKind}
-use Rattle.wf_machine.specs.Starting.{IsReady}
+use Rattle.wf_machine.proofs.Common.{subst, ◌∙◌, IsReady}
 use Rattle.wf_machine.proofs.Starting.{all_home}
 use Rattle.wf_machine.proofs.frames.take_target.Goals as goal
 
 pub returns-in-Context-clause-away : goal.returns-in-Context-clause-away
 returns-in-Context-clause-away c =
-    let ready = subst (λ (k : JobKind). IsReady c.args.store.now.streams c.args.ports.now.items k) c.in-Context.is c.requires in
+    let ready = subst (λ k. IsReady c.args.store.now.streams c.args.ports.now.items k) c.in-Context.is c.requires in
     λ frame is. all_home frame c.in-Context.handle c.in-Context.target (is ∙ c.in-Context.is) 1 c.args.ports.now.items ready.0

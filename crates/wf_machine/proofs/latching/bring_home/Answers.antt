@@ -1,17 +1,12 @@
-use Rattle.std.proofs.Common.{◌≡◌, ℕ, ◌++◌, List, [], ◌∷◌, sym, ap, subst, ◌∙◌, append-nil}
-use Rattle.wf_stream.specs.Buffers.{returned}
-use Rattle.wf_stream.specs.Streams.{KeptStream, StoreView, change_stream}
-use Rattle.wf_model.specs.Frames.{brought_home}
-use Rattle.wf_model.specs.Picture.{Images}
-use Rattle.wf_image.specs.Bitmap.{Bitmap}
-use Rattle.wf_machine.specs.Latching.{Awaits}
+use Rattle.wf_machine.proofs.Common.{◌≡◌, ℕ, ◌++◌, [], ◌∷◌, sym, ap, subst, ◌∙◌, append-nil, returned, StoreView, change_stream}
+use Rattle.wf_machine.proofs.Common.{brought_home, Bitmap, Awaits}
 use Rattle.wf_machine.proofs.Homes.{home_more, next_awaited, next_home, none_home, still_awaits}
 use Rattle.wf_machine.proofs.latching.bring_home.Goals as goal
 
 pub loop-number-init : goal.loop-number-init
 loop-number-init c =
     let store = c.args.store.now in
-    ([], sym (append-nil c.args.contents), ap (λ (streams : List KeptStream). record store { streams = streams }) (none_home store.streams))
+    ([], sym (append-nil c.args.contents), ap (λ streams. record store { streams = streams }) (none_home store.streams))
 
 pub bring_image_home-requires : goal.bring_image_home-requires
 bring_image_home-requires c =
@@ -20,7 +15,7 @@ bring_image_home-requires c =
     let pair : ℕ × Bitmap = (c.in-Some.number, c.in-Some.image) in
     let is = next_home c.args.contents c.loop-number.contents c.pop.new.self home pair c.loop-number.invariant.1 c.in-Some.ensures.last in
     let awaited = next_awaited streams c.args.contents c.pop.new.self home pair is c.requires.awaited in
-    subst (λ (store : StoreView). Awaits store.streams pair) (sym c.loop-number.invariant.2)
+    subst (λ store. Awaits store.streams pair) (sym c.loop-number.invariant.2)
     (still_awaits pair home streams awaited.1 awaited.0)
 
 pub loop-number-preserved : goal.loop-number-preserved
@@ -35,7 +30,7 @@ loop-number-preserved c =
       c.bring_image_home.ensures
           ∙ ap (λ (store : StoreView). record store { streams = change_stream c.in-Some.number (returned c.in-Some.image) store.streams })
           c.loop-number.invariant.2
-          ∙ ap (λ (streams : List KeptStream). record before { streams = streams })
+          ∙ ap (λ streams. record before { streams = streams })
           (home_more c.in-Some.number c.in-Some.image home before.streams awaited.1),
     )
 
@@ -43,5 +38,5 @@ pub returns : goal.returns
 returns c =
     let before = c.args.store.now in
     let is : c.args.contents ≡ c.loop-number.invariant.0 = c.loop-number.invariant.1
-    ∙ ap (λ (xs : Images). xs ++ c.loop-number.invariant.0) c.in_default.ensures.none in
-    c.loop-number.invariant.2 ∙ ap (λ (xs : Images). record before { streams = brought_home xs before.streams }) (sym is)
+    ∙ ap (λ xs. xs ++ c.loop-number.invariant.0) c.in_default.ensures.none in
+    c.loop-number.invariant.2 ∙ ap (λ xs. record before { streams = brought_home xs before.streams }) (sym is)

@@ -1,6 +1,4 @@
-use Rattle.std.proofs.Common.{◌≡◌, ◌++◌, length}
-use Rattle.wf_model.specs.Frames.{brought_home}
-use Rattle.wf_model.specs.Picture.{Images}
+use Rattle.wf_machine.proofs.Common.{◌≡◌, ◌++◌, length, brought_home, Images}
 use Rattle.wf_machine.proofs.latching.bring_home.Given as goal
 
 -- the images behind those that are left came home

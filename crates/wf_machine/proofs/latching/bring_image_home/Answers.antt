@@ -1,4 +1,4 @@
-use Rattle.wf_stream.specs.Buffers.{returned}
+use Rattle.wf_machine.proofs.Common.{returned}
 use Rattle.wf_machine.proofs.Changes.{lent, lent_none}
 use Rattle.wf_machine.proofs.latching.bring_image_home.Goals as goal
 

@@ -1,4 +1,4 @@
-use Rattle.std.proofs.Common.{◌+◌, ◌≤◌, List, ℕ, length, sym, ap, subst, arith}
+use Rattle.wf_machine.proofs.Common.{◌+◌, ◌≤◌, length, sym, ap, subst, arith}
 use Rattle.wf_machine.proofs.Latches.{IsTaken, few_step, names_more, nothing_taken, take_home, take_step}
 use Rattle.wf_machine.proofs.latching.latch_scene.Goals as goal
 
@@ -32,7 +32,7 @@ loop-layer-preserved c =
     let two : length t.new.self ≤ length c.take.new.self + 1 =
     few_step _ c.take.new.store.streams c.take.new.self t.new.self t.ensures.contents in
     record {
-      so_far = subst (λ (ns : List ℕ). IsTaken c.args.store.now ns t.new.self t.new.store)
+      so_far = subst (λ ns. IsTaken c.args.store.now ns t.new.self t.new.store)
           (sym (names_more c.loop-layer.layer-index c.as_slice-layer-items.result.now _ c.loop-layer-test.true)) second;
       few = omega (arith, c.loop-layer.invariant.few);
     }

@@ -1,7 +1,4 @@
-use Rattle.std.proofs.Common.{◌*◌, ◌≤◌, length, take}
-use Rattle.std.specs.Prelude.{flat_map}
-use Rattle.wf_words.specs.Keyed.{once}
-use Rattle.wf_model.specs.Names.{layer_names}
+use Rattle.wf_machine.proofs.Common.{◌*◌, ◌≤◌, length, take, flat_map, once, layer_names}
 use Rattle.wf_machine.proofs.Latches.{IsTaken}
 use Rattle.wf_machine.proofs.latching.latch_scene.Given as goal
 

@@ -1,9 +1,7 @@
-use Rattle.std.proofs.Common.{◌∙◌, ◌==◌, ◌||◌, ap}
-use Rattle.std.specs.List.{list_any}
-use Rattle.wf_scene.specs.declared.Layer.{Layer}
+use Rattle.wf_machine.proofs.Common.{◌∙◌, ◌==◌, ◌||◌, ap, list_any}
 use Rattle.wf_machine.proofs.Naming.{scene_names}
 use Rattle.wf_machine.proofs.latching.names.Goals as goal
 
 pub returns : goal.returns
-returns c = c.any_names.ensures ∙ ap (list_any (λ (l : Layer). (l.stream == c.args.number) || (l.mask == c.args.number)))
+returns c = c.any_names.ensures ∙ ap (list_any (λ l. (l.stream == c.args.number) || (l.mask == c.args.number)))
     c.as_slice.ensures.value ∙ scene_names c.args.number c.args.scene.now.layers.items

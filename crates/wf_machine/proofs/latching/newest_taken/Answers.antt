@@ -1,4 +1,4 @@
-use Rattle.wf_stream.specs.Buffers.{latched}
+use Rattle.wf_machine.proofs.Common.{latched}
 use Rattle.wf_machine.proofs.Changes.{lent, lent_none}
 use Rattle.wf_machine.proofs.latching.newest_taken.Goals as goal
 

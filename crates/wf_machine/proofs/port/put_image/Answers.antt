@@ -1,5 +1,4 @@
-use Rattle.std.proofs.Common.{Some, ap, sym, ◌∙◌, arith}
-use Rattle.wf_machine.specs.declared.port.Port as declared
+use Rattle.wf_machine.proofs.Common.{Some, ap, sym, ◌∙◌, arith}
 use Rattle.wf_machine.proofs.Places.{away_at, fits_at, modes_stay, shape_at, when_back}
 use Rattle.wf_machine.proofs.port.put_image.Goals as goal
 
@@ -24,10 +23,10 @@ put_image-requires-clause-shape c =
 pub returns-clause-modes : goal.returns-clause-modes
 returns-clause-modes c =
     modes_stay c.args.ports.now.items c.args.place c.put_image.new.self c.index_mut.result.now c.requires.within (c.put_image.ensures.modes
-    ∙ ap (λ (p : declared.Port). p.modes) c.index_mut.ensures.value)
+    ∙ ap (λ p. p.modes) c.index_mut.ensures.value)
 
 pub returns-clause-there : goal.returns-clause-there
 returns-clause-there c =
     when_back c.requires.away.0 c.args.ports.now.items c.args.place c.put_image.new.self c.index_mut.result.now c.requires.within
     c.requires.away.1 c.requires.away.2
-    (c.put_image.ensures.modes ∙ ap (λ (p : declared.Port). p.modes) c.index_mut.ensures.value) c.put_image.ensures.there
+    (c.put_image.ensures.modes ∙ ap (λ p. p.modes) c.index_mut.ensures.value) c.put_image.ensures.there

@@ -1,5 +1,4 @@
-use Rattle.std.proofs.Common.{None, ◌∙◌, ap, sym, arith}
-use Rattle.wf_machine.specs.declared.port.Port as declared
+use Rattle.wf_machine.proofs.Common.{None, ◌∙◌, ap, sym, arith}
 use Rattle.wf_machine.proofs.Places.{fits_at, modes_stay, shape_of, when_taken}
 use Rattle.wf_machine.proofs.port.take_image.Goals as goal
 
@@ -24,9 +23,9 @@ returns-clause-shape c =
 pub returns-clause-modes : goal.returns-clause-modes
 returns-clause-modes c =
     modes_stay c.args.ports.now.items c.args.place c.take_image.new.self c.index_mut.result.now c.requires.within
-    (c.take_image.ensures.modes ∙ ap (λ (p : declared.Port). p.modes) c.index_mut.ensures.value)
+    (c.take_image.ensures.modes ∙ ap (λ p. p.modes) c.index_mut.ensures.value)
 
 pub returns-clause-away : goal.returns-clause-away
 returns-clause-away c frame is =
     when_taken frame c.args.ports.now.items c.args.place c.take_image.new.self c.index_mut.result.now c.requires.within is c.requires.fit
-    (c.take_image.ensures.modes ∙ ap (λ (p : declared.Port). p.modes) c.index_mut.ensures.value) c.take_image.ensures.away
+    (c.take_image.ensures.modes ∙ ap (λ p. p.modes) c.index_mut.ensures.value) c.take_image.ensures.away

@@ -1,7 +1,4 @@
-use Rattle.std.proofs.Common.{◌∷◌, [], List, ℕ, map, take, sym, ap, subst, ◌∙◌}
-use Rattle.std.proofs.lemmas.List.{map-append, take_all, take_more}
-use Rattle.wf_model.specs.declared.Content.{Content}
-use Rattle.wf_objects.specs.Marks.{Marks}
+use Rattle.wf_machine.proofs.Common.{◌∷◌, [], ℕ, map, take, sym, ap, subst, ◌∙◌, map-append, take_all, take_more, Content, Marks}
 use Rattle.wf_machine.proofs.Markings.{more_marked, none_marked}
 use Rattle.wf_machine.proofs.settling.mark_contents.Goals as goal
 
@@ -15,9 +12,9 @@ loop-content-preserved c =
     let i = c.loop-content.content-index in
     let more = more_marked c.args.store.now c.loop-content.store c.mark_kept.new.store (map stream (take i all)) _ c.loop-content.invariant
     c.mark_kept.ensures in
-    subst (λ (ns : List ℕ). Marks c.args.store.now c.mark_kept.new.store ns)
+    subst (λ ns. Marks c.args.store.now c.mark_kept.new.store ns)
     (sym (ap (map stream) (take_more all i _ c.loop-content-test.true) ∙ map-append stream (take i all) (_ ∷ []))) more
 
 pub returns : goal.returns
-returns c = subst (λ (cs : List Content). Marks c.args.store.now c.loop-content.store (map (λ (x : Content). x.stream) cs))
+returns c = subst (λ cs. Marks c.args.store.now c.loop-content.store (map (λ x. x.stream) cs))
     (take_all c.loop-content.content-index c.args.contents.now c.loop-content-test.false) c.loop-content.invariant

@@ -1,6 +1,4 @@
-use Rattle.std.proofs.Common.{◌≡◌, ◌+◌, ◌∷◌, [], ◌++◌, List, ℕ, sym, ap, subst, ◌∙◌, arith}
-use Rattle.std.specs.List.{range_with_len}
-use Rattle.wf_objects.specs.Marks.{Marks}
+use Rattle.wf_machine.proofs.Common.{◌≡◌, ◌+◌, ◌∷◌, [], ◌++◌, sym, ap, subst, ◌∙◌, arith, range_with_len, Marks}
 use Rattle.wf_machine.proofs.Markings.{more_marked, none_marked, range_more}
 use Rattle.wf_machine.proofs.settling.mark_screens.Goals as goal
 
@@ -13,5 +11,5 @@ loop-port-preserved c =
     let next : n + 1 ≡ 1 + n = omega arith in
     let more = more_marked c.args.store.now c.loop-port.store c.mark_kept.new.store (range_with_len 1 n) ((n + 1) ∷ [])
     c.loop-port.invariant c.mark_kept.ensures in
-    subst (λ (ns : List ℕ). Marks c.args.store.now c.mark_kept.new.store ns) (ap (λ (k : ℕ). range_with_len 1 n ++ k ∷ []) next
+    subst (λ ns. Marks c.args.store.now c.mark_kept.new.store ns) (ap (λ k. range_with_len 1 n ++ k ∷ []) next
     ∙ sym (range_more 1 n)) more

@@ -1,5 +1,4 @@
-use Rattle.std.specs.List.{range_with_len}
-use Rattle.wf_objects.specs.Marks.{Marks}
+use Rattle.wf_machine.proofs.Common.{range_with_len, Marks}
 use Rattle.wf_machine.proofs.settling.mark_screens.Given as goal
 
 -- the screens so far are marked

@@ -1,4 +1,4 @@
-use Rattle.wf_stream.specs.Buffers.{acquired}
+use Rattle.wf_machine.proofs.Common.{acquired}
 use Rattle.wf_machine.proofs.Changes.{canvas_is, if_ok, lent, lent_same, on_err, on_ok}
 use Rattle.wf_machine.proofs.streams.acquire_from.Goals as goal
 

@@ -1,4 +1,4 @@
-use Rattle.wf_stream.specs.Buffers.{acquired}
+use Rattle.wf_machine.proofs.Common.{acquired}
 use Rattle.wf_machine.proofs.Changes.{lent}
 use Rattle.wf_machine.proofs.streams.acquire_image.Goals as goal
 

@@ -1,4 +1,4 @@
-use Rattle.wf_stream.specs.Buffers.{discarded}
+use Rattle.wf_machine.proofs.Common.{discarded}
 use Rattle.wf_machine.proofs.Changes.{lent, lent_none}
 use Rattle.wf_machine.proofs.streams.discard_to.Goals as goal
 

@@ -1,4 +1,4 @@
-use Rattle.wf_stream.specs.Buffers.{posted}
+use Rattle.wf_machine.proofs.Common.{posted}
 use Rattle.wf_machine.proofs.Changes.{lent, lent_none}
 use Rattle.wf_machine.proofs.streams.post_to.Goals as goal
 

@@ -16,4 +16,4 @@ returns-then-is_named-clause-found c =
     let so_far = rw number at c.loop-source.invariant in
     let here : found (x ∷ drop (i + 1) xs) ≡ Some x = rw (sym named ∙ c.if-is_named.true) refl in
     sym (so_far ∙ at_drop_more found xs i x (omega (arith, c.loop-source-test.true))
-    ∙ ap (λ (y : Source). found (y ∷ drop (i + 1) xs)) (sym c.source-item.is) ∙ here)
+    ∙ ap (λ y. found (y ∷ drop (i + 1) xs)) (sym c.source-item.is) ∙ here)

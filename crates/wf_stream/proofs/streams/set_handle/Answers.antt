@@ -1,7 +1,5 @@
-use Rattle.std.proofs.Common.{ℕ, sym, ap, ◌∙◌}
+use Rattle.std.proofs.Common.{sym, ap, ◌∙◌}
 use Rattle.std.specs.Option.{option_copied_mut}
-use Rattle.std.specs.BTreeMap.{BTreeMap}
-use Rattle.wf_stream.specs.declared.streams.Place.{Place}
 use Rattle.wf_stream.specs.Placed.{with_handle}
 use Rattle.wf_stream.proofs.Shelves.{placed_found, placed_absent}
 use Rattle.wf_stream.proofs.streams.set_handle.Goals as goal
@@ -15,5 +13,5 @@ returns-in-Some c =
 pub returns-in_default : goal.returns-in_default
 returns-in_default c =
     let none = sym c.get_mut.ensures.value ∙ ap option_copied_mut c.in_default.is in
-    ap (λ (m : BTreeMap ℕ Place). m.entries) c.get_mut.follows.holds-at-none
+    ap (λ m. m.entries) c.get_mut.follows.holds-at-none
     ∙ placed_absent c.args.number (with_handle c.args.handle) c.args.places.now.entries none

@@ -1,11 +1,10 @@
 use Rattle.std.proofs.Common.{rules}
 use Rattle.std.proofs.lemmas.Map.Made.{map_same_pairs}
-use Rattle.wf_stream.specs.declared.streams.Place.{Place}
 use Rattle.wf_stream.specs.Placed.{with_mark}
 use Rattle.wf_stream.specs.Shelf.{is_marked_or_own}
 use Rattle.wf_stream.proofs.streams.set_own_marks.Goals as goal
 
 pub returns : goal.returns
 returns c =
-    map_same_pairs _ (λ (o : Place). with_mark (is_marked_or_own c.args.pool.now o) o) _ (λ k v b w f' t. search rules)
+    map_same_pairs _ (λ o. with_mark (is_marked_or_own c.args.pool.now o) o) _ (λ k v b w f' t. search rules)
     c.args.places.now.entries _ c.retain.ensures.filtered

@@ -1,20 +1,16 @@
-use Rattle.std.proofs.Common.{subst, sym}
-use Rattle.wf_stream.specs.Buffers.{latched}
-use Rattle.wf_stream.specs.Streams.{StoreView}
-use Rattle.wf_model.specs.Picture.{Images}
-use Rattle.wf_machine.specs.Latching.{AreShapedAs}
+use Rattle.wf_machine.proofs.Common.{subst, sym, latched, AreShapedAs}
 use Rattle.wf_machine.proofs.Latches.{latched_keeps, shaped_changed, shaped_more}
 use Rattle.wf_machine.proofs.latching.Latched.take.Goals as goal
 
 pub returns-in-Some-clause-shaped : goal.returns-in-Some-clause-shaped
 returns-in-Some-clause-shaped c shaped =
     let streams = c.args.store.now.streams in
-    let all = subst (λ (contents : Images). AreShapedAs streams contents) (sym c.put.ensures)
+    let all = subst (λ contents. AreShapedAs streams contents) (sym c.put.ensures)
     (shaped_more c.args.number c.in-Some.image streams c.args.self.now shaped c.in-Some.ensures.shape) in
-    subst (λ (store : StoreView). AreShapedAs store.streams c.put.new.self) (sym c.newest_taken.ensures.store)
+    subst (λ store. AreShapedAs store.streams c.put.new.self) (sym c.newest_taken.ensures.store)
     (shaped_changed latched c.args.number streams c.put.new.self latched_keeps all)
 
 pub returns-in_default-clause-shaped : goal.returns-in_default-clause-shaped
 returns-in_default-clause-shaped c shaped =
-    subst (λ (store : StoreView). AreShapedAs store.streams c.args.self.now) (sym c.newest_taken.ensures.store)
+    subst (λ store. AreShapedAs store.streams c.args.self.now) (sym c.newest_taken.ensures.store)
     (shaped_changed latched c.args.number c.args.store.now.streams c.args.self.now latched_keeps shaped)

@@ -1,8 +1,5 @@
-use Rattle.std.proofs.Common.{subst, ap, ◌∙◌}
-use Rattle.wf_model.specs.Names.{settle_if}
-use Rattle.wf_machine.specs.Object.{IsSettled, IsStep}
+use Rattle.wf_machine.proofs.Common.{subst, ap, ◌∙◌, settle_if, IsSettled, IsStep, bare}
 use Rattle.wf_machine.proofs.Stepping.{acts, stepped}
-use Rattle.wf_calls.specs.Replies.{bare}
 use Rattle.wf_machine.proofs.machine.Machine.answer.Goals as goal
 
 -- the step that was made

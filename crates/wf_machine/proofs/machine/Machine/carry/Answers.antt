@@ -1,6 +1,4 @@
-use Rattle.std.proofs.Common.{subst, ap, ◌∙◌}
-use Rattle.wf_model.specs.Names.{settle_if}
-use Rattle.wf_machine.specs.Object.{IsSettled, IsStep}
+use Rattle.wf_machine.proofs.Common.{subst, ap, ◌∙◌, settle_if, IsSettled, IsStep}
 use Rattle.wf_machine.proofs.Stepping.{acts, stepped}
 use Rattle.wf_machine.proofs.machine.Machine.carry.Goals as goal
 

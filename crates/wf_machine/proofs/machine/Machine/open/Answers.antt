@@ -1,5 +1,4 @@
-use Rattle.std.proofs.Common.{sym, subst}
-use Rattle.wf_machine.specs.Object.{IsSettled}
+use Rattle.wf_machine.proofs.Common.{sym, subst, IsSettled}
 use Rattle.wf_machine.proofs.Dropping.{opening_settled}
 use Rattle.wf_machine.proofs.machine.Machine.open.Goals as goal
 

@@ -1,13 +1,7 @@
-use Rattle.std.proofs.Common.{ℕ, Err, map, refl, sym, ap, subst, ◌∙◌}
-use Rattle.wf_stream.specs.declared.stream.Refused.{Refused}
-use Rattle.wf_stream.specs.Buffers.{acquired}
-use Rattle.wf_stream.specs.Streams.{StoreView, change_stream, has_number}
+use Rattle.wf_machine.proofs.Common.{Err, map, refl, sym, ap, subst, ◌∙◌, acquired, change_stream, has_number, bare, refusal, refused}
+use Rattle.wf_machine.proofs.Common.{acquirable, acquire_step, canvas_of, with_stream, option_map, IsSound, state_of, port_of, running_of}
 use Rattle.wf_calls.specs.declared.code.Code.TheVariants as code
-use Rattle.wf_calls.specs.Replies.{bare, gives_canvas, refusal, refused}
-use Rattle.wf_model.specs.Streams.{acquirable, acquire_step, canvas_of, with_stream}
-use Rattle.std.specs.Option.{option_map}
-use Rattle.wf_machine.specs.Inside.{IsSound, state_of}
-use Rattle.wf_machine.specs.Ports.{port_of, running_of}
+use Rattle.wf_calls.specs.Replies.{gives_canvas}
 use Rattle.wf_machine.proofs.Drawing.{frame_acquired}
 use Rattle.wf_machine.proofs.Buffering.{busy, found, given, no_buffer}
 use Rattle.wf_machine.proofs.StillFitting.{acquired_keeps, shape_kept}
@@ -25,7 +19,7 @@ returns-in-Err-Busy c =
     let inside = c.self.inside in
     let s = found c.args.stream c.in-Ok.number inside.store.numbered inside.store.streams c.self.invariant.numbered
     c.in-Ok.ensures.number in
-    let out = c.in-Err-Busy.ensures.busy (ap (λ (e : Refused). Err e) c.in-Err-Busy.field-0-is) s.0 s.2 in
+    let out = c.in-Err-Busy.ensures.busy (ap (λ e. Err e) c.in-Err-Busy.field-0-is) s.0 s.2 in
     stays inside c.args.self.now c.self.view_is (λ t r. acquire_step t (acquirable c.args.stream t))
     c.acquire_from.new.store c.refused-in-Err-Busy.result (bare (refused (refusal code.Busy))) c.in-Err-Busy.ensures.refused
     c.refused-in-Err-Busy.ensures (busy c.args.stream _ s.0 s.1 out)
@@ -35,14 +29,14 @@ returns-in-Err-NoBuffer c =
     let inside = c.self.inside in
     let s = found c.args.stream c.in-Ok.number inside.store.numbered inside.store.streams c.self.invariant.numbered
     c.in-Ok.ensures.number in
-    let full = c.in-Err-NoBuffer.ensures.no_buffer (ap (λ (e : Refused). Err e) c.in-Err-NoBuffer.field-0-is) s.0 s.2 in
+    let full = c.in-Err-NoBuffer.ensures.no_buffer (ap (λ e. Err e) c.in-Err-NoBuffer.field-0-is) s.0 s.2 in
     stays inside c.args.self.now c.self.view_is (λ t r. acquire_step t (acquirable c.args.stream t))
     c.acquire_from.new.store c.refused-in-Err-NoBuffer.result (bare (refused (refusal code.NoBuffer))) c.in-Err-NoBuffer.ensures.refused
     c.refused-in-Err-NoBuffer.ensures (no_buffer c.args.stream _ s.0 s.1 full.0 full.1)
 
 pub invariant_of-self-2 : goal.invariant_of-self-2
 invariant_of-self-2 c =
-    subst (λ (store : StoreView). IsSound (record c.self.inside { store = store })) (sym c.in-Ok-acquire_from.ensures.acquired)
+    subst (λ store. IsSound (record c.self.inside { store = store })) (sym c.in-Ok-acquire_from.ensures.acquired)
     (sound_kept c.self.inside c.in-Ok.number acquired acquired_keeps
     (frame_acquired c.in-Ok.number (map port_of c.self.inside.ports.items) c.self.inside.store.streams
     (option_map running_of c.self.inside.frame) (shape_kept acquired acquired_keeps) c.self.invariant.frame) c.self.invariant)
@@ -59,5 +53,5 @@ returns c =
     (gives_canvas (canvas_of s.0))
     c.in-Ok-acquire_from.ensures.acquired (c.giving_canvas.ensures ∙ ap gives_canvas canvas)
     (given c.args.stream (state_of inside) s.0 s.1 free.0 free.1
-    ∙ ap (λ (n : ℕ). (with_stream n acquired (state_of inside), gives_canvas (canvas_of s.0)))
+    ∙ ap (λ n. (with_stream n acquired (state_of inside), gives_canvas (canvas_of s.0)))
     (has_number number inside.store.streams s.0 s.2))

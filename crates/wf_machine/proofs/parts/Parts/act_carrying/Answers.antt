@@ -1,12 +1,7 @@
-use Rattle.std.proofs.Common.{rules}
-use Rattle.std.proofs.Common.{◌≡◌, refl}
-use Rattle.std.proofs.Math.Facts.{to_z-of_z}
+use Rattle.wf_machine.proofs.Common.{rules, to_z-of_z, discarded, posted, act, acquirable}
 use mir.Syntax.{w64}
 use mir.Val.{SFits}
-use Rattle.wf_stream.specs.Buffers.{discarded, posted}
 use Rattle.wf_calls.specs.declared.call.Call.TheVariants as call
-use Rattle.wf_model.specs.Step.{act}
-use Rattle.wf_model.specs.Streams.{acquirable}
 use Rattle.wf_machine.proofs.Acts.{as_act, as_begin, plain_acquired, plain_back, plain_end, plain_of}
 use Rattle.wf_machine.proofs.parts.Parts.act_carrying.Goals as goal
 

@@ -1,6 +1,4 @@
-use Rattle.std.proofs.Common.{ℕ, Option, sym, subst}
-use Rattle.std.specs.Option.{IfSome}
-use Rattle.wf_objects.specs.Fits.{IsOfPixels}
+use Rattle.wf_machine.proofs.Common.{sym, subst, IfSome, IsOfPixels}
 use Rattle.wf_machine.proofs.Screening.{asked_pixels}
 use Rattle.wf_machine.proofs.Acts.{as_composed, sound_composed}
 use Rattle.wf_machine.proofs.parts.Parts.act_on_objects.Goals as goal
@@ -9,7 +7,7 @@ pub run-requires-clause-given : goal.run-requires-clause-given
 run-requires-clause-given c =
     let pixels = asked_pixels c.self.inside c.args.self.now c.self.view_is c.self.invariant c.args.call.now in (
       c.screen_of-screen.ensures.within,
-      subst (λ (o : Option ℕ). IfSome o (IsOfPixels c.self.inside.store.streams))
+      subst (λ o. IfSome o (IsOfPixels c.self.inside.store.streams))
           (sym c.screen_of-screen.ensures.screen) pixels,
     )
 

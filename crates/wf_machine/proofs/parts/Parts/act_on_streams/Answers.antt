@@ -1,11 +1,7 @@
-use Rattle.std.proofs.Common.{rules}
-use Rattle.std.proofs.Common.{ap, sym}
-use Rattle.std.proofs.Math.Facts.{to_z-of_z}
+use Rattle.wf_machine.proofs.Common.{rules, ap, sym, to_z-of_z, bare, act}
 use mir.Syntax.{w64}
 use mir.Val.{SFits}
 use Rattle.wf_calls.specs.declared.call.Call.TheVariants as call
-use Rattle.wf_calls.specs.Replies.{bare}
-use Rattle.wf_model.specs.Step.{act}
 use Rattle.wf_machine.proofs.Acts.{as_act, plain_answer}
 use Rattle.wf_machine.proofs.parts.Parts.act_on_streams.Goals as goal
 

@@ -1,22 +1,12 @@
-use Rattle.std.proofs.Common.{◌≡◌, Option, ap, sym, subst, Result, Ok, Some, ◌∙◌, option_map, ◌<◌, ◌-◌, ◌^◌, ◌<◌, arith}
-use Rattle.wf_calls.specs.declared.reply.Reply.{Reply}
-use Rattle.std.proofs.Math.Facts.{to_z-of_z}
+use Rattle.wf_machine.proofs.Common.{◌≡◌, ap, sym, subst, Ok, Some, ◌∙◌, ◌<◌, ◌-◌, ◌^◌, ◌<◌, arith, to_z-of_z, rules, count_of, begin_port}
+use Rattle.wf_machine.proofs.Common.{running_of, beginning_of, IsAnswer, ◌+◌, ◌-◌, ◌^◌, ◌<◌, arith, not_some}
+use Rattle.std.proofs.Common.{option_map}
 use mir.Syntax.{w64}
 use mir.Val.{SFits}
-use Rattle.std.proofs.Common.{rules}
-use Rattle.wf_words.specs.Whole.{count_of}
 use Rattle.wf_machine.proofs.parts.Parts.begin_port.Goals as goal
 use Rattle.wf_machine.proofs.PortFrames.{has_mode, may_start, port_begins}
-use Rattle.wf_model.specs.Frames.{begin_port, Beginning, started}
-use Rattle.wf_calls.specs.declared.reply.Refusal.{Refusal}
-use Rattle.wf_machine.specs.Ports.{running_of}
-use Rattle.wf_machine.specs.Starting.{beginning_of}
-use Rattle.wf_machine.specs.Object.{IsAnswer}
+use Rattle.wf_model.specs.Frames.{started}
 use Rattle.wf_calls.specs.declared.call.JobKind.TheVariants as kind
-use Rattle.std.proofs.Common.{◌+◌, ◌-◌, ◌^◌, ◌<◌, arith}
-use Rattle.wf_model.specs.State.{State}
-use Rattle.wf_machine.specs.declared.frame.Frame.{Frame}
-use Rattle.wf_words.specs.Options.{not_some}
 
 pub scene_of_port-scene-requires : goal.scene_of_port-scene-requires
 scene_of_port-scene-requires c =
@@ -37,15 +27,15 @@ begun c =
     let counted : count_of c.args.port ≡ c.in-Some.place + 1 = rw (to_z-of_z p) at c.in-Some.ensures.0 in
     port_begins c.self.inside c.args.self.now seen c.in-Some.place c.index.result.now c.index.ensures c.in-Some.ensures.1
     c.scene_of_port-scene.result c.scene_of_port-scene.ensures c.args.port counted
-    (sym (ap (λ (s : State). s.frame) seen) ∙ ap (λ (f : Option Frame). option_map running_of f)
+    (sym (ap (λ s. s.frame) seen) ∙ ap (λ f. option_map running_of f)
     (not_some c.self.inside.frame c.if-not-is_none.ensures))
-    (subst (λ (s : State). s.begun < 2 ^ 64 - 1) seen (omega (arith, c.if-self.false, c.self.ranges)))
+    (subst (λ s. s.begun < 2 ^ 64 - 1) seen (omega (arith, c.if-self.false, c.self.ranges)))
 
 pub returns-clause-left : goal.returns-clause-left
 returns-clause-left c =
-    c.start_frame.ensures.left ∙ sym (ap (λ (b : Result (Option Beginning) Refusal). (started c.args.self.now b).0) (begun c))
+    c.start_frame.ensures.left ∙ sym (ap (λ b. (started c.args.self.now b).0) (begun c))
 
 pub returns-clause-answer : goal.returns-clause-answer
 returns-clause-answer c =
-    subst (λ (b : Result (Option Beginning) Refusal). IsAnswer (started c.args.self.now b).1 c.start_frame.result) (sym (begun c))
+    subst (λ b. IsAnswer (started c.args.self.now b).1 c.start_frame.result) (sym (begun c))
     c.start_frame.ensures.answer

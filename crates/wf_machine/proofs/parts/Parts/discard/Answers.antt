@@ -1,11 +1,5 @@
-use Rattle.std.proofs.Common.{map, sym, ap, subst, ◌∙◌}
-use Rattle.wf_stream.specs.Buffers.{discarded}
-use Rattle.wf_stream.specs.Streams.{StoreView, change_stream}
-use Rattle.wf_calls.specs.Replies.{bare, done}
-use Rattle.wf_model.specs.Streams.{canvas_back, is_out_at_client}
-use Rattle.std.specs.Option.{option_map}
-use Rattle.wf_machine.specs.Inside.{IsSound, state_of}
-use Rattle.wf_machine.specs.Ports.{port_of, running_of}
+use Rattle.wf_machine.proofs.Common.{map, sym, ap, subst, ◌∙◌, discarded, change_stream, bare, done, canvas_back, is_out_at_client}
+use Rattle.wf_machine.proofs.Common.{option_map, IsSound, state_of, port_of, running_of}
 use Rattle.wf_machine.proofs.Drawing.{frame_apart}
 use Rattle.wf_machine.proofs.Buffering.{comes_back, out_apart, out_from}
 use Rattle.wf_machine.proofs.StillFitting.{discarded_keeps, shape_kept}
@@ -19,7 +13,7 @@ discard_to-requires c =
 
 pub invariant_of-self : goal.invariant_of-self
 invariant_of-self c =
-    subst (λ (store : StoreView). IsSound (record c.self.inside { store = store })) (sym c.discard_to.ensures)
+    subst (λ store. IsSound (record c.self.inside { store = store })) (sym c.discard_to.ensures)
     (sound_kept c.self.inside c.args.canvas.stream discarded discarded_keeps
     (frame_apart c.args.canvas.stream discarded (map port_of c.self.inside.ports.items) c.self.inside.store.streams
     (option_map running_of c.self.inside.frame) (shape_kept discarded discarded_keeps)

@@ -1,12 +1,6 @@
-use Rattle.std.proofs.Common.{◌≡◌, None, true, ap, sym, ◌∙◌, refl, subst, List}
-use Rattle.std.specs.Option.{option_map}
-use Rattle.wf_stream.specs.Streams.{KeptStream, StoreView}
-use Rattle.wf_model.specs.Frames.{delivered}
-use Rattle.wf_machine.specs.declared.parts.Parts.TheInside.{Inside}
-use Rattle.wf_machine.specs.Fitting.{IsDue, is_of_running}
-use Rattle.wf_machine.specs.Ports.{running_of}
+use Rattle.wf_machine.proofs.Common.{◌≡◌, None, true, ap, sym, ◌∙◌, refl, subst, option_map, StoreView, delivered, Inside, IsDue}
+use Rattle.wf_machine.proofs.Common.{is_of_running, running_of, bare}
 use Rattle.wf_machine.proofs.Ending.{HasEnded, ending_awaited, ending_due, left_ended, sound_ended, was_running}
-use Rattle.wf_calls.specs.Replies.{bare}
 use Rattle.wf_machine.proofs.parts.Parts.end.Goals as goal
 
 pub bring_home-requires-clause-awaited : goal.bring_home-requires-clause-awaited
@@ -16,8 +10,8 @@ bring_home-requires-clause-awaited c =
 
 pub deliver-requires : goal.deliver-requires
 deliver-requires c =
-    subst (λ (ss : List KeptStream). IsDue ss c.self.inside.ports.items c.args.job.kind c.args.job.image)
-    (sym (ap (λ (v : StoreView). v.streams) c.bring_home.ensures))
+    subst (λ ss. IsDue ss c.self.inside.ports.items c.args.job.kind c.args.job.image)
+    (sym (ap (λ v. v.streams) c.bring_home.ensures))
     (ending_due c.self.inside c.args.job (was_running c.self.inside c.args.job c.args.self.now c.self.view_is (sym c.is_of_running.ensures
     ∙ c.if-not-is_of_running.false)) c.self.invariant)
 

@@ -1,6 +1,5 @@
-use Rattle.std.proofs.Common.{◌++◌, ◌∷◌, [], List, length, take, sym, ap, subst, ◌∙◌, arith, length-append, refl, None}
-use Rattle.std.proofs.lemmas.List.{length-take-le, take_more}
-use Rattle.wf_calls.specs.declared.ports.Modes.{Modes}
+use Rattle.wf_machine.proofs.Common.{◌++◌, ◌∷◌, [], length, take, sym, ap, subst, ◌∙◌, arith, length-append, refl, None, take_more}
+use Rattle.std.proofs.lemmas.List.{length-take-le}
 use Rattle.wf_machine.proofs.Opening.{IsOpen, declared_modes, first_of, may_at, opening_is, whole_modes, no_ports_open, one_more_open}
 use Rattle.wf_machine.proofs.Opening.{sound_when_open}
 use Rattle.wf_machine.proofs.parts.Parts.open.Goals as goal
@@ -33,9 +32,9 @@ loop-modes-preserved c =
     (first_of c.as_slice-sizes.result.now m _ sizes may) c.in_ok-screen.ensures.screen c.push_reserved.ensures.items
     (c.in_ok-new.ensures.modes ∙ sizes) c.in_ok-new.ensures.images in
     record {
-      open_so_far = subst (λ (ms : List Modes). IsOpen c.screen.new.self c.push_reserved.new.self.items ms)
+      open_so_far = subst (λ ms. IsOpen c.screen.new.self c.push_reserved.new.self.items ms)
           (sym (take_more all c.loop-modes.modes-index m c.loop-modes-test.true
-          ∙ ap (λ (x : Modes). take c.loop-modes.modes-index all ++ x ∷ []) (sym c.modes-item.is))) more;
+          ∙ ap (λ x. take c.loop-modes.modes-index all ++ x ∷ []) (sym c.modes-item.is))) more;
       many = omega (
         arith,
         so_far.many,
@@ -51,7 +50,7 @@ invariant_of-result c =
     let all = c.as_slice-modes-items in
     let whole = whole_modes all.result.now c.args.ports.now.modes.items c.loop-modes.modes-index all.ensures.value
     c.loop-modes-test.false in
-    sound_when_open _ c.args.ports.now.modes.items (subst (λ (ms : List Modes). IsOpen c.loop-modes.store c.loop-modes.opened.items ms)
+    sound_when_open _ c.args.ports.now.modes.items (subst (λ ms. IsOpen c.loop-modes.store c.loop-modes.opened.items ms)
     whole so_far.open_so_far) (omega (arith, so_far.many, all.ensures.fits)) (declared_modes c.args.ports.now c.requires)
     c.in_ok-core.ensures refl
 
@@ -62,5 +61,5 @@ returns c =
     let whole = whole_modes all.result.now c.args.ports.now.modes.items c.loop-modes.modes-index all.ensures.value
     c.loop-modes-test.false in
     opening_is (record { store = c.loop-modes.store; core = c.in_ok-core.core; ports = c.loop-modes.opened; begun = 0; frame = None })
-    c.args.ports.now (subst (λ (ms : List Modes). IsOpen c.loop-modes.store c.loop-modes.opened.items ms) whole so_far.open_so_far)
+    c.args.ports.now (subst (λ ms. IsOpen c.loop-modes.store c.loop-modes.opened.items ms) whole so_far.open_so_far)
     c.in_ok-core.ensures refl refl

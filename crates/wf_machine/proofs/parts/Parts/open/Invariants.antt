@@ -1,4 +1,4 @@
-use Rattle.std.proofs.Common.{◌≡◌, ◌≤◌, length, take, vec_capacity}
+use Rattle.wf_machine.proofs.Common.{◌≡◌, ◌≤◌, length, take, vec_capacity}
 use Rattle.wf_machine.proofs.Opening.{IsOpen}
 use Rattle.wf_machine.proofs.parts.Parts.open.Given as goal
 

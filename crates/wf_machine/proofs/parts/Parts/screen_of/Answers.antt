@@ -1,14 +1,11 @@
-use Rattle.std.proofs.Common.{rules}
-use Rattle.std.proofs.Common.{sym, subst}
-use Rattle.std.proofs.Math.Facts.{to_z-of_z}
+use Rattle.wf_machine.proofs.Common.{rules, sym, subst, to_z-of_z}
 use mir.Syntax.{w64}
 use mir.Val.{SFits}
-use Rattle.wf_calls.specs.declared.call.Call.{Call}
 use Rattle.wf_core.specs.Steps.{IsOfPort}
 use Rattle.wf_machine.proofs.parts.Parts.screen_of.Goals as goal
 
 pub returns-in-ScreenContext-clause-within : goal.returns-in-ScreenContext-clause-within
 returns-in-ScreenContext-clause-within c =
     let p : SFits w64 c.in-ScreenContext.port = search rules in
-    subst (λ (x : Call). IsOfPort x c.declared_screen.result) (sym c.in-ScreenContext.is)
+    subst (λ x. IsOfPort x c.declared_screen.result) (sym c.in-ScreenContext.is)
     (rw (to_z-of_z p) at c.declared_screen.ensures.within)

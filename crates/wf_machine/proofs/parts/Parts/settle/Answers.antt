@@ -1,14 +1,5 @@
-use Rattle.std.proofs.Common.{◌≡◌, ℕ, List, [], length, map, sym, ap, subst, ◌∙◌}
-use Rattle.std.specs.Prelude.{flat_map}
-use Rattle.std.specs.List.{range_with_len}
-use Rattle.std.proofs.lemmas.List.{length-map}
-use Rattle.wf_stream.specs.Streams.{KeptStream, StoreView}
-use Rattle.wf_model.specs.Names.{core_names, display_names, kept, own_names, settle}
-use Rattle.wf_model.specs.State.{State}
-use Rattle.wf_machine.specs.declared.parts.Parts.TheInside.{Inside}
-use Rattle.wf_machine.specs.Inside.{state_of}
-use Rattle.wf_objects.specs.Marks.{Marks}
-use Rattle.wf_machine.specs.Ports.{port_of}
+use Rattle.wf_machine.proofs.Common.{◌≡◌, ℕ, List, [], length, map, sym, ap, subst, ◌∙◌, flat_map, range_with_len, length-map, KeptStream}
+use Rattle.wf_machine.proofs.Common.{core_names, display_names, kept, own_names, settle, State, Inside, state_of, Marks, port_of}
 use Rattle.wf_machine.proofs.Dropping.{sound_settled}
 use Rattle.wf_machine.proofs.Markings.{all_marked, own_marks, rest_marked}
 use Rattle.wf_machine.proofs.parts.Parts.settle.Goals as goal
@@ -28,11 +19,11 @@ module _ (c : goal.After-sweep) where
   screens =
       let many : length c.deref.result.now ≡ length (map port_of m.ports.items) = ap length c.deref.ensures.value
       ∙ sym (length-map m.ports.items port_of) in
-      subst (λ (n : ℕ). Marks c.mark.new.store c.mark_screens.new.store (range_with_len 1 n)) many c.mark_screens.ensures
+      subst (λ n. Marks c.mark.new.store c.mark_screens.new.store (range_with_len 1 n)) many c.mark_screens.ensures
 
   streams : c.sweep.new.self.streams ≡ kept (state_of m)
   streams =
-      ap (λ (v : StoreView). v.streams) c.sweep.ensures
+      ap (λ v. v.streams) c.sweep.ensures
       ∙ all_marked m c.unmark.new.self c.mark_own.new.self c.mark.new.store c.mark_screens.new.store c.mark_frame.new.store
       c.self.invariant.numbered c.unmark.ensures own composed screens c.mark_frame.ensures
 
@@ -41,13 +32,13 @@ module _ (c : goal.After-sweep) where
       c.self.invariant.numbered c.unmark.ensures own composed screens c.mark_frame.ensures
 
   made : c.sweep.new.self.made ≡ m.store.made
-  made = ap (λ (v : StoreView). v.made) c.sweep.ensures ∙ ap (λ (v : StoreView). v.made) rest
+  made = ap (λ v. v.made) c.sweep.ensures ∙ ap (λ v. v.made) rest
 
   numbered : c.sweep.new.self.numbered ≡ m.store.numbered
-  numbered = ap (λ (v : StoreView). v.numbered) c.sweep.ensures ∙ ap (λ (v : StoreView). v.numbered) rest
+  numbered = ap (λ v. v.numbered) c.sweep.ensures ∙ ap (λ v. v.numbered) rest
 
   others : c.sweep.new.self.others ≡ m.store.others
-  others = ap (λ (v : StoreView). v.others) c.sweep.ensures ∙ ap (λ (v : StoreView). v.others) rest
+  others = ap (λ v. v.others) c.sweep.ensures ∙ ap (λ v. v.others) rest
 
 pub invariant_of-self : goal.invariant_of-self
 invariant_of-self c = sound_settled c.self.inside c.sweep.new.self (streams c) (others c) (made c) (numbered c) c.self.invariant
@@ -56,7 +47,7 @@ pub returns : goal.returns
 returns c =
     let m = c.self.inside in
     let state : ℕ → ℕ → List KeptStream → State = λ n k ss. record (state_of m) { made = n; numbered = k; streams = ss } in
-    ap (λ (n : ℕ). state n c.sweep.new.self.numbered c.sweep.new.self.streams) (made c)
-    ∙ ap (λ (k : ℕ). state m.store.made k c.sweep.new.self.streams) (numbered c)
-    ∙ ap (λ (ss : List KeptStream). state m.store.made m.store.numbered ss) (streams c)
+    ap (λ n. state n c.sweep.new.self.numbered c.sweep.new.self.streams) (made c)
+    ∙ ap (λ k. state m.store.made k c.sweep.new.self.streams) (numbered c)
+    ∙ ap (λ ss. state m.store.made m.store.numbered ss) (streams c)
     ∙ ap settle c.self.view_is

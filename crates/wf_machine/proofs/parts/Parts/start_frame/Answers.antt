@@ -1,12 +1,4 @@
-use Rattle.std.proofs.Common.{◌+◌, Some, refl, sym, subst}
-use Rattle.wf_stream.specs.Streams.{StoreView}
-use Rattle.wf_calls.specs.declared.reply.Reply.{Reply}
-use Rattle.wf_model.specs.State.{State}
-use Rattle.wf_model.specs.Frames.{start}
-use Rattle.wf_machine.specs.Object.{IsAnswer}
-use Rattle.wf_machine.specs.declared.frame.Frame.{Frame}
-use Rattle.wf_machine.specs.declared.parts.Parts.TheInside.{Inside}
-use Rattle.wf_machine.specs.Starting.{IsReady, MayStart, beginning_of}
+use Rattle.wf_machine.proofs.Common.{◌+◌, Some, refl, sym, subst, start, IsAnswer, Frame, Inside, IsReady, MayStart, beginning_of}
 use Rattle.wf_machine.proofs.Begun.{home_without}
 use Rattle.wf_machine.proofs.Beginning.{no_frame, sound_begun}
 use Rattle.wf_machine.proofs.Starting.{Starts, answers, b, begun, left, ready}
@@ -19,8 +11,8 @@ latch_scene-requires-clause-home c = home_without c.self.inside (no_frame c.self
 pub take_target-image-requires : goal.take_target-image-requires
 take_target-image-requires c =
     let free = no_frame c.self.inside c.args.self.now c.self.view_is c.requires.free in
-    let may = subst (λ (h : State). MayStart c.args.kind c.args.scene h) (sym c.self.view_is) c.requires.may in
-    subst (λ (v : StoreView). IsReady v.streams c.self.inside.ports.items c.args.kind) (sym c.latch_scene.ensures.store)
+    let may = subst (λ h. MayStart c.args.kind c.args.scene h) (sym c.self.view_is) c.requires.may in
+    subst (λ v. IsReady v.streams c.self.inside.ports.items c.args.kind) (sym c.latch_scene.ensures.store)
     (ready c.self.inside c.args.scene c.args.value c.self.invariant free c.args.kind may)
 
 module _ (c : goal.After-giving_job) where
@@ -50,7 +42,7 @@ module _ (c : goal.After-giving_job) where
       record {
         free = no_frame c.self.inside c.args.self.now c.self.view_is c.requires.free;
         sound = c.self.invariant;
-        may = subst (λ (h : State). MayStart c.args.kind c.args.scene h) (sym c.self.view_is) c.requires.may;
+        may = subst (λ h. MayStart c.args.kind c.args.scene h) (sym c.self.view_is) c.requires.may;
         taken = c.latch_scene.ensures.contents;
         latched_is = c.latch_scene.ensures.store;
         shaped = c.latch_scene.ensures.shaped;
@@ -83,7 +75,7 @@ returns-clause-left c = left c.self.inside (now c) c.args.kind c.args.scene c.ar
 
 pub returns-clause-answer : goal.returns-clause-answer
 returns-clause-answer c =
-    subst (λ (r : Reply). IsAnswer (start (beginning_of c.args.kind c.args.scene c.args.value c.args.self.now) c.args.self.now).1 r)
+    subst (λ r. IsAnswer (start (beginning_of c.args.kind c.args.scene c.args.value c.args.self.now) c.args.self.now).1 r)
     (sym c.giving_job.ensures)
     (answers c.self.inside (now c) c.args.kind c.args.scene c.args.value _ _ _ _ (frame c) (starts c)
     c.args.self.now c.self.view_is _ refl refl refl refl refl)

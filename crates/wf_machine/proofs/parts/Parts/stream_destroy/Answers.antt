@@ -1,6 +1,4 @@
-use Rattle.std.proofs.Common.{sym, subst, refl}
-use Rattle.wf_stream.specs.Streams.{StoreView}
-use Rattle.wf_machine.specs.Inside.{IsSound}
+use Rattle.wf_machine.proofs.Common.{sym, subst, refl, IsSound}
 use Rattle.wf_machine.proofs.Buffering.{found}
 use Rattle.wf_machine.proofs.Sounds.{sound_unnamed}
 use Rattle.wf_machine.proofs.parts.Parts.stream_destroy.Goals as goal
@@ -9,5 +7,5 @@ pub invariant_of-self : goal.invariant_of-self
 invariant_of-self c =
     let s = found c.args.stream c.in-Ok.field-0 c.self.inside.store.numbered c.self.inside.store.streams c.self.invariant.numbered
     c.in-Ok.ensures.number in
-    subst (λ (store : StoreView). IsSound (record c.self.inside { store = store })) (sym (c.kill.ensures.stream (rw s.1 refl)))
+    subst (λ store. IsSound (record c.self.inside { store = store })) (sym (c.kill.ensures.stream (rw s.1 refl)))
     (sound_unnamed c.self.inside c.args.stream c.self.invariant)

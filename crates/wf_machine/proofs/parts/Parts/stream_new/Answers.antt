@@ -1,14 +1,7 @@
-use Rattle.std.proofs.Common.{◌+◌, Err, sym, ap, subst, ◌∙◌, ℕ}
-use Rattle.wf_stream.specs.Streams.{StoreView, with_live_stream}
+use Rattle.wf_machine.proofs.Common.{◌+◌, Err, sym, ap, subst, ◌∙◌, with_live_stream, is_out_of_memory, count_of, bare, done, refusal}
+use Rattle.wf_machine.proofs.Common.{refused, new_buffers, size_from, stream_new, stream_step, IsSound, to_z-of_z}
 use Rattle.wf_calls.specs.declared.code.Code.TheVariants as code
-use Rattle.wf_calls.specs.Codes.{is_out_of_memory}
-use Rattle.wf_words.specs.Whole.{count_of}
-use Rattle.wf_calls.specs.Replies.{bare, done, refusal, refused}
-use Rattle.wf_model.specs.Streams.{new_buffers, size_from, stream_new, stream_step}
-use Rattle.wf_machine.specs.Inside.{IsSound}
 use Rattle.wf_machine.proofs.Sounds.{leaves, limited, made, made_sides, sound_made, stays, unmade}
-use Rattle.wf_life.specs.declared.handles.MakeStop.{MakeStop}
-use Rattle.std.proofs.Math.Facts.{to_z-of_z}
 use Rattle.wf_machine.proofs.parts.Parts.stream_new.Goals as goal
 
 pub returns-in-Err-Limit : goal.returns-in-Err-Limit
@@ -22,7 +15,7 @@ returns-in-Err-Limit c =
     (limited a.width a.height a.buffers a.format _ (rw (to_z-of_z c.ranges.width, to_z-of_z c.ranges.height, to_z-of_z c.ranges.buffers) at
     (sym c.may_make.ensures ∙ c.if-not-may_make.false))
     (rw (to_z-of_z c.ranges.width, to_z-of_z c.ranges.height, to_z-of_z c.ranges.buffers) at
-    (c.in-Err-Limit.ensures.limit (ap (λ (e : MakeStop). Err e) c.in-Err-Limit.field-0-is))))
+    (c.in-Err-Limit.ensures.limit (ap (λ e. Err e) c.in-Err-Limit.field-0-is))))
 
 pub returns-in-Err-NoMemory : goal.returns-in-Err-NoMemory
 returns-in-Err-NoMemory c =
@@ -35,12 +28,12 @@ returns-in-Err-NoMemory c =
     (unmade a.width a.height a.buffers a.format _ (rw (to_z-of_z c.ranges.width, to_z-of_z c.ranges.height, to_z-of_z c.ranges.buffers) at
     (sym c.may_make.ensures ∙ c.if-not-may_make.false))
     (rw (to_z-of_z c.ranges.width, to_z-of_z c.ranges.height, to_z-of_z c.ranges.buffers) at
-    (c.in-Err-NoMemory.ensures.memory (ap (λ (e : MakeStop). Err e) c.in-Err-NoMemory.field-0-is))))
+    (c.in-Err-NoMemory.ensures.memory (ap (λ e. Err e) c.in-Err-NoMemory.field-0-is))))
 
 pub invariant_of-self-2 : goal.invariant_of-self-2
 invariant_of-self-2 c =
     let a = c.args in
-    subst (λ (store : StoreView). IsSound (record c.self.inside { store = store }))
+    subst (λ store. IsSound (record c.self.inside { store = store }))
     (sym (rw (to_z-of_z c.ranges.width, to_z-of_z c.ranges.height, to_z-of_z c.ranges.buffers) at c.in-Ok.ensures.made))
     (sound_made c.self.inside (size_from a.width a.height) a.format (count_of a.buffers)
     (made_sides a.width a.height a.buffers (rw (to_z-of_z c.ranges.width, to_z-of_z c.ranges.height, to_z-of_z c.ranges.buffers) at
@@ -56,7 +49,7 @@ returns c =
     (stream_new a.width a.height a.format a.buffers (is_out_of_memory r.code) t))
     c.make.new.store (with_live_stream new inside.store) (bare c.done.result) (bare (done (inside.store.made + 1)))
     (rw (to_z-of_z c.ranges.width, to_z-of_z c.ranges.height, to_z-of_z c.ranges.buffers) at c.in-Ok.ensures.made)
-    (ap bare c.done.ensures ∙ ap (λ (n : ℕ). bare (done n)) c.in-Ok.ensures.handle)
+    (ap bare c.done.ensures ∙ ap (λ n. bare (done n)) c.in-Ok.ensures.handle)
     (made a.width a.height a.buffers a.format _ (rw (to_z-of_z c.ranges.width, to_z-of_z c.ranges.height, to_z-of_z c.ranges.buffers) at
     (sym c.may_make.ensures ∙ c.if-not-may_make.false))
     (rw (to_z-of_z c.ranges.width, to_z-of_z c.ranges.height, to_z-of_z c.ranges.buffers) at c.in-Ok.ensures.room) c.in-Ok.ensures.free)

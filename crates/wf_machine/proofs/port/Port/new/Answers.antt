@@ -1,4 +1,4 @@
-use Rattle.std.proofs.Common.{◌∷◌, [], Some, length, ap, arith, length-append}
+use Rattle.wf_machine.proofs.Common.{◌∷◌, [], Some, length, ap, arith, length-append}
 use Rattle.wf_machine.proofs.Images.{holds_more, is_frame_image, taken_more}
 use Rattle.wf_machine.proofs.port.Port.new.Goals as goal
 

@@ -1,5 +1,4 @@
-use Rattle.std.proofs.Common.{◌≡◌, ◌≤◌, take, length, vec_capacity}
-use Rattle.wf_machine.specs.Ports.{HoldsBut}
+use Rattle.wf_machine.proofs.Common.{◌≡◌, ◌≤◌, take, length, vec_capacity, HoldsBut}
 use Rattle.wf_machine.proofs.port.Port.new.Given as goal
 
 -- the modes so far, each with its image

@@ -1,4 +1,4 @@
-use Rattle.std.proofs.Common.{arith}
+use Rattle.wf_machine.proofs.Common.{arith}
 use Rattle.wf_machine.proofs.Images.{as_many, first_put}
 use Rattle.wf_machine.proofs.port.Port.put_image.Goals as goal
 

@@ -1,7 +1,4 @@
-use Rattle.std.proofs.Common.{Option, sym, subst, ◌∙◌, arith, slice_set}
-use Rattle.wf_image.specs.Bitmap.{Bitmap}
-use Rattle.wf_model.specs.State.{mode_size}
-use Rattle.wf_machine.specs.Ports.{HoldsBut, IsFrameImage}
+use Rattle.wf_machine.proofs.Common.{sym, subst, ◌∙◌, arith, slice_set, mode_size, HoldsBut, IsFrameImage}
 use Rattle.wf_machine.proofs.Images.{as_many, first_is, first_taken}
 use Rattle.wf_machine.proofs.port.Port.take_image.Goals as goal
 
@@ -18,9 +15,9 @@ pub returns-clause-shape : goal.returns-clause-shape
 returns-clause-shape c =
     let is = first_is c.args.self.now.modes.items c.args.self.now.images.items c.index_mut.result.now c.requires.there c.requires.some
     c.index_mut.ensures.value in
-    subst (λ (o : Option Bitmap). IsFrameImage (mode_size 1 c.args.self.now.modes.items) o) (sym c.take.ensures.value ∙ c.in-Some.is) is
+    subst (λ o. IsFrameImage (mode_size 1 c.args.self.now.modes.items) o) (sym c.take.ensures.value ∙ c.in-Some.is) is
 
 pub returns-clause-away : goal.returns-clause-away
 returns-clause-away c =
-    subst (λ (o : Option Bitmap). HoldsBut 1 c.args.self.now.modes.items (slice_set c.args.self.now.images.items 0 o))
+    subst (λ o. HoldsBut 1 c.args.self.now.modes.items (slice_set c.args.self.now.images.items 0 o))
     (sym c.take.ensures.after) (first_taken c.args.self.now.modes.items c.args.self.now.images.items c.requires.there c.requires.some)

@@ -28,10 +28,10 @@ returns c =
     } in
     let grown : CoreState → CoreState = λ k. record k { contexts = k.contexts ++ new ∷ [] } in
     let below : nat_le 16 (length core.contexts) ≡ false = lt-leb 16 (length core.contexts)
-    (omega (arith, c.if-len-ge-MOST_CONTEXTS.false, c.len.ensures, ap (λ (k : CoreState). length k.contexts) c.self.view_is)) in
+    (omega (arith, c.if-len-ge-MOST_CONTEXTS.false, c.len.ensures, ap (λ k. length k.contexts) c.self.view_is)) in
     let fit : ContextFits store.streams new = record { target = c.requires.kept; size = refl; layers = tt } in
     rw (c.in_ok-handle.ensures.made, c.push_reserved.ensures.items, c.in_ok-handle.ensures.handle, c.in-Ok.ensures, c.blank_scene.ensures)
-    (subst (λ (k : CoreState). Does (context_made a.device a.port a.target) core (grown k) store (with_other kind.Context a.device store)
+    (subst (λ k. Does (context_made a.device a.port a.target) core (grown k) store (with_other kind.Context a.device store)
     (Ok (store.made + 1))) (sym c.self.view_is)
     (creates core store c.requires.fits (context_made a.device a.port a.target) (nat_le 16 (length core.contexts)) (grown core)
     (λ m. refl) kind.Context a.device refl refl below c.in_ok-handle.ensures.stopped

@@ -16,9 +16,9 @@ returns c =
     let grown : CoreState → CoreState =
     λ k. record k { devices = k.devices ++ record { handle = store.made + 1; register = None } ∷ [] } in
     let below : nat_le 8 (length core.devices) ≡ false = lt-leb 8 (length core.devices)
-    (omega (arith, c.if-len-ge-MOST_DEVICES.false, c.len.ensures, ap (λ (k : CoreState). length k.devices) c.self.view_is)) in
+    (omega (arith, c.if-len-ge-MOST_DEVICES.false, c.len.ensures, ap (λ k. length k.devices) c.self.view_is)) in
     rw (c.in_ok-handle.ensures.made, c.push_reserved.ensures.items, c.in_ok-handle.ensures.handle)
-    (subst (λ (k : CoreState). Does device_new core (grown k) store (with_other kind.Device 0 store) (Ok (store.made + 1)))
+    (subst (λ k. Does device_new core (grown k) store (with_other kind.Device 0 store) (Ok (store.made + 1)))
     (sym c.self.view_is)
     (creates core store c.requires device_new (nat_le 8 (length core.devices)) (grown core) (λ m. refl) kind.Device 0 refl refl below
     c.in_ok-handle.ensures.stopped (device_fits core store c.requires)))

@@ -1,11 +1,10 @@
-use Rattle.std.proofs.Common.{◌≡◌, ◌∙◌, ℕ, ◌+◌, false, length, set, subst, sym, ap, arith, Ok}
+use Rattle.std.proofs.Common.{◌≡◌, ◌∙◌, ◌+◌, false, length, set, subst, sym, ap, arith, Ok}
 use Rattle.std.specs.Prelude.{nat_le}
 use Rattle.std.proofs.lemmas.Bool.{lt-leb}
 use Rattle.wf_words.specs.Each.{each_at}
 use Rattle.wf_life.specs.declared.Kind.TheVariants as kind
 use Rattle.wf_stream.specs.Streams.{with_other}
 use Rattle.wf_scene.specs.Cached as cached
-use Rattle.wf_model.specs.Objects.{Context, CoreState}
 use Rattle.wf_objects.specs.Does.{Does, element_made, in_place}
 use Rattle.wf_objects.specs.Fits.{HasElements}
 use Rattle.wf_objects.specs.Rows.{context_of}
@@ -18,7 +17,7 @@ add-requires-clause-fresh c =
     let a = c.args in
     let x = context_of c.behind-self-3.inside in
     let at = standing _ a.self.now a.place _ x c.self.view_is c.requires.within c.index_mut.ensures.value c.behind-self-3.view_is in
-    ap (λ (n : ℕ). cached.has_element n x.cached) c.in_ok-handle.ensures.handle
+    ap (λ n. cached.has_element n x.cached) c.in_ok-handle.ensures.handle
     ∙ fresh a.self.now a.store.now c.requires.fits x
     (each_at (HasElements a.store.now.others) a.self.now.contexts a.place x c.requires.fits.handles.elements at)
 
@@ -34,12 +33,12 @@ returns c =
     let counted = standing _ core a.place _ y c.self.view_is c.requires.within c.index.ensures c.behind-self.view_is in
     let named = standing _ core a.place _ z c.self.view_is c.requires.within c.index-2.ensures c.behind-self-2.view_is in
     let handle : z.handle ≡ x.handle =
-    (let same : z ≡ x = let both = sym named ∙ at in cc in ap (λ (y : Context). y.handle) same) in
+    (let same : z ≡ x = let both = sym named ∙ at in cc in ap (λ y. y.handle) same) in
     let same : y ≡ x = let both = sym counted ∙ at in cc in
     let below : nat_le 64 (length x.cached.elements) ≡ false = lt-leb 64 (length x.cached.elements)
-    (omega (arith, c.if-count-ge-MOST_ELEMENTS.false, c.count.ensures.count, ap (λ (y : Context). length y.cached.elements) same)) in
+    (omega (arith, c.if-count-ge-MOST_ELEMENTS.false, c.count.ensures.count, ap (λ y. length y.cached.elements) same)) in
     rw (c.in_ok-handle.ensures.made, handle, c.add.ensures.added, c.in_ok-handle.ensures.handle)
-    (subst (λ (k : CoreState). Does (in_place a.place element_made) core
+    (subst (λ k. Does (in_place a.place element_made) core
     (record k { contexts = set k.contexts a.place (record x { cached = cached.add (store.made + 1) x.cached }) }) store
     (with_other kind.Element x.handle store) (Ok (store.made + 1))) (sym c.self.view_is)
     (element_creates core store c.requires.fits a.place x at below c.in_ok-handle.ensures.stopped))

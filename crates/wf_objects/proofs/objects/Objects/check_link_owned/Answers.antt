@@ -1,7 +1,7 @@
 use Rattle.std.proofs.Common.{◌≡◌, ◌∙◌, ℕ, ◌&&◌, ◌==◌, Bool, List, Err, sym, ap, refl}
 use Rattle.std.specs.List.{list_any}
 use Rattle.wf_words.specs.Found.{any_first, none_at, some_at}
-use Rattle.wf_model.specs.Objects.{Context, CoreState, Source}
+use Rattle.wf_model.specs.Objects.{Context, Source}
 use Rattle.wf_model.specs.Composition.{device, is_of_device}
 use Rattle.wf_model.specs.Core.{owned_source}
 use Rattle.wf_objects.specs.Links.{links}
@@ -20,9 +20,9 @@ is_sought c = sought_in c.args.link c.args.device c.args.self.now.contexts
 -- what was asked of the links
 asked : (c : After-is_owned) → c.is_owned.result ≡ list_any (is_sought c) (links c.args.mask c.args.self.now)
 asked c =
-    let contexts = c.deref.ensures.value ∙ ap (λ (k : CoreState). k.contexts) c.self.view_is in
+    let contexts = c.deref.ensures.value ∙ ap (λ k. k.contexts) c.self.view_is in
     c.is_owned.ensures ∙ ap (list_any (sought_in c.args.link c.args.device c.deref.result.now)) c.links.ensures
-    ∙ ap (λ (cs : List Context). list_any (sought_in c.args.link c.args.device cs) (links c.args.mask c.args.self.now)) contexts
+    ∙ ap (λ cs. list_any (sought_in c.args.link c.args.device cs) (links c.args.mask c.args.self.now)) contexts
 
 pub returns-then-not-is_owned-clause-owned : goal.returns-then-not-is_owned-clause-owned
 returns-then-not-is_owned-clause-owned c =
@@ -47,5 +47,5 @@ pub returns-clause-live : goal.returns-clause-live
 returns-clause-live c =
     let a = c.args in
     let k = (goal.at.returns-clause-live c).After-is_owned in
-    any_first (λ (s : Source). s.handle == a.link) (λ (s : Source). is_of_device a.device a.self.now s.context) (links a.mask a.self.now)
+    any_first (λ s. s.handle == a.link) (λ s. is_of_device a.device a.self.now s.context) (links a.mask a.self.now)
     (sym (asked k) ∙ c.if-not-is_owned.false)

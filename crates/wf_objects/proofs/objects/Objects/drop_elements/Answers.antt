@@ -1,7 +1,5 @@
 use Rattle.std.proofs.Common.{◌≡◌, ◌∙◌, ◌==◌, eq-eqb, slice_get, Some, is_some, sym, ap}
-use Rattle.wf_scene.specs.declared.element.Element.{Element}
 use Rattle.wf_scene.specs.Cached.{forget}
-use Rattle.wf_model.specs.Objects.{Context}
 use Rattle.wf_model.specs.Composition.{change_context, with_cached}
 use Rattle.wf_objects.specs.Rows.{context_of}
 use Rattle.wf_objects.proofs.Dropped.{then_lost}
@@ -20,14 +18,14 @@ at c = standing _ c.loop-element.self c.args.place _ (context_of c.behind-self.i
 handle : (c : After-first) → (context_of c.behind-self.inside).handle ≡ c.args.context
 handle c = let s = c.loop-element.invariant.here in
     let same : (context_of c.behind-self.inside) ≡ s.context = let both = sym (at c) ∙ s.at in cc in
-    ap (λ (x : Context). x.handle) same ∙ s.handle_is
+    ap (λ x. x.handle) same ∙ s.handle_is
 
 pub drop_element-requires-clause-lives : goal.drop_element-requires-clause-lives
 drop_element-requires-clause-lives c =
     let es = (context_of c.behind-self.inside).cached.elements in
     let there = at (goal.at.drop_element-requires-clause-lives c).After-first in
     let x = element_first c.in-Some.element es (sym c.in-Some.is ∙ c.first.ensures.first) in
-    rw there (any_found (λ (y : Element). y.handle == c.in-Some.element) es ∙ ap is_some x.1)
+    rw there (any_found (λ y. y.handle == c.in-Some.element) es ∙ ap is_some x.1)
 
 -- what is left of the objects
 left : (c : After-drop_element) (there : slice_get c.loop-element.self.contexts c.args.place ≡ Some (context_of c.behind-self.inside))
@@ -64,7 +62,7 @@ loop-element-preserved c =
 pub returns-clause-live : goal.returns-clause-live
 returns-clause-live c =
     let s = c.loop-element.invariant.here in
-    any_at (λ (x : Context). x.handle == c.args.context) c.loop-element.self.contexts c.args.place s.context s.at
+    any_at (λ x. x.handle == c.args.context) c.loop-element.self.contexts c.args.place s.context s.at
     (eq-eqb s.context.handle c.args.context s.handle_is)
 
 pub returns-clause-bare : goal.returns-clause-bare

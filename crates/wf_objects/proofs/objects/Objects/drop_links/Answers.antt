@@ -1,5 +1,5 @@
 use Rattle.std.proofs.Common.{◌≡◌, ◌∙◌, List, sym, ap}
-use Rattle.wf_model.specs.Objects.{CoreState, Source}
+use Rattle.wf_model.specs.Objects.{Source}
 use Rattle.wf_model.specs.Core.{without_source, without_those_of}
 use Rattle.wf_objects.specs.Links.{links, with_links}
 use Rattle.wf_objects.proofs.Dropped.{then_lost}
@@ -43,9 +43,9 @@ loop-link-preserved c =
       fits = c.drop_link.ensures.fits;
       loses = then_lost c.args.store.now l.store c.drop_link.new.store l.invariant.loses c.drop_link.ensures.loses;
       rest =
-          ap (λ (k : CoreState). with_links mask (of (links mask k)) k) c.drop_link.ensures.dropped
-          ∙ ap (λ (ss : List Source). with_links mask (of ss) (with_links mask left l.self)) (links_with mask left l.self)
-          ∙ with_twice mask left (of left) l.self ∙ ap (λ (ss : List Source). with_links mask ss l.self) leaves ∙ l.invariant.rest;
+          ap (λ k. with_links mask (of (links mask k)) k) c.drop_link.ensures.dropped
+          ∙ ap (λ ss. with_links mask (of ss) (with_links mask left l.self)) (links_with mask left l.self)
+          ∙ with_twice mask left (of left) l.self ∙ ap (λ ss. with_links mask ss l.self) leaves ∙ l.invariant.rest;
     }
 
 pub returns-clause-dropped : goal.returns-clause-dropped
@@ -53,4 +53,4 @@ returns-clause-dropped c =
     let l = c.loop-link in
     let none = none_is c.args.context (links c.args.mask l.self)
     (sym c.in_default.is ∙ told (goal.at.returns-clause-dropped c).After-first_of) in
-    sym (ap (λ (ss : List Source). with_links c.args.mask ss l.self) none ∙ with_own c.args.mask l.self) ∙ l.invariant.rest
+    sym (ap (λ ss. with_links c.args.mask ss l.self) none ∙ with_own c.args.mask l.self) ∙ l.invariant.rest

@@ -1,5 +1,4 @@
 use Rattle.std.proofs.Common.{◌≡◌, ◌==◌, ◌∙◌, sym, ap, option_and_then, position, slice_get}
-use Rattle.wf_model.specs.Objects.{Context, CoreState}
 use Rattle.wf_objects.specs.Owners.{of_device}
 use Rattle.wf_objects.proofs.Lookups.{placed, not_placed, none_placed}
 use Rattle.wf_objects.proofs.Owners.{found_here}
@@ -12,8 +11,8 @@ found c =
     let a = c.args in
     placed a.self.now a.store.now c.requires.handles a.device a.context c.in-Some.owner c.place_of.result (sym c.key_of.ensures
     ∙ c.in-Some.is) c.if-owner-device.true
-    (c.place_of.ensures.place ∙ ap (position (λ (x : Context). x.handle == a.context)) (c.deref.ensures.value
-    ∙ ap (λ (k : CoreState). k.contexts) c.self.view_is))
+    (c.place_of.ensures.place ∙ ap (position (λ x. x.handle == a.context)) (c.deref.ensures.value
+    ∙ ap (λ k. k.contexts) c.self.view_is))
 
 pub returns-in-Some-clause-found : goal.returns-in-Some-clause-found
 returns-in-Some-clause-found c = found c

@@ -1,6 +1,5 @@
 use Rattle.std.proofs.Common.{set, subst, sym}
 use Rattle.wf_scene.specs.Cached as cached
-use Rattle.wf_model.specs.Objects.{CoreState}
 use Rattle.wf_objects.specs.Does.{Does, in_place, scene_set}
 use Rattle.wf_objects.specs.Rows.{context_of}
 use Rattle.wf_objects.proofs.Keeping.{remove_keeps}
@@ -21,7 +20,7 @@ returns c =
     let x = context_of c.behind-self.inside in
     let at = standing _ a.self.now a.place _ x c.self.view_is c.requires.within c.index_mut.ensures.value c.behind-self.view_is in
     let call = cached.remove a.element in
-    subst (λ (k : CoreState). Does (in_place a.place (scene_set call)) a.self.now
+    subst (λ k. Does (in_place a.place (scene_set call)) a.self.now
     (record k { contexts = set k.contexts a.place (record x { cached = c.remove.new.self }) }) a.store.now a.store.now c.edited.result)
     (sym c.self.view_is)
     (edits a.self.now a.store.now c.requires.fits a.place x at call c.remove.result c.remove.new.self c.edited.result c.remove.ensures.case

@@ -1,5 +1,4 @@
 use Rattle.std.proofs.Common.{set, subst, sym, Ok}
-use Rattle.wf_model.specs.Objects.{CoreState}
 use Rattle.wf_model.specs.Core.{with_committed}
 use Rattle.wf_objects.specs.Does.{Does, changed, in_place}
 use Rattle.wf_objects.specs.Rows.{context_of}
@@ -12,6 +11,6 @@ returns c =
     let a = c.args in
     let x = context_of c.behind-self.inside in
     let at = standing _ a.self.now a.place _ x c.self.view_is c.requires.within c.index_mut.ensures.value c.behind-self.view_is in
-    subst (λ (k : CoreState). Does (in_place a.place (changed (with_committed a.scene))) a.self.now
+    subst (λ k. Does (in_place a.place (changed (with_committed a.scene))) a.self.now
     (record k { contexts = set k.contexts a.place (record x { committed = a.scene }) }) a.store.now a.store.now (Ok 0)) (sym c.self.view_is)
     (commits a.self.now a.store.now c.requires.fits a.place x at a.scene (rw at at c.requires.scene_fits))

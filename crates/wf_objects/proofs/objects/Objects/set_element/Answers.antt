@@ -1,7 +1,6 @@
 use Rattle.std.proofs.Common.{◌≡◌, ◌∙◌, Ok, set, subst, sym, ap}
 use Rattle.wf_scene.specs.Cached as cached
 use Rattle.wf_scene.specs.Values.{component}
-use Rattle.wf_model.specs.Objects.{Context, CoreState}
 use Rattle.wf_model.specs.Core.{linked}
 use Rattle.wf_objects.specs.Does.{Does, element_set, in_place}
 use Rattle.wf_objects.specs.Sides.{side_of}
@@ -29,10 +28,10 @@ returns c =
     let before = standing _ core a.place _ y c.self.view_is c.requires.within c.index.ensures c.behind-self.view_is in
     let same : y ≡ x = let both = sym before ∙ at in cc in
     let link : linked a.attr a.device x.handle (component a.value 0) (side_of core store) ≡ Ok tt =
-    sym (ap (λ (y : Context). linked a.attr a.device y.handle (component a.value 0) (side_of core store)) same)
+    sym (ap (λ y. linked a.attr a.device y.handle (component a.value 0) (side_of core store)) same)
     ∙ sym c.in_ok-check_link.ensures.checked in
     let call = cached.set a.element a.attr a.value in
-    subst (λ (k : CoreState). Does (in_place a.place (element_set a.device a.element a.attr a.value)) core
+    subst (λ k. Does (in_place a.place (element_set a.device a.element a.attr a.value)) core
     (record k { contexts = set k.contexts a.place (record x { cached = c.set.new.self }) }) store store c.edited.result)
     (sym c.self.view_is)
     (linked_first core store c.requires.fits a.place x at a.device a.element a.attr a.value c.set.new.self c.edited.result link

@@ -1,14 +1,13 @@
 use Rattle.std.proofs.Common.{◌≡◌, ◌∙◌, sym, refl, arith}
 use Rattle.std.proofs.lemmas.List.{with_items_is}
 use Rattle.wf_words.specs.Keyed.{at_key}
-use Rattle.wf_model.specs.Objects.{Device}
 use Rattle.wf_objects.proofs.Fitting.{takes_error}
 use Rattle.wf_objects.proofs.objects.Objects.take_error.Goals as goal
 
 pub returns-in-Some : goal.returns-in-Some
 returns-in-Some c =
     let a = c.args in
-    let found : c.device_at.result ≡ at_key (λ (x : Device). x.handle) a.device a.self.now.devices =
+    let found : c.device_at.result ≡ at_key (λ x. x.handle) a.device a.self.now.devices =
     c.device_at.ensures ∙ rw (c.deref.ensures.value, ← c.self.view_is) refl in
     takes_error a.device a.self.now _ a.store.now c.in-Some.found c.register_number.result c.requires (sym found ∙ c.in-Some.is)
     (rw (

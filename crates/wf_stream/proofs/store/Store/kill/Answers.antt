@@ -1,6 +1,6 @@
-use Rattle.std.proofs.Common.{◌≡◌, List, map, refl, sym, ap, ◌∙◌}
+use Rattle.std.proofs.Common.{◌≡◌, map, refl, sym, ap, ◌∙◌}
 use Rattle.std.specs.Result.{result_ok}
-use Rattle.wf_stream.specs.Streams.{KeptStream, unnamed}
+use Rattle.wf_stream.specs.Streams.{unnamed}
 use Rattle.wf_stream.specs.Joined.{live_streams}
 use Rattle.wf_stream.proofs.Joined.{number_found, live_found, rising_streams, rising_without, unnamed_found, unnamed_none, numbered_unnamed}
 use Rattle.wf_stream.proofs.Joined.{killed_tied, killed_others}
@@ -21,7 +21,7 @@ invariant_of-self c =
     let found = sym (number_found c.args.handle live streams sound.tied) ∙ sym c.in-Ok.ensures.found in
     let under = rising_streams c.self.inside.handles.made live streams sound.orderly sound.tied in
     let view : c.hand_over.new.self ≡ record shelf { streams = map (unnamed c.args.handle) streams } = c.hand_over.ensures
-    ∙ ap (λ (ss : List KeptStream). record shelf { streams = ss })
+    ∙ ap (λ ss. record shelf { streams = ss })
     (unnamed_found 0 c.self.inside.numbered 0 c.self.inside.handles.made c.args.handle c.in-Ok.number streams sound.rising under
     found) in
     rw (c.kill.ensures.killed, view) (record {
@@ -57,7 +57,7 @@ returns-in-Ok-clause-killed c =
     let found = sym (number_found c.args.handle live streams sound.tied) ∙ sym c.in-Ok.ensures.found in
     let under = rising_streams c.self.inside.handles.made live streams sound.orderly sound.tied in
     let view : c.hand_over.new.self ≡ record shelf { streams = map (unnamed c.args.handle) streams } = c.hand_over.ensures
-    ∙ ap (λ (ss : List KeptStream). record shelf { streams = ss })
+    ∙ ap (λ ss. record shelf { streams = ss })
     (unnamed_found 0 c.self.inside.numbered 0 c.self.inside.handles.made c.args.handle c.in-Ok.number streams sound.rising under
     found) in
     rw (← c.self.view_is, c.kill.ensures.killed, view, killed_others c.args.handle live) refl
@@ -81,7 +81,7 @@ returns-in-Ok-clause-other c =
     let found = sym (number_found c.args.handle live streams sound.tied) ∙ sym c.in-Ok.ensures.found in
     let under = rising_streams c.self.inside.handles.made live streams sound.orderly sound.tied in
     let view : c.hand_over.new.self ≡ record shelf { streams = map (unnamed c.args.handle) streams } = c.hand_over.ensures
-    ∙ ap (λ (ss : List KeptStream). record shelf { streams = ss })
+    ∙ ap (λ ss. record shelf { streams = ss })
     (unnamed_found 0 c.self.inside.numbered 0 c.self.inside.handles.made c.args.handle c.in-Ok.number streams sound.rising under
     found) in
     rw (← c.self.view_is, c.kill.ensures.killed, view, killed_others c.args.handle live)
@@ -96,7 +96,7 @@ returns-in-Ok-clause-stream c =
     let found = sym (number_found c.args.handle live streams sound.tied) ∙ sym c.in-Ok.ensures.found in
     let under = rising_streams c.self.inside.handles.made live streams sound.orderly sound.tied in
     let view : c.hand_over.new.self ≡ record shelf { streams = map (unnamed c.args.handle) streams } = c.hand_over.ensures
-    ∙ ap (λ (ss : List KeptStream). record shelf { streams = ss })
+    ∙ ap (λ ss. record shelf { streams = ss })
     (unnamed_found 0 c.self.inside.numbered 0 c.self.inside.handles.made c.args.handle c.in-Ok.number streams sound.rising under
     found) in
     rw (← c.self.view_is, c.kill.ensures.killed, view, killed_others c.args.handle live)

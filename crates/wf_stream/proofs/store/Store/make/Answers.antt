@@ -1,4 +1,4 @@
-use Rattle.std.proofs.Common.{◌≡◌, ℕ, ◌+◌, ◌<◌, false, List, [], ◌∷◌, ◌++◌, refl, sym, ap, ◌∙◌, arith}
+use Rattle.std.proofs.Common.{◌≡◌, ◌+◌, ◌<◌, false, [], ◌∷◌, ◌++◌, refl, sym, ap, ◌∙◌, arith}
 use Rattle.std.proofs.lemmas.Bool.Decides.{nat_tests}
 use Rattle.wf_life.specs.Handles.{is_full}
 use Rattle.wf_stream.specs.Streams.{KeptStream, Shelf, without_number, hand_over}
@@ -9,7 +9,7 @@ use Rattle.wf_stream.proofs.store.Store.make.Goals as goal
 
 pub remove-requires : goal.remove-requires
 remove-requires c =
-    ap (λ (x : Shelf). is_in (c.self.inside.numbered + 1) x.marked) c.in-Ok-push.ensures.pushed ∙ c.in-Ok-push.ensures.unmarked
+    ap (λ x. is_in (c.self.inside.numbered + 1) x.marked) c.in-Ok-push.ensures.pushed ∙ c.in-Ok-push.ensures.unmarked
 
 pub invariant_of-self-in_default-make : goal.invariant_of-self-in_default-make
 invariant_of-self-in_default-make c =
@@ -19,7 +19,7 @@ invariant_of-self-in_default-make c =
     let n = c.self.inside.numbered + 1 in
     let back : c.remove.new.self ≡ shelf =
     c.remove.ensures ∙ ap (λ (x : Shelf). record x { streams = without_number n x.streams }) c.in-Ok-push.ensures.pushed
-    ∙ ap (λ (ss : List KeptStream). record shelf { streams = ss })
+    ∙ ap (λ ss. record shelf { streams = ss })
     (without_last 0 c.self.inside.numbered streams _ sound.rising (omega arith)) in
     rw (c.in_default-make.ensures.refused, back) sound
 
@@ -31,7 +31,7 @@ returns-in_default-make-clause-refused c =
     let n = c.self.inside.numbered + 1 in
     let back : c.remove.new.self ≡ shelf =
     c.remove.ensures ∙ ap (λ (x : Shelf). record x { streams = without_number n x.streams }) c.in-Ok-push.ensures.pushed
-    ∙ ap (λ (ss : List KeptStream). record shelf { streams = ss })
+    ∙ ap (λ ss. record shelf { streams = ss })
     (without_last 0 c.self.inside.numbered streams _ sound.rising (omega arith)) in
     rw (c.in_default-make.ensures.refused, back) c.self.view_is
 
@@ -44,9 +44,9 @@ invariant_of-self-2 c =
     let s : KeptStream = record { number = n; handle = c.self.inside.handles.made + 1; buffers = c.in-Ok.stream } in
     let last : c.hand_over.new.self ≡ record shelf { streams = streams ++ s ∷ [] } =
     c.hand_over.ensures ∙ ap (λ (x : Shelf). record x { streams = hand_over n c.in-Ok-make.handle x.streams }) c.in-Ok-push.ensures.pushed
-    ∙ ap (λ (ss : List KeptStream). record shelf { streams = ss })
+    ∙ ap (λ ss. record shelf { streams = ss })
     (handed_last 0 c.self.inside.numbered c.in-Ok-make.handle streams _ sound.rising (omega arith))
-    ∙ ap (λ (h : ℕ). record shelf { streams = streams ++ record s { handle = h } ∷ [] }) c.in-Ok-make.ensures.handle in
+    ∙ ap (λ h. record shelf { streams = streams ++ record s { handle = h } ∷ [] }) c.in-Ok-make.ensures.handle in
     let left : is_full c.self.inside.handles.made ≡ false = sym c.full.ensures ∙ c.if-full.false in
     let some : c.self.inside.handles.made < 4294967291 = grind (arith, nat_tests, left) in
     let orderly = rw c.in-Ok-make.ensures.made at c.in-Ok-make.ensures.orderly in
@@ -67,7 +67,7 @@ returns-clause-made c =
     let s : KeptStream = record { number = n; handle = c.self.inside.handles.made + 1; buffers = c.in-Ok.stream } in
     let last : c.hand_over.new.self ≡ record shelf { streams = streams ++ s ∷ [] } =
     c.hand_over.ensures ∙ ap (λ (x : Shelf). record x { streams = hand_over n c.in-Ok-make.handle x.streams }) c.in-Ok-push.ensures.pushed
-    ∙ ap (λ (ss : List KeptStream). record shelf { streams = ss })
+    ∙ ap (λ ss. record shelf { streams = ss })
     (handed_last 0 c.self.inside.numbered c.in-Ok-make.handle streams _ sound.rising (omega arith))
-    ∙ ap (λ (h : ℕ). record shelf { streams = streams ++ record s { handle = h } ∷ [] }) c.in-Ok-make.ensures.handle in
+    ∙ ap (λ h. record shelf { streams = streams ++ record s { handle = h } ∷ [] }) c.in-Ok-make.ensures.handle in
     rw (← c.self.view_is, c.in-Ok-make.ensures.made, last, c.in-Ok.ensures, made_others c.self.inside.handles.live s) refl

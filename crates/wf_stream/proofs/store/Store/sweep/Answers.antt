@@ -1,5 +1,5 @@
-use Rattle.std.proofs.Common.{List, sym, ap, ◌∙◌}
-use Rattle.wf_stream.specs.Streams.{KeptStream, swept}
+use Rattle.std.proofs.Common.{sym, ap, ◌∙◌}
+use Rattle.wf_stream.specs.Streams.{swept}
 use Rattle.wf_stream.proofs.Swept.{first_kept, marked_without, all_marked, without_shorter}
 use Rattle.wf_stream.proofs.store.Store.sweep.Goals as goal
 
@@ -27,7 +27,7 @@ loop-number-preserved c =
     let v = c.loop-number.self in
     let first = first_kept 0 v.numbered c.in-Some.number c.in-Some.handle v.marked v.streams c.in-Some.ensures.numbered
     (sym c.in-Some.ensures.first) in
-    let same = ap (λ (ss : List KeptStream). record v { streams = ss })
+    let same = ap (λ ss. record v { streams = ss })
     (marked_without v.marked c.in-Some.number v.streams first.unmarked) in
     ap swept c.drop_stream.ensures ∙ same ∙ c.loop-number.invariant
 
@@ -35,4 +35,4 @@ pub returns : goal.returns
 returns c =
     let v = c.loop-number.self in
     let none = sym c.first_unmarked.ensures.first ∙ c.in_default.is in
-    sym (ap (λ (ss : List KeptStream). record v { streams = ss }) (all_marked v.marked v.streams none)) ∙ c.loop-number.invariant
+    sym (ap (λ ss. record v { streams = ss }) (all_marked v.marked v.streams none)) ∙ c.loop-number.invariant
