@@ -1,0 +1,5 @@
+mod Members
+mod Numbered
+mod Neighbours
+mod Chains
+mod Represented

@@ -1,0 +1,7 @@
+//! Ordered lists over one set of nodes, which are linked by their numbers.
+#![tactic(auto)]
+
+mod links;
+
+pub use links::Links;
+pub use wf_words::NoMemory;
