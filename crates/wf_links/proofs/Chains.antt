@@ -79,9 +79,18 @@ below_same nodes under n x at =
     get_set nodes n x _ at ∙ ap (λ (y : Node). Some (record y { below = under })) (get_or_from_slice_get nodes n x free at)
 
 -- the ends of a list are in it
+
 pub last_in : (under : Option ℕ) (x : ℕ) (xs : List ℕ) (n : ℕ) → last_or under (x ∷ xs) ≡ Some n → is_in n (x ∷ xs) ≡ true
 last_in under x [] n is = or_left (x == n) false (eq-eqb x n cc)
 last_in under x (y ∷ ys) n is = or_right (x == n) (is_in n (y ∷ ys)) (last_in (Some x) y ys n is)
+
+pub highest_in : (xs : List ℕ) (n : ℕ) → last_or None xs ≡ Some n → is_in n xs ≡ true
+highest_in [] n is = absurd cc
+highest_in (x ∷ xs) n is = last_in None x xs n is
+
+pub lowest_in : (xs : List ℕ) (n : ℕ) → first_or None xs ≡ Some n → is_in n xs ≡ true
+lowest_in [] n is = absurd cc
+lowest_in (x ∷ xs) n is = or_left (x == n) (is_in n xs) (eq-eqb x n cc)
 
 -- a chain whose last node gets another above it
 pub chain_over : (nodes : List Node) (list : ℕ) (under over start next : Option ℕ) (xs : List ℕ) → NoneTwice xs
@@ -142,33 +151,26 @@ relinked_list nodes n x base next over last m other =
 
 -- the nodes below the one that is written stay chained, and those above it
 
-pub front_kept : (nodes : List Node) (n : ℕ) (x : Node) (next last : Option ℕ) (list : ℕ) (ys zs : List ℕ) → NoneTwice (ys ++ zs)
-    → is_in n ys ≡ false → IsChain nodes list None ys (first_or None zs)
+pub front_kept : (nodes : List Node) (n : ℕ) (x : Node) (next last over : Option ℕ) (list : ℕ) (ys zs : List ℕ) → NoneTwice (ys ++ zs)
+    → is_in n ys ≡ false → IsChain nodes list None ys over
     → IsChain (relinked n x (last_or None ys) next (first_or None zs) last nodes) list None ys next
-front_kept nodes n x next last list ys zs once absent chain =
-    let written = chain_kept nodes (set nodes n x) list None (first_or None zs) ys
+front_kept nodes n x next last over list ys zs once absent chain =
+    let base = last_or None ys in
+    let written = chain_kept nodes (set nodes n x) list None over ys
         (λ m there. get_other nodes n m x (λ same. both_ways (is_in n ys) absent (rw same there))) chain in
-    let over = chain_over (set nodes n x) list None (first_or None zs) None next ys (once_front ys zs once) written in
-    chain_kept (with_above (last_or None ys) next (set nodes n x)) (relinked n x (last_or None ys) next (first_or None zs) last nodes)
-    list None next ys
+    let joined = chain_over (set nodes n x) list None over None next ys (once_front ys zs once) written in
+    chain_kept (with_above base next (set nodes n x)) (relinked n x base next (first_or None zs) last nodes) list None next ys
     (λ m there. below_other _ (first_or None zs) last m
-    (λ is. both_ways (is_in m zs) (apart_back m ys zs once there) (first_in zs m is))) over
-  where
-    first_in : (xs : List ℕ) (m : ℕ) → first_or None xs ≡ Some m → is_in m xs ≡ true
-    first_in [] m is = absurd cc
-    first_in (z ∷ xs) m is = or_left (z == m) (is_in m xs) (eq-eqb z m cc)
+    (λ is. both_ways (is_in m zs) (apart_back m ys zs once there) (lowest_in zs m is))) joined
 
-pub back_kept : (nodes : List Node) (n : ℕ) (x : Node) (next last : Option ℕ) (list : ℕ) (ys zs : List ℕ) → NoneTwice (ys ++ zs)
-    → is_in n zs ≡ false → IsChain nodes list (last_or None ys) zs None
+pub back_kept : (nodes : List Node) (n : ℕ) (x : Node) (next last under : Option ℕ) (list : ℕ) (ys zs : List ℕ) → NoneTwice (ys ++ zs)
+    → is_in n zs ≡ false → IsChain nodes list under zs None
     → IsChain (relinked n x (last_or None ys) next (first_or None zs) last nodes) list last zs None
-back_kept nodes n x next last list ys zs once absent chain =
-    let written = chain_kept nodes (set nodes n x) list (last_or None ys) None zs
+back_kept nodes n x next last under list ys zs once absent chain =
+    let base = last_or None ys in
+    let written = chain_kept nodes (set nodes n x) list under None zs
         (λ m there. get_other nodes n m x (λ same. both_ways (is_in n zs) absent (rw same there))) chain in
-    let over = chain_kept (set nodes n x) (with_above (last_or None ys) next (set nodes n x)) list (last_or None ys) None zs
-        (λ m there. above_other (set nodes n x) (last_or None ys) next m
-        (λ is. both_ways (is_in m ys) (apart_front m ys zs once there) (end_in ys m is))) written in
-    chain_under (with_above (last_or None ys) next (set nodes n x)) list (last_or None ys) None last zs (once_back ys zs once) over
-  where
-    end_in : (xs : List ℕ) (m : ℕ) → last_or None xs ≡ Some m → is_in m xs ≡ true
-    end_in [] m is = absurd cc
-    end_in (y ∷ xs) m is = last_in None y xs m is
+    let told = chain_kept (set nodes n x) (with_above base next (set nodes n x)) list under None zs
+        (λ m there. above_other (set nodes n x) base next m
+        (λ is. both_ways (is_in m ys) (apart_front m ys zs once there) (highest_in ys m is))) written in
+    chain_under (with_above base next (set nodes n x)) list under None last zs (once_back ys zs once) told

@@ -3,3 +3,6 @@ mod Numbered
 mod Neighbours
 mod Chains
 mod Represented
+mod Changes
+mod Inserted
+mod Removed
