@@ -3,6 +3,7 @@ use Rattle.std.proofs.Common.{◌≡◌, ◌≢◌, ℕ, ◌<◌, true, false, n
 use Rattle.std.proofs.Common.{slice_index_or, Option, Some, None, if◌then◌else◌, option_and_then, inl, inr, refl, sym, ap, ◌∙◌, append_assoc}
 use Rattle.std.specs.Option.{ForSome}
 use Rattle.std.proofs.lemmas.Bool.{eq-eqb, both_ways, or_left, or_right, or_parts, or_cases, false_from_ne_true}
+use Rattle.std.proofs.lemmas.List.{get_or_default}
 use Rattle.std.proofs.lemmas.List.Concat.{flat_map-append}
 use Rattle.std.proofs.lemmas.Option.{get_or_from_slice_get}
 use Rattle.wf_words.specs.Keyed.{is_in}
@@ -11,11 +12,11 @@ use Rattle.wf_links.specs.declared.links.Node.{Node}
 use Rattle.wf_links.specs.Lists.{list_at, list_of, lowest, put_above, inserted}
 use Rattle.wf_links.specs.Inside.{IsChain, Represent, first_or, list_link, free, with_lowest}
 use Rattle.wf_links.proofs.Members.{is_in-append, once_inserted}
-use Rattle.wf_links.proofs.Numbered.{in_no_list}
+use Rattle.wf_links.proofs.Numbered.{in_no_list, in_list_of}
 use Rattle.wf_links.proofs.Neighbours.{lowest_is}
 use Rattle.wf_links.proofs.Chains.{chain_front, chain_back, chain_joined, last_or, highest_in, lowest_in, relinked, relinked_here}
 use Rattle.wf_links.proofs.Chains.{front_kept, back_kept}
-use Rattle.wf_links.proofs.Represented.{StandsAt, stands_at}
+use Rattle.wf_links.proofs.Represented.{StandsAt, stands_at, member_within}
 use Rattle.wf_links.proofs.Changes.{changed, last_or-append, lowest_written, lowest_read}
 
 -- what stands directly above a node, or at the bottom of a list where none is given
@@ -67,6 +68,32 @@ place_of nodes lowests lists list n (Some base) stand within given =
       above_is = ap (λ (x : Node). x.above) (get_or_from_slice_get nodes base _ free at.links);
       put = ap (put_above (Some base) n) at.split ∙ put_at base n at.front at.behind at.not_front at.not_behind;
     }
+
+-- what is read there
+
+pub above_read : (nodes : List Node) (lowests : List (Option ℕ)) (list base : ℕ) (x : Node) → base < length nodes
+    → x ≡ slice_index_or nodes base x → x.above ≡ next_up nodes lowests list (Some base)
+above_read nodes lowests list base x within read = ap (λ (y : Node). y.above) (read ∙ get_or_default nodes base x free within)
+
+pub bottom_read : (nodes : List Node) (lowests : List (Option ℕ)) (list : ℕ) (x : Option ℕ) → list < length lowests
+    → x ≡ slice_index_or lowests list x → x ≡ next_up nodes lowests list None
+bottom_read nodes lowests list x within read = read ∙ get_or_default lowests list x None within
+
+-- the neighbours of a place are nodes that there are
+
+pub base_within : (nodes : List Node) (lowests : List (Option ℕ)) (lists : List (List ℕ)) (list : ℕ) (base : Option ℕ)
+    → Represent nodes lowests lists → ForSome base (λ b. list_of b lists ≡ Some list) → (m : ℕ) → base ≡ Some m → m < length nodes
+base_within nodes lowests lists list base stand given m is =
+    member_within nodes lowests lists m list stand (in_list_of m lists list (given m is))
+
+pub next_within : (nodes : List Node) (lowests : List (Option ℕ)) (lists : List (List ℕ)) (list : ℕ) (base over : Option ℕ)
+    → Represent nodes lowests lists → list < length lists → ForSome base (λ b. list_of b lists ≡ Some list)
+    → over ≡ next_up nodes lowests list base → (m : ℕ) → over ≡ Some m → m < length nodes
+next_within nodes lowests lists list base over stand within given above_is m is =
+    let place = place_of nodes lowests lists list 0 base stand within given in
+    let there = lowest_in place.behind m (sym place.above_is ∙ sym above_is ∙ is) in
+    member_within nodes lowests lists m list stand
+    (rw place.split (is_in-append m place.front place.behind ∙ or_right (is_in m place.front) (is_in m place.behind) there))
 
 -- a member of a list is in it with one more
 in_more : (m n : ℕ) (xs ys : List ℕ) → is_in m (xs ++ ys) ≡ true → is_in m (xs ++ n ∷ ys) ≡ true

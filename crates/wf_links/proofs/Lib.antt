@@ -3,6 +3,8 @@ mod Numbered
 mod Neighbours
 mod Chains
 mod Represented
+mod Made
 mod Changes
 mod Inserted
 mod Removed
+mod Left

@@ -1,5 +1,5 @@
 -- A node that is taken out of its list: the lists without it, and the links that are left.
-use Rattle.std.proofs.Common.{◌≡◌, ◌≢◌, ℕ, zero, suc, true, false, ◌==◌, ◌||◌, List, [], ◌∷◌, ◌++◌, map, set, slice_get, option_and_then}
+use Rattle.std.proofs.Common.{◌≡◌, ◌≢◌, ℕ, zero, suc, ◌<◌, true, false, ◌==◌, ◌||◌, List, [], ◌∷◌, ◌++◌, length, map, set, slice_get, option_and_then}
 use Rattle.std.proofs.Common.{Option, Some, None, inl, inr, refl, sym, ap, ◌∙◌, arith}
 use Rattle.std.proofs.lemmas.Bool.{eq-eqb, eqb-true, both_ways, or_left, or_right, or_cases, false_from_ne_true}
 use Rattle.std.proofs.lemmas.List.Elements.{filter-append}
@@ -13,7 +13,7 @@ use Rattle.wf_links.proofs.Members.{is_in-append, without_absent}
 use Rattle.wf_links.proofs.Numbered.{in_list_of, list_of_within}
 use Rattle.wf_links.proofs.Chains.{chain_front, chain_back, chain_joined, last_or, highest_in, lowest_in, relinked, relinked_here}
 use Rattle.wf_links.proofs.Chains.{front_kept, back_kept}
-use Rattle.wf_links.proofs.Represented.{one_list, StandsAt, stands_at}
+use Rattle.wf_links.proofs.Represented.{one_list, StandsAt, stands_at, member_within}
 use Rattle.wf_links.proofs.Changes.{changed, lowest_written, lowest_read}
 
 -- where a node is in one of the lists alone, only that one is changed
@@ -110,3 +110,26 @@ removed_stands nodes lowests lists list n x stand is read =
     let lists_are : removed n lists ≡ set lists list (at.front ++ at.behind) = one_removed n lists list elsewhere
         ∙ ap (set lists list) (ap (without n) at.split ∙ without_at n at.front at.behind at.not_front at.not_behind) in
     rw (links, lists_are) (removed_at nodes lowests lists list n stand is at)
+
+-- the neighbours of a node in a list are nodes that there are
+
+pub below_within : (nodes : List Node) (lowests : List (Option ℕ)) (lists : List (List ℕ)) (list n : ℕ) (x : Node)
+    → Represent nodes lowests lists → list_of n lists ≡ Some list → slice_get nodes n ≡ Some x → (m : ℕ) → x.below ≡ Some m
+    → m < length nodes
+below_within nodes lowests lists list n x stand is read m below_is =
+    let at = stands_at nodes lowests lists n list stand is in
+    let links = same_Some _ _ (sym at.links ∙ read) in
+    let there = highest_in at.front m (ap (λ (y : Node). y.below) links ∙ below_is) in
+    member_within nodes lowests lists m list stand
+    (rw at.split (is_in-append m at.front (n ∷ at.behind) ∙ or_left (is_in m at.front) (is_in m (n ∷ at.behind)) there))
+
+pub above_within : (nodes : List Node) (lowests : List (Option ℕ)) (lists : List (List ℕ)) (list n : ℕ) (x : Node)
+    → Represent nodes lowests lists → list_of n lists ≡ Some list → slice_get nodes n ≡ Some x → (m : ℕ) → x.above ≡ Some m
+    → m < length nodes
+above_within nodes lowests lists list n x stand is read m above_is =
+    let at = stands_at nodes lowests lists n list stand is in
+    let links = same_Some _ _ (sym at.links ∙ read) in
+    let there = lowest_in at.behind m (ap (λ (y : Node). y.above) links ∙ above_is) in
+    member_within nodes lowests lists m list stand
+    (rw at.split (is_in-append m at.front (n ∷ at.behind)
+    ∙ or_right (is_in m at.front) (is_in m (n ∷ at.behind)) (or_right (n == m) (is_in m at.behind) there)))

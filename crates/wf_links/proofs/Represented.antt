@@ -1,12 +1,13 @@
 -- Links that stand for lists: what they say of a node and of a list, and that the lists are what is found by going along them.
 use Rattle.std.proofs.Common.{◌≡◌, ◌≢◌, ℕ, zero, suc, ◌+◌, ◌<◌, ◌≤◌, true, false, not, cond, ◌==◌, ◌||◌, nat_lt, List, [], ◌∷◌, ◌++◌, length, map}
-use Rattle.std.proofs.Common.{reverse, set, slice_get, slice_index_or, position, option_map, Option, Some, None, refl, sym, ap, ◌∙◌, zero-add, arith}
+use Rattle.std.proofs.Common.{reverse, set, slice_get, slice_index_or, option_and_then, IsSome, Option, Some, None, refl, sym, ap, ◌∙◌, zero-add, arith}
 use Rattle.std.specs.List.{AllByRecursion, concat}
 use Rattle.std.proofs.lemmas.Bool.{eq-eqb, both_ways, or_left, or_right, or_cases, or_parts, or_from, false_from_ne_true}
-use Rattle.std.proofs.lemmas.Option.{slice_get_within, option_and_then_some}
+use Rattle.std.proofs.lemmas.Option.{slice_get_within, get_or_from_slice_get, option_and_then_some}
 use Rattle.std.proofs.lemmas.List.{reverse-append}
 use Rattle.wf_words.specs.Keyed.{is_in}
 use Rattle.wf_words.specs.Once.{NoneTwice, by_number}
+use Rattle.wf_words.specs.Places.{get_within}
 use Rattle.wf_links.specs.declared.links.Node.{Node}
 use Rattle.wf_links.specs.Lists.{NodeLists, IsOrderly, list_at, list_of, lowest, next_after, above, below}
 use Rattle.wf_links.specs.Inside.{IsChain, Represent, first_or, list_link, above_link, upward}
@@ -25,13 +26,15 @@ upward_chain (suc most) nodes list under (x ∷ xs) few chain =
     let next : above_link nodes x ≡ first_or None xs = rw chain.0 refl in
     rw next (ap (λ ns. x ∷ ns) (upward_chain most nodes list (Some x) xs (omega (arith, few)) chain.1))
 
+-- a node with a link to a list is one of those that there are
+linked_within : (nodes : List Node) (n list : ℕ) → list_link nodes n ≡ Some list → n < length nodes
+linked_within nodes n list is =
+    option_and_then_some (λ node. node.list) (slice_get nodes n) list is (λ x at _. slice_get_within nodes n x at)
+
 -- a chain has no more nodes than there are
 pub chain_fits : (nodes : List Node) (list : ℕ) (xs : List ℕ) → NoneTwice xs → IsChain nodes list None xs None → length xs ≤ length nodes
 chain_fits nodes list xs once chain =
-    few_below (length nodes) xs once (λ n there. linked n (chain_link nodes list None None xs n chain there))
-  where
-    linked : (n : ℕ) → list_link nodes n ≡ Some list → n < length nodes
-    linked n is = option_and_then_some (λ node. node.list) (slice_get nodes n) list is (λ x at _. slice_get_within nodes n x at)
+    few_below (length nodes) xs once (λ n there. linked_within nodes n list (chain_link nodes list None None xs n chain there))
 
 -- the lists are what is found by going up from the lowest nodes
 pub view_is : (nodes : List Node) (lowests : List (Option ℕ)) (lists : List (List ℕ)) → Represent nodes lowests lists
@@ -105,19 +108,46 @@ links_are nodes lowests lists n list stand is =
     let down : below n lists ≡ last_or None at.front = rw (is, at.split) (next_down_at n at.front at.behind at.not_behind) in
     rw (up, down) at.links
 
+pub member_within : (nodes : List Node) (lowests : List (Option ℕ)) (lists : List (List ℕ)) (n list : ℕ) → Represent nodes lowests lists
+    → is_in n (list_at list lists) ≡ true → n < length nodes
+member_within nodes lowests lists n list stand there =
+    linked_within nodes n list (chain_link nodes list None None (list_at list lists) n (stand.chained list) there)
+
 -- the lists are orderly
 pub orderly : (nodes : List Node) (lowests : List (Option ℕ)) (lists : List (List ℕ)) → Represent nodes lowests lists
     → IsOrderly (record { nodes = length nodes; lists = lists })
 orderly nodes lowests lists stand =
     record {
       once = all_once (list_link nodes) 0 lists stand.once known;
-      within = all_from_in (λ n. n < length nodes) (concat lists) (λ n there. (let found = in_some n lists there in in_range n found.0 found.1));
+      within = all_from_in (λ n. n < length nodes) (concat lists)
+          (λ n there. (let found = in_some n lists there in member_within nodes lowests lists n found.0 stand found.1));
     }
   where
     known : (i n : ℕ) → is_in n (list_at i lists) ≡ true → list_link nodes n ≡ Some (0 + i)
     known i n there = rw zero-add (chain_link nodes i None None (list_at i lists) n (stand.chained i) there)
 
-    in_range : (n i : ℕ) → is_in n (list_at i lists) ≡ true → n < length nodes
-    in_range n i there =
-        option_and_then_some (λ node. node.list) (slice_get nodes n) i (chain_link nodes i None None (list_at i lists) n (stand.chained i) there)
-        (λ x at _. slice_get_within nodes n x at)
+-- what is read of a node
+
+pub in_some_list : (o : Option ℕ) → IsSome o → (list : ℕ) × (o ≡ Some list)
+in_some_list None some = absurd cc
+in_some_list (Some list) some = (list, refl)
+
+pub node_within : (nodes : List Node) (lowests : List (Option ℕ)) (lists : List (List ℕ)) (n : ℕ) → Represent nodes lowests lists
+    → IsSome (list_of n lists) → n < length nodes
+node_within nodes lowests lists n stand some =
+    let list = in_some_list (list_of n lists) some in
+    slice_get_within nodes n _ (links_are nodes lowests lists n list.0 stand list.1)
+
+pub links_read : (nodes : List Node) (lowests : List (Option ℕ)) (lists : List (List ℕ)) (n : ℕ) (x : Node)
+    → Represent nodes lowests lists → IsSome (list_of n lists) → x ≡ slice_index_or nodes n x
+    → (x.below ≡ below n lists) × (x.above ≡ above n lists)
+links_read nodes lowests lists n x stand some read =
+    let list = in_some_list (list_of n lists) some in
+    let links = links_are nodes lowests lists n list.0 stand list.1 in
+    let is = read ∙ get_or_from_slice_get nodes n _ x links in
+    (ap (λ (y : Node). y.below) is, ap (λ (y : Node). y.above) is)
+
+pub list_read : (nodes : List Node) (lowests : List (Option ℕ)) (lists : List (List ℕ)) (n : ℕ) (x : Node)
+    → Represent nodes lowests lists → n < length nodes → x ≡ slice_index_or nodes n x → x.list ≡ list_of n lists
+list_read nodes lowests lists n x stand within read =
+    sym (ap (option_and_then (λ (y : Node). y.list)) (get_within nodes n x within read)) ∙ link_is nodes lowests lists n stand
