@@ -37,9 +37,10 @@ chain_joined nodes list under over (y ∷ x ∷ ys) zs front back = (front.0, ch
 pub chain_kept : (from to : List Node) (list : ℕ) (under over : Option ℕ) (xs : List ℕ)
     → ((n : ℕ) → is_in n xs ≡ true → slice_get to n ≡ slice_get from n) → IsChain from list under xs over → IsChain to list under xs over
 chain_kept from to list under over [] same chain = tt
-chain_kept from to list under over (x ∷ xs) same chain =
-    (same x (or_left (x == x) (is_in x xs) (eq-eqb x x refl)) ∙ chain.0,
-    chain_kept from to list (Some x) over xs (λ n there. same n (or_right (x == n) (is_in n xs) there)) chain.1)
+chain_kept from to list under over (x ∷ xs) same chain = (
+  same x (or_left (x == x) (is_in x xs) (eq-eqb x x refl)) ∙ chain.0,
+  chain_kept from to list (Some x) over xs (λ n there. same n (or_right (x == n) (is_in n xs) there)) chain.1,
+)
 
 -- the links of a node of a chain
 pub chain_link : (nodes : List Node) (list : ℕ) (under over : Option ℕ) (xs : List ℕ) (n : ℕ) → IsChain nodes list under xs over
@@ -98,18 +99,20 @@ pub chain_over : (nodes : List Node) (list : ℕ) (under over start next : Optio
 chain_over nodes list under over start next [] once chain = tt
 chain_over nodes list under over start next (x ∷ []) once chain = (above_same nodes next x _ chain.0, tt)
 chain_over nodes list under over start next (x ∷ y ∷ ys) once chain =
-    let apart : last_or (Some x) (y ∷ ys) ≢ Some x = λ is. both_ways (is_in x (y ∷ ys)) once.0 (last_in (Some x) y ys x is) in
-    (above_other nodes (last_or (Some x) (y ∷ ys)) next x apart ∙ chain.0,
-    chain_over nodes list (Some x) over (Some x) next (y ∷ ys) once.1 chain.1)
+    let apart : last_or (Some x) (y ∷ ys) ≢ Some x = λ is. both_ways (is_in x (y ∷ ys)) once.0 (last_in (Some x) y ys x is) in (
+      above_other nodes (last_or (Some x) (y ∷ ys)) next x apart ∙ chain.0,
+      chain_over nodes list (Some x) over (Some x) next (y ∷ ys) once.1 chain.1,
+    )
 
 -- a chain whose first node gets another below it
 pub chain_under : (nodes : List Node) (list : ℕ) (under over next : Option ℕ) (xs : List ℕ) → NoneTwice xs
     → IsChain nodes list under xs over → IsChain (with_below (first_or None xs) next nodes) list next xs over
 chain_under nodes list under over next [] once chain = tt
-chain_under nodes list under over next (x ∷ xs) once chain =
-    (below_same nodes next x _ chain.0,
-    chain_kept nodes (with_below (Some x) next nodes) list (Some x) over xs
-    (λ n there. below_other nodes (Some x) next n (λ same. both_ways (is_in x xs) once.0 (let is : x ≡ n = cc in rw is there))) chain.1)
+chain_under nodes list under over next (x ∷ xs) once chain = (
+  below_same nodes next x _ chain.0,
+  chain_kept nodes (with_below (Some x) next nodes) list (Some x) over xs
+      (λ n there. below_other nodes (Some x) next n (λ same. both_ways (is_in x xs) once.0 (let is : x ≡ n = cc in rw is there))) chain.1,
+)
 
 -- the nodes where one is written anew, the one below it gets another above, and the one above it gets another below
 abbrev pub relinked : ℕ → Node → Option ℕ → Option ℕ → Option ℕ → Option ℕ → List Node → List Node
@@ -157,7 +160,7 @@ pub front_kept : (nodes : List Node) (n : ℕ) (x : Node) (next last over : Opti
 front_kept nodes n x next last over list ys zs once absent chain =
     let base = last_or None ys in
     let written = chain_kept nodes (set nodes n x) list None over ys
-        (λ m there. get_other nodes n m x (λ same. both_ways (is_in n ys) absent (rw same there))) chain in
+    (λ m there. get_other nodes n m x (λ same. both_ways (is_in n ys) absent (rw same there))) chain in
     let joined = chain_over (set nodes n x) list None over None next ys (once_front ys zs once) written in
     chain_kept (with_above base next (set nodes n x)) (relinked n x base next (first_or None zs) last nodes) list None next ys
     (λ m there. below_other _ (first_or None zs) last m
@@ -169,8 +172,8 @@ pub back_kept : (nodes : List Node) (n : ℕ) (x : Node) (next last under : Opti
 back_kept nodes n x next last under list ys zs once absent chain =
     let base = last_or None ys in
     let written = chain_kept nodes (set nodes n x) list under None zs
-        (λ m there. get_other nodes n m x (λ same. both_ways (is_in n zs) absent (rw same there))) chain in
+    (λ m there. get_other nodes n m x (λ same. both_ways (is_in n zs) absent (rw same there))) chain in
     let told = chain_kept (set nodes n x) (with_above base next (set nodes n x)) list under None zs
-        (λ m there. above_other (set nodes n x) base next m
-        (λ is. both_ways (is_in m ys) (apart_front m ys zs once there) (highest_in ys m is))) written in
+    (λ m there. above_other (set nodes n x) base next m
+    (λ is. both_ways (is_in m ys) (apart_front m ys zs once there) (highest_in ys m is))) written in
     chain_under (with_above base next (set nodes n x)) list under None last zs (once_back ys zs once) told

@@ -3,14 +3,13 @@ use Rattle.std.proofs.Common.{◌≡◌, ◌≢◌, ℕ, ◌<◌, true, false, n
 use Rattle.std.proofs.Common.{slice_index_or, Option, Some, None, if◌then◌else◌, option_and_then, inl, inr, refl, sym, ap, ◌∙◌, append_assoc}
 use Rattle.std.specs.Option.{ForSome}
 use Rattle.std.proofs.lemmas.Bool.{eq-eqb, both_ways, or_left, or_right, or_parts, or_cases, false_from_ne_true}
-use Rattle.std.proofs.lemmas.List.{get_or_default}
 use Rattle.std.proofs.lemmas.List.Concat.{flat_map-append}
 use Rattle.std.proofs.lemmas.Option.{get_or_from_slice_get}
 use Rattle.wf_words.specs.Keyed.{is_in}
 use Rattle.wf_words.specs.Once.{NoneTwice}
 use Rattle.wf_links.specs.declared.links.Node.{Node}
 use Rattle.wf_links.specs.Lists.{list_at, list_of, lowest, put_above, inserted}
-use Rattle.wf_links.specs.Inside.{IsChain, Represent, first_or, list_link, free, with_lowest}
+use Rattle.wf_links.specs.Inside.{IsChain, Represent, first_or, free, next_up, with_lowest}
 use Rattle.wf_links.proofs.Members.{is_in-append, once_inserted}
 use Rattle.wf_links.proofs.Numbered.{in_no_list, in_list_of}
 use Rattle.wf_links.proofs.Neighbours.{lowest_is}
@@ -18,11 +17,6 @@ use Rattle.wf_links.proofs.Chains.{chain_front, chain_back, chain_joined, last_o
 use Rattle.wf_links.proofs.Chains.{front_kept, back_kept}
 use Rattle.wf_links.proofs.Represented.{StandsAt, stands_at, member_within}
 use Rattle.wf_links.proofs.Changes.{changed, last_or-append, lowest_written, lowest_read}
-
--- what stands directly above a node, or at the bottom of a list where none is given
-abbrev pub next_up : List Node → List (Option ℕ) → ℕ → Option ℕ → Option ℕ
-next_up nodes lowests list None = slice_index_or lowests list None
-next_up nodes lowests list (Some base) = (slice_index_or nodes base free).above
 
 -- a list in front of a place and behind it
 pub record Place (nodes : List Node) (lowests : List (Option ℕ)) (lists : List (List ℕ)) (list n : ℕ) (base : Option ℕ) : Type 0 where
@@ -69,16 +63,6 @@ place_of nodes lowests lists list n (Some base) stand within given =
       put = ap (put_above (Some base) n) at.split ∙ put_at base n at.front at.behind at.not_front at.not_behind;
     }
 
--- what is read there
-
-pub above_read : (nodes : List Node) (lowests : List (Option ℕ)) (list base : ℕ) (x : Node) → base < length nodes
-    → x ≡ slice_index_or nodes base x → x.above ≡ next_up nodes lowests list (Some base)
-above_read nodes lowests list base x within read = ap (λ (y : Node). y.above) (read ∙ get_or_default nodes base x free within)
-
-pub bottom_read : (nodes : List Node) (lowests : List (Option ℕ)) (list : ℕ) (x : Option ℕ) → list < length lowests
-    → x ≡ slice_index_or lowests list x → x ≡ next_up nodes lowests list None
-bottom_read nodes lowests list x within read = read ∙ get_or_default lowests list x None within
-
 -- the neighbours of a place are nodes that there are
 
 pub base_within : (nodes : List Node) (lowests : List (Option ℕ)) (lists : List (List ℕ)) (list : ℕ) (base : Option ℕ)
@@ -119,16 +103,20 @@ inserted_at nodes lowests lists list n front behind stand within in_range absent
       within = within;
       elsewhere = λ i other. in_no_list n lists i absent;
       others = λ m other there. in_more m n front behind (rw (← split) there);
-      own = λ i is. ((let own : Some list ≡ Some i = sym (ap (option_and_then (λ x. x.list)) here) ∙ is in let same : i ≡ list = cc in same),
-          is_in-append n front (n ∷ behind)
-          ∙ or_right (is_in n front) (is_in n (n ∷ behind)) (or_left (n == n) (is_in n behind) (eq-eqb n n refl)));
+      own = λ i is. (
+        (let own : Some list ≡ Some i = sym (ap (option_and_then (λ x. x.list)) here) ∙ is in let same : i ≡ list = cc in same),
+        is_in-append n front (n ∷ behind)
+            ∙ or_right (is_in n front) (is_in n (n ∷ behind)) (or_left (n == n) (is_in n behind) (eq-eqb n n refl)),
+      );
       base_in = λ m is. rw split (is_in-append m front behind ∙ or_left (is_in m front) (is_in m behind) (highest_in front m is));
       over_in = λ m is. rw split (is_in-append m front behind ∙ or_right (is_in m front) (is_in m behind) (lowest_in behind m is));
       chain = chain_joined new list None None front (n ∷ behind)
           (front_kept nodes n linked (Some n) (Some n) over list front behind once not_in.0
-          (chain_front nodes list None None front behind chain))
-          (here, back_kept nodes n linked (Some n) (Some n) base list front behind once not_in.1
-          (chain_back nodes list None None front behind chain));
+          (chain_front nodes list None None front behind chain)) (
+            here,
+            back_kept nodes n linked (Some n) (Some n) base list front behind once not_in.1
+                (chain_back nodes list None None front behind chain),
+          );
       once = once_inserted n front behind once out;
       lowest = lowest_written lowests list front behind (n ∷ behind)
           (lowest_read nodes lowests lists list stand within ∙ ap lowest split);

@@ -42,9 +42,10 @@ apart_front n xs ys once there = false_from_ne_true (is_in n xs) (λ front. both
 pub once_joined : (xs ys : List ℕ) → NoneTwice xs → NoneTwice ys → ((n : ℕ) → is_in n xs ≡ true → is_in n ys ≡ false) → NoneTwice (xs ++ ys)
 once_joined [] ys xs_once ys_once apart = ys_once
 once_joined (x ∷ xs) ys xs_once ys_once apart =
-    let here : is_in x (x ∷ xs) ≡ true = or_left (x == x) (is_in x xs) (eq-eqb x x refl) in
-    (is_in-append x xs ys ∙ or_from (is_in x xs) (is_in x ys) xs_once.0 (apart x here),
-    once_joined xs ys xs_once.1 ys_once (λ n there. apart n (or_right (x == n) (is_in n xs) there)))
+    let here : is_in x (x ∷ xs) ≡ true = or_left (x == x) (is_in x xs) (eq-eqb x x refl) in (
+      is_in-append x xs ys ∙ or_from (is_in x xs) (is_in x ys) xs_once.0 (apart x here),
+      once_joined xs ys xs_once.1 ys_once (λ n there. apart n (or_right (x == n) (is_in n xs) there)),
+    )
 
 -- one more that is in neither
 pub once_inserted : (n : ℕ) (xs ys : List ℕ) → NoneTwice (xs ++ ys) → is_in n (xs ++ ys) ≡ false → NoneTwice (xs ++ n ∷ ys)
@@ -52,9 +53,10 @@ once_inserted n [] ys once absent = (absent, once)
 once_inserted n (x ∷ xs) ys once absent =
     let parts = or_parts (x == n) (is_in n (xs ++ ys)) absent in
     let old = or_parts (is_in x xs) (is_in x ys) (sym (is_in-append x xs ys) ∙ once.0) in
-    let other : (n == x) ≡ false = ne_eqb n x (λ same. both_ways (x == n) parts.0 (eq-eqb x n (sym same))) in
-    (is_in-append x xs (n ∷ ys) ∙ or_from (is_in x xs) (is_in x (n ∷ ys)) old.0 (or_from (n == x) (is_in x ys) other old.1),
-    once_inserted n xs ys once.1 parts.1)
+    let other : (n == x) ≡ false = ne_eqb n x (λ same. both_ways (x == n) parts.0 (eq-eqb x n (sym same))) in (
+      is_in-append x xs (n ∷ ys) ∙ or_from (is_in x xs) (is_in x (n ∷ ys)) old.0 (or_from (n == x) (is_in x ys) other old.1),
+      once_inserted n xs ys once.1 parts.1,
+    )
 
 -- a list without what is not in it
 pub without_absent : (n : ℕ) (xs : List ℕ) → is_in n xs ≡ false → without n xs ≡ xs
@@ -76,12 +78,12 @@ few_below (suc bound) xs once below =
         by_number (n < bound) bound n
         (λ is same. absurd (both_ways (is_in bound (without bound xs)) (without_itself bound xs) (rw (← same) at there)))
         (λ apart. (let over : n ≢ bound = λ same. eqb-false bound n apart (sym same) in
-            omega (arith, over, below n (sym (is_in-without n bound xs apart) ∙ there))))
+        omega (arith, over, below n (sym (is_in-without n bound xs apart) ∙ there))))
 
     one_left : (ns : List ℕ) → NoneTwice ns → length ns ≤ suc (length (without bound ns))
     one_left [] none = omega arith
     one_left (n ∷ ns) none =
         by_number (length (n ∷ ns) ≤ suc (length (cond (not (n == bound)) (n ∷ without bound ns) (without bound ns)))) n bound
         (λ is same. rw is (let all : length (without bound ns) ≡ length ns = ap length (without_absent bound ns (rw same at none.0)) in
-            omega (arith, all)))
+        omega (arith, all)))
         (λ apart. rw apart (omega (arith, one_left ns none.1)))

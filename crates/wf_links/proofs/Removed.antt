@@ -104,11 +104,11 @@ pub removed_stands : (nodes : List Node) (lowests : List (Option ℕ)) (lists : 
 removed_stands nodes lowests lists list n x stand is read =
     let at = stands_at nodes lowests lists n list stand is in
     let links : x ≡ record { list = Some list; below = last_or None at.front; above = first_or None at.behind } =
-        same_Some _ _ (sym read ∙ at.links) in
+    same_Some _ _ (sym read ∙ at.links) in
     let elsewhere : (i : ℕ) → i ≢ list → is_in n (list_at i lists) ≡ false = λ i other. false_from_ne_true (is_in n (list_at i lists))
-        (λ there. other (one_list nodes lowests lists n list i stand (in_list_of n lists list is) there)) in
+    (λ there. other (one_list nodes lowests lists n list i stand (in_list_of n lists list is) there)) in
     let lists_are : removed n lists ≡ set lists list (at.front ++ at.behind) = one_removed n lists list elsewhere
-        ∙ ap (set lists list) (ap (without n) at.split ∙ without_at n at.front at.behind at.not_front at.not_behind) in
+    ∙ ap (set lists list) (ap (without n) at.split ∙ without_at n at.front at.behind at.not_front at.not_behind) in
     rw (links, lists_are) (removed_at nodes lowests lists list n stand is at)
 
 -- the neighbours of a node in a list are nodes that there are

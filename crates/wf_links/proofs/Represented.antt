@@ -4,7 +4,7 @@ use Rattle.std.proofs.Common.{reverse, set, slice_get, slice_index_or, option_an
 use Rattle.std.specs.List.{AllByRecursion, concat}
 use Rattle.std.proofs.lemmas.Bool.{eq-eqb, both_ways, or_left, or_right, or_cases, or_parts, or_from, false_from_ne_true}
 use Rattle.std.proofs.lemmas.Option.{slice_get_within, get_or_from_slice_get, option_and_then_some}
-use Rattle.std.proofs.lemmas.List.{reverse-append}
+use Rattle.std.proofs.lemmas.List.{length-map}
 use Rattle.wf_words.specs.Keyed.{is_in}
 use Rattle.wf_words.specs.Once.{NoneTwice, by_number}
 use Rattle.wf_words.specs.Places.{get_within}
@@ -12,7 +12,7 @@ use Rattle.wf_links.specs.declared.links.Node.{Node}
 use Rattle.wf_links.specs.Lists.{NodeLists, IsOrderly, list_at, list_of, lowest, next_after, above, below}
 use Rattle.wf_links.specs.Inside.{IsChain, Represent, first_or, list_link, above_link, upward}
 use Rattle.wf_links.proofs.Members.{is_in-append, split_at, apart_front, once_back, few_below}
-use Rattle.wf_links.proofs.Numbered.{list_of_is, list_of_none, in_list_of, in_some, all_once, all_from_in}
+use Rattle.wf_links.proofs.Numbered.{list_of_is, list_of_none, list_of_within, in_list_of, in_some, all_once, all_from_in}
 use Rattle.wf_links.proofs.Neighbours.{lowest_is, next_at, next_down_at}
 use Rattle.wf_links.proofs.Chains.{chain_back, chain_link, last_or}
 
@@ -48,8 +48,8 @@ view_is nodes lowests lists stand =
     each (xs ∷ ls) chained once =
         let chain = chained 0 in
         let here : upward (length nodes) nodes (lowest xs) ≡ xs =
-            ap (upward (length nodes) nodes) (lowest_is xs)
-            ∙ upward_chain (length nodes) nodes chain.0 None xs (chain_fits nodes chain.0 xs (once 0) chain.1) chain.1 in
+        ap (upward (length nodes) nodes) (lowest_is xs)
+        ∙ upward_chain (length nodes) nodes chain.0 None xs (chain_fits nodes chain.0 xs (once 0) chain.1) chain.1 in
         rw here (ap (λ ks. xs ∷ ks) (each ls (λ i. chained (suc i)) (λ i. once (suc i))))
 
 -- a node in two of the lists is in one
@@ -128,7 +128,7 @@ orderly nodes lowests lists stand =
 
 -- what is read of a node
 
-pub in_some_list : (o : Option ℕ) → IsSome o → (list : ℕ) × (o ≡ Some list)
+in_some_list : (o : Option ℕ) → IsSome o → (list : ℕ) × (o ≡ Some list)
 in_some_list None some = absurd cc
 in_some_list (Some list) some = (list, refl)
 
@@ -138,15 +138,32 @@ node_within nodes lowests lists n stand some =
     let list = in_some_list (list_of n lists) some in
     slice_get_within nodes n _ (links_are nodes lowests lists n list.0 stand list.1)
 
-pub links_read : (nodes : List Node) (lowests : List (Option ℕ)) (lists : List (List ℕ)) (n : ℕ) (x : Node)
-    → Represent nodes lowests lists → IsSome (list_of n lists) → x ≡ slice_index_or nodes n x
-    → (x.below ≡ below n lists) × (x.above ≡ above n lists)
-links_read nodes lowests lists n x stand some read =
+pub list_within : (nodes : List Node) (lowests : List (Option ℕ)) (lists : List (List ℕ)) (n list : ℕ) → Represent nodes lowests lists
+    → list_of n lists ≡ Some list → list < length lowests
+list_within nodes lowests lists n list stand is =
+    omega (arith, list_of_within n lists list is, ap length stand.lowest, length-map lists lowest)
+
+-- the links of a node in a list, and the list that it is in
+pub record IsRead (nodes : List Node) (lists : List (List ℕ)) (n : ℕ) (x : Node) : Type 0 where
+  pub stands : slice_get nodes n ≡ Some x
+  pub list : x.list ≡ list_of n lists
+  pub below : x.below ≡ below n lists
+  pub above : x.above ≡ above n lists
+
+pub is_read : (nodes : List Node) (lowests : List (Option ℕ)) (lists : List (List ℕ)) (n : ℕ) (x : Node)
+    → Represent nodes lowests lists → IsSome (list_of n lists) → x ≡ slice_index_or nodes n x → IsRead nodes lists n x
+is_read nodes lowests lists n x stand some read =
     let list = in_some_list (list_of n lists) some in
     let links = links_are nodes lowests lists n list.0 stand list.1 in
     let is = read ∙ get_or_from_slice_get nodes n _ x links in
-    (ap (λ (y : Node). y.below) is, ap (λ (y : Node). y.above) is)
+    record {
+      stands = links ∙ ap (λ (y : Node). Some y) (sym is);
+      list = ap (λ (y : Node). y.list) is ∙ sym list.1;
+      below = ap (λ (y : Node). y.below) is;
+      above = ap (λ (y : Node). y.above) is;
+    }
 
+-- the list that any node is in
 pub list_read : (nodes : List Node) (lowests : List (Option ℕ)) (lists : List (List ℕ)) (n : ℕ) (x : Node)
     → Represent nodes lowests lists → n < length nodes → x ≡ slice_index_or nodes n x → x.list ≡ list_of n lists
 list_read nodes lowests lists n x stand within read =

@@ -55,6 +55,11 @@ IsSound s = Represent s.nodes.items s.lowest.items (lists_of s).lists
 abbrev pub free : Node
 free = record { list = None; below = None; above = None }
 
+-- what stands directly above a node, or lowest in a list where no node is given
+abbrev pub next_up : List Node → List (Option ℕ) → ℕ → Option ℕ → Option ℕ
+next_up nodes lowests list None = slice_index_or lowests list None
+next_up nodes lowests list (Some n) = (slice_index_or nodes n free).above
+
 -- the nodes, one of which, where it is given, has this above it
 abbrev pub with_above : Option ℕ → Option ℕ → List Node → List Node
 with_above None over nodes = nodes

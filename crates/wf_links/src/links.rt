@@ -65,10 +65,7 @@ impl Links {
         ensures inserted { self.new ≡ record self.old { lists = inserted list node below self.old.lists } }
         ensures orderly { IsOrderly self.new }
     {
-        let above = match below {
-            Some(base) => self.nodes[base as usize].above,
-            None => self.lowest[list as usize],
-        };
+        let above = next_up(&self.nodes, &self.lowest, list, below);
         self.nodes[node as usize] = Node {
             list: Some(list),
             below,
@@ -130,7 +127,19 @@ impl Links {
     }
 }
 
-ghost use Rattle.wf_links.specs.Inside.{with_above, with_below, with_lowest};
+ghost use Rattle.wf_links.specs.Inside.{next_up, with_above, with_below, with_lowest};
+
+/// What stands directly above a node, or lowest in a list where no node is given.
+fn next_up(nodes: &[Node], lowest: &[Option<u32>], list: u32, node: Option<u32>) -> Option<u32>
+    requires list { list < length lowest.now }
+    requires node { ForSome node (λ n. n < length nodes.now) }
+    ensures { result ≡ next_up nodes.now lowest.now list node }
+{
+    match node {
+        Some(node) => nodes[node as usize].above,
+        None => lowest[list as usize],
+    }
+}
 
 /// Tells a node what stands directly above it now, or the list what is lowest where no node is given.
 fn set_above(

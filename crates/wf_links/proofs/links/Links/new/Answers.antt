@@ -1,17 +1,21 @@
-use Rattle.std.proofs.Common.{rules, ◌≡◌, ◌<◌, IfOk, IsSome, Some, None, [], length, replicate, slice_get, ℕ, ◌+◌, ◌-◌, ◌*◌, ◌≤◌, ◌/◌, ◌%◌, Bool, true, false, nat_eq, nat_lt, List, ◌∷◌, ◌++◌, slice_index_or, slice_set, bit_and, bit_or, Fits, w8, w32, w64, Bor, MutBor}
-use Rattle.std.specs.Option.{ForSome}
-use Rattle.wf_links.specs.Lists.{IsOrderly, list_at, list_of, above, below, lowest, inserted, removed}
-use Rattle.wf_links.specs.Inside.{with_above, with_below, with_lowest}
+use Rattle.std.proofs.Common.{◌≡◌, ℕ, Option, Some, None, refl}
+use Rattle.wf_links.proofs.Left.{new_left}
 use Rattle.wf_links.proofs.links.Links.new.Goals as goal
 
--- src/links.rt:56:9
+-- what `None` is a clone of is `None`
+none_alone : (P : Option ℕ → Type 0) → ((n : ℕ) → P (Some n) → ⊥) → (o : Option ℕ) → P o → o ≡ None
+none_alone P only None clone = refl
+none_alone P only (Some n) clone = absurd (only n clone)
+
 pub invariant_of-result : goal.invariant_of-result
-invariant_of-result c = ?
+invariant_of-result c =
+    let nodes = c.in_ok-nodes.ensures.items_if_clones_equal (λ x is. is) in
+    let lowest = c.in_ok-lowest.ensures.items_if_clones_equal (none_alone _ (λ n clone. clone)) in
+    (new_left c.args.nodes c.args.lists _ _ nodes lowest).sound
 
--- src/links.rt:50:5
-pub returns-clause-made : goal.returns-clause-made
-returns-clause-made c = ?
-
--- src/links.rt:50:5
-pub returns-clause-orderly : goal.returns-clause-orderly
-returns-clause-orderly c = ?
+pub returns : goal.returns
+returns c =
+    let nodes = c.in_ok-nodes.ensures.items_if_clones_equal (λ x is. is) in
+    let lowest = c.in_ok-lowest.ensures.items_if_clones_equal (none_alone _ (λ n clone. clone)) in
+    let left = new_left c.args.nodes c.args.lists _ _ nodes lowest in
+    record { made = left.view; orderly = left.orderly }
