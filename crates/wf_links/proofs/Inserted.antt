@@ -18,13 +18,10 @@ use Rattle.wf_links.proofs.Chains.{front_kept, back_kept}
 use Rattle.wf_links.proofs.Represented.{StandsAt, stands_at, member_within}
 use Rattle.wf_links.proofs.Changes.{changed, last_or-append, lowest_written, lowest_read}
 
--- a list in front of a place and behind it
-pub record Place (nodes : List Node) (lowests : List (Option ℕ)) (lists : List (List ℕ)) (list n : ℕ) (base : Option ℕ) : Type 0 where
-  pub front : List ℕ
-  pub behind : List ℕ
+-- a list in front of the place above a node and behind it, or at the bottom
+pub record IsPlace (lists : List (List ℕ)) (list n : ℕ) (base : Option ℕ) (front behind : List ℕ) : Type 0 where
   pub split : list_at list lists ≡ front ++ behind
   pub below_is : base ≡ last_or None front
-  pub above_is : next_up nodes lowests list base ≡ first_or None behind
   pub put : put_above base n (list_at list lists) ≡ front ++ n ∷ behind
 
 put_elsewhere : (base n : ℕ) (xs : List ℕ) → is_in base xs ≡ false → flat_map (λ x. if x == base then x ∷ n ∷ [] else x ∷ []) xs ≡ xs
@@ -40,6 +37,25 @@ put_at base n ys zs not_ys not_zs =
     flat_map-append (λ x. if x == base then x ∷ n ∷ [] else x ∷ []) ys (base ∷ zs)
     ∙ rw (here, put_elsewhere base n ys not_ys, put_elsewhere base n zs not_zs) (sym (append_assoc ys (base ∷ []) (n ∷ zs)))
 
+pub at_bottom : (lists : List (List ℕ)) (list n : ℕ) → IsPlace lists list n None [] (list_at list lists)
+at_bottom lists list n = record { split = refl; below_is = refl; put = refl }
+
+pub above_node : (lists : List (List ℕ)) (list n base : ℕ) (ys zs : List ℕ) → list_at list lists ≡ ys ++ base ∷ zs → is_in base ys ≡ false
+    → is_in base zs ≡ false → IsPlace lists list n (Some base) (ys ++ base ∷ []) zs
+above_node lists list n base ys zs split not_ys not_zs =
+    record {
+      split = split ∙ sym (append_assoc ys (base ∷ []) zs);
+      below_is = sym (last_or-append None ys base);
+      put = ap (put_above (Some base) n) split ∙ put_at base n ys zs not_ys not_zs;
+    }
+
+-- the place where a node is put, and the node above it
+pub record Place (nodes : List Node) (lowests : List (Option ℕ)) (lists : List (List ℕ)) (list n : ℕ) (base : Option ℕ) : Type 0 where
+  pub front : List ℕ
+  pub behind : List ℕ
+  pub is : IsPlace lists list n base front behind
+  pub above_is : next_up nodes lowests list base ≡ first_or None behind
+
 pub place_of : (nodes : List Node) (lowests : List (Option ℕ)) (lists : List (List ℕ)) (list n : ℕ) (base : Option ℕ)
     → Represent nodes lowests lists → list < length lists → ForSome base (λ b. list_of b lists ≡ Some list)
     → Place nodes lowests lists list n base
@@ -47,20 +63,16 @@ place_of nodes lowests lists list n None stand within given =
     record {
       front = [];
       behind = list_at list lists;
-      split = refl;
-      below_is = refl;
+      is = at_bottom lists list n;
       above_is = lowest_read nodes lowests lists list stand within ∙ lowest_is (list_at list lists);
-      put = refl;
     }
 place_of nodes lowests lists list n (Some base) stand within given =
     let at = stands_at nodes lowests lists base list stand (given base refl) in
     record {
       front = at.front ++ base ∷ [];
       behind = at.behind;
-      split = at.split ∙ sym (append_assoc at.front (base ∷ []) at.behind);
-      below_is = sym (last_or-append None at.front base);
+      is = above_node lists list n base at.front at.behind at.split at.not_front at.not_behind;
       above_is = ap (λ (x : Node). x.above) (get_or_from_slice_get nodes base _ free at.links);
-      put = ap (put_above (Some base) n) at.split ∙ put_at base n at.front at.behind at.not_front at.not_behind;
     }
 
 -- the neighbours of a place are nodes that there are
@@ -77,7 +89,7 @@ next_within nodes lowests lists list base over stand within given above_is m is 
     let place = place_of nodes lowests lists list 0 base stand within given in
     let there = lowest_in place.behind m (sym place.above_is ∙ sym above_is ∙ is) in
     member_within nodes lowests lists m list stand
-    (rw place.split (is_in-append m place.front place.behind ∙ or_right (is_in m place.front) (is_in m place.behind) there))
+    (rw place.is.split (is_in-append m place.front place.behind ∙ or_right (is_in m place.front) (is_in m place.behind) there))
 
 -- a member of a list is in it with one more
 in_more : (m n : ℕ) (xs ys : List ℕ) → is_in m (xs ++ ys) ≡ true → is_in m (xs ++ n ∷ ys) ≡ true
@@ -158,8 +170,9 @@ pub inserted_stands : (nodes : List Node) (lowests : List (Option ℕ)) (lists :
     (with_lowest list base (Some n) lowests) (inserted list n base lists)
 inserted_stands nodes lowests lists list n base over stand within in_range absent given above_is =
     let place = place_of nodes lowests lists list n base stand within given in
-    by_ends base over place.front place.behind (put_above base n (list_at list lists)) place.below_is (above_is ∙ place.above_is) place.put
-    (inserted_at nodes lowests lists list n place.front place.behind stand within in_range absent place.split)
+    by_ends base over place.front place.behind (put_above base n (list_at list lists)) place.is.below_is
+    (above_is ∙ place.above_is) place.is.put
+    (inserted_at nodes lowests lists list n place.front place.behind stand within in_range absent place.is.split)
   where
     by_ends : (under up : Option ℕ) (front behind to : List ℕ) → under ≡ last_or None front → up ≡ first_or None behind
         → to ≡ front ++ n ∷ behind

@@ -8,3 +8,4 @@ mod Changes
 mod Inserted
 mod Removed
 mod Left
+mod Orderly

@@ -22,7 +22,7 @@ none_removed n [] absent = refl
 none_removed n (xs ∷ lists) absent =
     rw (without_absent n xs (absent 0)) (ap (λ ls. xs ∷ ls) (none_removed n lists (λ i. absent (suc i))))
 
-one_removed : (n : ℕ) (lists : List (List ℕ)) (list : ℕ) → ((i : ℕ) → i ≢ list → is_in n (list_at i lists) ≡ false)
+pub one_removed : (n : ℕ) (lists : List (List ℕ)) (list : ℕ) → ((i : ℕ) → i ≢ list → is_in n (list_at i lists) ≡ false)
     → removed n lists ≡ set lists list (without n (list_at list lists))
 one_removed n [] list elsewhere = refl
 one_removed n (xs ∷ lists) zero elsewhere =
@@ -31,7 +31,7 @@ one_removed n (xs ∷ lists) (suc list) elsewhere =
     rw (without_absent n xs (elsewhere 0 (λ same. omega (arith, same))))
     (ap (λ ls. xs ∷ ls) (one_removed n lists list (λ i other. elsewhere (suc i) (λ same. other (omega (arith, same))))))
 
-without_at : (n : ℕ) (ys zs : List ℕ) → is_in n ys ≡ false → is_in n zs ≡ false → without n (ys ++ n ∷ zs) ≡ ys ++ zs
+pub without_at : (n : ℕ) (ys zs : List ℕ) → is_in n ys ≡ false → is_in n zs ≡ false → without n (ys ++ n ∷ zs) ≡ ys ++ zs
 without_at n ys zs not_ys not_zs =
     let here : (n == n) ≡ true = eq-eqb n n refl in
     filter-append _ ys (n ∷ zs) ∙ rw (here, without_absent n ys not_ys, without_absent n zs not_zs) refl

@@ -1,7 +1,8 @@
 -- Several ordered lists over one set of nodes: nodes and lists are numbered from 0, and a list has its nodes from the lowest up.
-use Rattle.std.specs.Prelude.{ℕ, ◌<◌, not, ◌==◌, List, [], ◌∷◌, map, filter, flat_map, reverse, position, slice_get, slice_set}
+use Rattle.std.specs.Prelude.{◌≡◌, ℕ, ◌<◌, not, ◌==◌, List, [], ◌∷◌, length, map, filter, flat_map, reverse, position, slice_get, slice_set}
 use Rattle.std.specs.Prelude.{Option, Some, None, if◌then◌else◌}
 use Rattle.std.specs.List.{AllByRecursion, concat, slice_index_or}
+use Rattle.std.specs.Option.{ForSome}
 use Rattle.wf_words.specs.Keyed.{is_in}
 use Rattle.wf_words.specs.Once.{NoneTwice}
 use Rattle.wf_words.specs.Options.{◌>>=◌}
@@ -57,3 +58,9 @@ removed node lists = map (without node) lists
 pub record IsOrderly (o : NodeLists) : Type 0 where
   pub once : NoneTwice (concat o.lists)
   pub within : AllByRecursion (λ node. node < o.nodes) (concat o.lists)
+
+-- a node may be put there: it is in no list, and the node below it is in this one
+pub record MayInsert (o : NodeLists) (list node : ℕ) (base : Option ℕ) : Type 0 where
+  pub is_list : list < length o.lists
+  pub is_free : list_of node o.lists ≡ None
+  pub is_base : ForSome base (λ b. list_of b o.lists ≡ Some list)
