@@ -55,19 +55,6 @@ set_below-requires c = λ m is.
           c.self.invariant (sym links.list ∙ c.in-Some.is) links.stands m is,
     ))
 
-pub invariant_of-self : goal.invariant_of-self
-invariant_of-self c =
-    let s = c.self.inside in
-    let x = c.index.result.now in
-    let some = rw (← c.self.view_is) at c.requires in
-    let links = is_read _ _ _ c.args.node x c.self.invariant some c.index.ensures in
-    let nodes = nodes_left s.nodes.len s.nodes.items c.args.node _ x.below x.above x.above x.below _ _ _ _ s.nodes.ok.0
-    c.deref_mut.ensures.value c.set_above.ensures.nodes c.deref_mut-3.ensures.value c.set_below.ensures in
-    let lowest = lowest_left s.lowest.len s.lowest.items c.in-Some.list x.below x.above _ _ s.lowest.ok.0
-    c.deref_mut-2.ensures.value c.set_above.ensures.lowest in
-    (remove_left s.nodes.items s.lowest.items _ c.in-Some.list c.args.node x _ _ c.self.invariant (sym links.list ∙ c.in-Some.is)
-    links.stands nodes lowest).sound
-
 pub returns : goal.returns
 returns c =
     let s = c.self.inside in
@@ -81,3 +68,16 @@ returns c =
     let left = remove_left s.nodes.items s.lowest.items _ c.in-Some.list c.args.node x _ _ c.self.invariant
     (sym links.list ∙ c.in-Some.is) links.stands nodes lowest in
     rw (← c.self.view_is) (record { removed = left.view; orderly = left.orderly })
+
+pub invariant_of-self : goal.invariant_of-self
+invariant_of-self c =
+    let s = c.self.inside in
+    let x = c.index.result.now in
+    let some = rw (← c.self.view_is) at c.requires in
+    let links = is_read _ _ _ c.args.node x c.self.invariant some c.index.ensures in
+    let nodes = nodes_left s.nodes.len s.nodes.items c.args.node _ x.below x.above x.above x.below _ _ _ _ s.nodes.ok.0
+    c.deref_mut.ensures.value c.set_above.ensures.nodes c.deref_mut-3.ensures.value c.set_below.ensures in
+    let lowest = lowest_left s.lowest.len s.lowest.items c.in-Some.list x.below x.above _ _ s.lowest.ok.0
+    c.deref_mut-2.ensures.value c.set_above.ensures.lowest in
+    (remove_left s.nodes.items s.lowest.items _ c.in-Some.list c.args.node x _ _ c.self.invariant (sym links.list ∙ c.in-Some.is)
+    links.stands nodes lowest).sound
