@@ -1,24 +1,18 @@
 -- A list that is changed: the links stand for the lists with it, where its own nodes and its lowest one are linked anew.
-use Rattle.std.proofs.Common.{◌≡◌, ◌≢◌, ℕ, zero, suc, ◌<◌, true, false, not, ◌==◌, ◌||◌, List, [], ◌∷◌, ◌++◌, length, map, set, filter, flat_map}
-use Rattle.std.proofs.Common.{slice_get, slice_index_or, Option, Some, None, if◌then◌else◌, refl, sym, ap, ◌∙◌, subst, inl, inr, get_or-set_same}
-use Rattle.std.proofs.Common.{get_or-set_other, append_assoc, arith}
-use Rattle.std.specs.Option.{ForSome}
-use Rattle.std.proofs.lemmas.Bool.{eq-eqb, both_ways, or_left, or_right, or_parts, false_from_ne_true, cases_eq}
+use Rattle.std.proofs.Common.{◌≡◌, ◌≢◌, ℕ, ◌<◌, true, false, List, [], ◌∷◌, ◌++◌, length, set}
+use Rattle.std.proofs.Common.{slice_index_or, Option, Some, None, refl, sym, ap, ◌∙◌, subst, inl, inr, get_or-set_same}
+use Rattle.std.proofs.Common.{get_or-set_other}
+use Rattle.std.proofs.lemmas.Bool.{both_ways, cases_eq}
 use Rattle.std.proofs.lemmas.List.{map-set, get_or-map, set-get_or}
-use Rattle.std.proofs.lemmas.List.Concat.{flat_map-append}
-use Rattle.std.proofs.lemmas.List.Elements.{filter-append}
-use Rattle.std.proofs.lemmas.Option.{get_or_from_slice_get}
 use Rattle.wf_words.specs.Keyed.{is_in}
-use Rattle.wf_words.specs.Once.{NoneTwice, by_number}
+use Rattle.wf_words.specs.Once.{NoneTwice}
 use Rattle.wf_links.specs.declared.links.Node.{Node}
-use Rattle.wf_links.specs.Lists.{list_at, list_of, lowest, put_above, inserted, without, removed}
-use Rattle.wf_links.specs.Inside.{IsChain, Represent, first_or, list_link, free, with_lowest}
-use Rattle.wf_links.proofs.Members.{is_in-append, once_inserted, without_absent}
-use Rattle.wf_links.proofs.Numbered.{in_list_of, in_no_list, list_of_within}
+use Rattle.wf_links.specs.Lists.{list_at, lowest}
+use Rattle.wf_links.specs.Inside.{IsChain, Represent, first_or, list_link, with_lowest}
 use Rattle.wf_links.proofs.Neighbours.{lowest_is}
-use Rattle.wf_links.proofs.Chains.{chain_front, chain_back, chain_joined, chain_kept, last_or, last_in, relinked, relinked_other, relinked_here}
-use Rattle.wf_links.proofs.Chains.{relinked_list, front_kept, back_kept}
-use Rattle.wf_links.proofs.Represented.{one_list, StandsAt, stands_at}
+use Rattle.wf_links.proofs.Chains.{chain_kept, last_or, relinked, relinked_other}
+use Rattle.wf_links.proofs.Chains.{relinked_list}
+use Rattle.wf_links.proofs.Represented.{one_list}
 
 -- a list becomes another, in which its nodes but one are as before; that one, and its neighbours in the list, are linked anew
 pub record IsChange (nodes : List Node) (lowests : List (Option ℕ)) (lists : List (List ℕ)) (list n : ℕ) (x : Node)

@@ -1,8 +1,8 @@
 -- A node that is put into a list: the place between the nodes below and above it, and the links with it.
-use Rattle.std.proofs.Common.{◌≡◌, ◌≢◌, ℕ, ◌<◌, true, false, not, ◌==◌, ◌||◌, List, [], ◌∷◌, ◌++◌, length, set, flat_map, slice_get}
-use Rattle.std.proofs.Common.{slice_index_or, Option, Some, None, if◌then◌else◌, option_and_then, inl, inr, refl, sym, ap, ◌∙◌, append_assoc}
+use Rattle.std.proofs.Common.{◌≡◌, ℕ, ◌<◌, true, false, ◌==◌, List, [], ◌∷◌, ◌++◌, length, set, flat_map, slice_get}
+use Rattle.std.proofs.Common.{Option, Some, None, if◌then◌else◌, option_and_then, inl, inr, refl, sym, ap, ◌∙◌, append_assoc}
 use Rattle.std.specs.Option.{ForSome}
-use Rattle.std.proofs.lemmas.Bool.{eq-eqb, both_ways, or_left, or_right, or_parts, or_cases, false_from_ne_true}
+use Rattle.std.proofs.lemmas.Bool.{eq-eqb, both_ways, or_left, or_right, or_parts, or_cases}
 use Rattle.std.proofs.lemmas.List.Concat.{flat_map-append}
 use Rattle.std.proofs.lemmas.Option.{get_or_from_slice_get}
 use Rattle.wf_words.specs.Keyed.{is_in}
@@ -15,7 +15,7 @@ use Rattle.wf_links.proofs.Numbered.{in_no_list, in_list_of}
 use Rattle.wf_links.proofs.Neighbours.{lowest_is}
 use Rattle.wf_links.proofs.Chains.{chain_front, chain_back, chain_joined, last_or, highest_in, lowest_in, relinked, relinked_here}
 use Rattle.wf_links.proofs.Chains.{front_kept, back_kept}
-use Rattle.wf_links.proofs.Represented.{StandsAt, stands_at, member_within}
+use Rattle.wf_links.proofs.Represented.{stands_at, member_within}
 use Rattle.wf_links.proofs.Changes.{changed, last_or-append, lowest_written, lowest_read}
 
 -- a list in front of the place above a node and behind it, or at the bottom

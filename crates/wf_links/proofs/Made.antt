@@ -1,8 +1,7 @@
 -- The links of nodes that are in no list.
 use Rattle.std.proofs.Common.{◌≡◌, ℕ, zero, suc, List, [], ◌∷◌, map, replicate, Option, Some, None, refl, sym, ap, ◌∙◌}
-use Rattle.wf_words.specs.Once.{NoneTwice}
 use Rattle.wf_links.specs.Lists.{list_at, lowest}
-use Rattle.wf_links.specs.Inside.{IsChain, Represent, list_link, free}
+use Rattle.wf_links.specs.Inside.{Represent, list_link, free}
 
 list_made : (lists i : ℕ) → list_at i (replicate lists []) ≡ []
 list_made zero i = refl

@@ -1,9 +1,9 @@
 -- Lists by their numbers: the one that has a node, and all of them one after another.
-use Rattle.std.proofs.Common.{◌≡◌, ℕ, zero, suc, ◌+◌, ◌<◌, ◌≤◌, nat_lt, Bool, true, false, not, cond, ◌==◌, ◌||◌, List, [], ◌∷◌, ◌++◌, length, set}
-use Rattle.std.proofs.Common.{map, position, option_map, Option, Some, None, refl, sym, ap, ◌∙◌, lt-ltb, inl, inr, arith}
+use Rattle.std.proofs.Common.{◌≡◌, ℕ, zero, suc, ◌+◌, ◌<◌, nat_lt, Bool, true, false, not, cond, ◌==◌, List, [], ◌∷◌, length}
+use Rattle.std.proofs.Common.{position, option_map, Option, Some, None, refl, sym, ap, ◌∙◌, lt-ltb, inl, inr, arith}
 use Rattle.std.specs.List.{AllByRecursion, concat, position_or_len}
 use Rattle.std.proofs.Math.Numerals.{one-add}
-use Rattle.std.proofs.lemmas.Bool.{eq-eqb, le-ltb, ltb-true, ltb-false, both_ways, or_left, or_right, or_cases, false_from_ne_true}
+use Rattle.std.proofs.lemmas.Bool.{eq-eqb, le-ltb, ltb-true, ltb-false, or_left, or_right, or_cases, false_from_ne_true}
 use Rattle.std.proofs.lemmas.List.Quantifiers.{position-Some}
 use Rattle.wf_words.specs.Keyed.{is_in}
 use Rattle.wf_words.specs.Once.{NoneTwice}

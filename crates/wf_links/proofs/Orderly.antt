@@ -1,6 +1,6 @@
 -- Orderly lists: a node stands once in one list, and has the node above it that has it below.
-use Rattle.std.proofs.Common.{◌≡◌, ◌≢◌, ℕ, zero, suc, ◌+◌, ◌<◌, ◌≤◌, true, false, not, cond, ◌==◌, ◌||◌, List, [], ◌∷◌, ◌++◌, length, reverse, set}
-use Rattle.std.proofs.Common.{count_by, Option, Some, None, refl, sym, ap, ◌∙◌, inl, inr, get_or-set_same, get_or-set_other, append_assoc, arith}
+use Rattle.std.proofs.Common.{◌≡◌, ◌≢◌, ℕ, zero, suc, ◌+◌, ◌<◌, ◌≤◌, true, false, cond, ◌==◌, List, [], ◌∷◌, ◌++◌, length, reverse, set}
+use Rattle.std.proofs.Common.{count_by, Option, Some, None, refl, sym, ap, ◌∙◌, inl, inr, get_or-set_same, get_or-set_other, arith}
 use Rattle.std.specs.List.{concat}
 use Rattle.std.specs.Option.{ForSome}
 use Rattle.std.proofs.lemmas.Bool.{eq-eqb, eqb-true, both_ways, or_left, or_right, or_parts, or_from, false_from_ne_true, cases_eq}
@@ -13,7 +13,6 @@ use Rattle.wf_links.specs.Lists.{list_at, list_of, lowest, next_after, above, be
 use Rattle.wf_links.proofs.Members.{is_in-append, split_at, once_front, once_back, once_joined, apart_back, apart_front}
 use Rattle.wf_links.proofs.Numbered.{list_of_is, in_list_of, in_no_list, in_all}
 use Rattle.wf_links.proofs.Neighbours.{next_down_at, is_in-reverse}
-use Rattle.wf_links.proofs.Chains.{last_or}
 use Rattle.wf_links.proofs.Changes.{last_or-append}
 use Rattle.wf_links.proofs.Inserted.{IsPlace, at_bottom, above_node}
 use Rattle.wf_links.proofs.Removed.{one_removed, without_at}

@@ -1,5 +1,5 @@
 -- A node that is taken out of its list: the lists without it, and the links that are left.
-use Rattle.std.proofs.Common.{◌≡◌, ◌≢◌, ℕ, zero, suc, ◌<◌, true, false, ◌==◌, ◌||◌, List, [], ◌∷◌, ◌++◌, length, map, set, slice_get, option_and_then}
+use Rattle.std.proofs.Common.{◌≡◌, ◌≢◌, ℕ, zero, suc, ◌<◌, true, false, ◌==◌, List, [], ◌∷◌, ◌++◌, length, set, slice_get, option_and_then}
 use Rattle.std.proofs.Common.{Option, Some, None, inl, inr, refl, sym, ap, ◌∙◌, arith}
 use Rattle.std.proofs.lemmas.Bool.{eq-eqb, eqb-true, both_ways, or_left, or_right, or_cases, false_from_ne_true}
 use Rattle.std.proofs.lemmas.List.Elements.{filter-append}
@@ -8,7 +8,7 @@ use Rattle.wf_words.specs.Keyed.{is_in}
 use Rattle.wf_words.specs.Once.{NoneTwice, none_without}
 use Rattle.wf_links.specs.declared.links.Node.{Node}
 use Rattle.wf_links.specs.Lists.{list_at, list_of, lowest, without, removed}
-use Rattle.wf_links.specs.Inside.{IsChain, Represent, first_or, list_link, free, with_lowest}
+use Rattle.wf_links.specs.Inside.{IsChain, Represent, first_or, free, with_lowest}
 use Rattle.wf_links.proofs.Members.{is_in-append, without_absent}
 use Rattle.wf_links.proofs.Numbered.{in_list_of, list_of_within}
 use Rattle.wf_links.proofs.Chains.{chain_front, chain_back, chain_joined, last_or, highest_in, lowest_in, relinked, relinked_here}

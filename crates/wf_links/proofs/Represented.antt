@@ -1,17 +1,17 @@
 -- Links that stand for lists: what they say of a node and of a list, and that the lists are what is found by going along them.
-use Rattle.std.proofs.Common.{◌≡◌, ◌≢◌, ℕ, zero, suc, ◌+◌, ◌<◌, ◌≤◌, true, false, not, cond, ◌==◌, ◌||◌, nat_lt, List, [], ◌∷◌, ◌++◌, length, map}
-use Rattle.std.proofs.Common.{reverse, set, slice_get, slice_index_or, option_and_then, IsSome, Option, Some, None, refl, sym, ap, ◌∙◌, zero-add, arith}
-use Rattle.std.specs.List.{AllByRecursion, concat}
-use Rattle.std.proofs.lemmas.Bool.{eq-eqb, both_ways, or_left, or_right, or_cases, or_parts, or_from, false_from_ne_true}
+use Rattle.std.proofs.Common.{◌≡◌, ℕ, zero, suc, ◌+◌, ◌<◌, ◌≤◌, true, false, ◌==◌, List, [], ◌∷◌, ◌++◌, length, map}
+use Rattle.std.proofs.Common.{slice_get, slice_index_or, option_and_then, IsSome, Option, Some, None, refl, sym, ap, ◌∙◌, zero-add, arith}
+use Rattle.std.specs.List.{concat}
+use Rattle.std.proofs.lemmas.Bool.{eq-eqb, or_left, false_from_ne_true}
 use Rattle.std.proofs.lemmas.Option.{slice_get_within, get_or_from_slice_get, option_and_then_some}
 use Rattle.std.proofs.lemmas.List.{length-map}
 use Rattle.wf_words.specs.Keyed.{is_in}
-use Rattle.wf_words.specs.Once.{NoneTwice, by_number}
+use Rattle.wf_words.specs.Once.{NoneTwice}
 use Rattle.wf_words.specs.Places.{get_within}
 use Rattle.wf_links.specs.declared.links.Node.{Node}
-use Rattle.wf_links.specs.Lists.{NodeLists, IsOrderly, list_at, list_of, lowest, next_after, above, below}
+use Rattle.wf_links.specs.Lists.{IsOrderly, list_at, list_of, lowest, above, below}
 use Rattle.wf_links.specs.Inside.{IsChain, Represent, first_or, list_link, above_link, upward}
-use Rattle.wf_links.proofs.Members.{is_in-append, split_at, apart_front, once_back, few_below}
+use Rattle.wf_links.proofs.Members.{split_at, apart_front, once_back, few_below}
 use Rattle.wf_links.proofs.Numbered.{list_of_is, list_of_none, list_of_within, in_list_of, in_some, all_once, all_from_in}
 use Rattle.wf_links.proofs.Neighbours.{lowest_is, next_at, next_down_at}
 use Rattle.wf_links.proofs.Chains.{chain_back, chain_link, last_or}

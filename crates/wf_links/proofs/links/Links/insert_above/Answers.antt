@@ -1,5 +1,4 @@
-use Rattle.std.proofs.Common.{Some, arith, ap, ◌∙◌}
-use Rattle.wf_links.specs.Inside.{next_up}
+use Rattle.std.proofs.Common.{Some, arith}
 use Rattle.wf_links.proofs.Inserted.{base_within, next_within}
 use Rattle.wf_links.proofs.Left.{nodes_left, lowest_left, insert_left}
 use Rattle.wf_links.proofs.links.Links.insert_above.Goals as goal
