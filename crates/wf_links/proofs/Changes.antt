@@ -45,7 +45,8 @@ changed nodes lowests lists list n x base next over last to stand change =
     by_place : (i : ℕ) (P : List ℕ → Type 0) → (i ≡ list → P to) → (i ≢ list → P (list_at i lists)) → P (list_at i (set lists list to))
     by_place i P here other =
         elim (cases_eq i list) [
-          | inl same ↦ subst P (sym (ap (λ k. list_at k (set lists list to)) same ∙ get_or-set_same lists list to [] change.within)) (here same)
+          | inl same ↦ (let is = ap (λ k. list_at k (set lists list to)) same ∙ get_or-set_same lists list to [] change.within in
+              subst P (sym is) (here same))
           | inr apart ↦ subst P (sym (get_or-set_other lists list i to [] apart)) (other apart)
         ]
 

@@ -160,7 +160,8 @@ inserted_at nodes lowests lists list n front behind stand within in_range absent
 
     here : slice_get new n ≡ Some linked
     here = relinked_here nodes n linked base (Some n) over (Some n) in_range
-        (λ is. both_ways (is_in n front) not_in.0 (highest_in front n is)) (λ is. both_ways (is_in n behind) not_in.1 (lowest_in behind n is))
+        (λ is. both_ways (is_in n front) not_in.0 (highest_in front n is))
+        (λ is. both_ways (is_in n behind) not_in.1 (lowest_in behind n is))
 
 -- the links with the node stand for the lists with it
 pub inserted_stands : (nodes : List Node) (lowests : List (Option ℕ)) (lists : List (List ℕ)) (list n : ℕ) (base over : Option ℕ)

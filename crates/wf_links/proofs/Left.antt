@@ -1,5 +1,6 @@
 -- What a call leaves: the nodes and the lowest nodes after its writes, and what holds of them.
-use Rattle.std.proofs.Common.{◌≡◌, ℕ, ◌<◌, List, [], ◌++◌, length, map, set, take, drop, replicate, slice_get, Option, Some, None, refl, sym, ap, ◌∙◌, arith}
+use Rattle.std.proofs.Common.{◌≡◌, ℕ, ◌<◌, List, [], ◌++◌, length, map, set, take, drop, replicate, slice_get}
+use Rattle.std.proofs.Common.{Option, Some, None, refl, sym, ap, ◌∙◌, arith}
 use Rattle.std.specs.Option.{ForSome}
 use Rattle.std.proofs.lemmas.List.{append-nil, drop_all, take_all, length-set, length-replicate}
 use Rattle.wf_links.specs.declared.links.Node.{Node}
@@ -56,7 +57,8 @@ pub record IsLeft (nodes : List Node) (lowests : List (Option ℕ)) (kept : Node
   pub view : record { nodes = length nodes; lists = map (upward (length nodes) nodes) lowests } ≡ kept
   pub orderly : IsOrderly (record { nodes = length nodes; lists = map (upward (length nodes) nodes) lowests })
 
-pub is_left : (nodes to : List Node) (lowests to_lowests : List (Option ℕ)) (count : ℕ) (lists : List (List ℕ)) → nodes ≡ to → lowests ≡ to_lowests
+pub is_left : (nodes to : List Node) (lowests to_lowests : List (Option ℕ)) (count : ℕ) (lists : List (List ℕ))
+    → nodes ≡ to → lowests ≡ to_lowests
     → length to ≡ count → Represent to to_lowests lists → IsLeft nodes lowests (record { nodes = count; lists = lists })
 is_left nodes to lowests to_lowests count lists nodes_are lowests_are counted stand =
     let view = view_is to to_lowests lists stand in

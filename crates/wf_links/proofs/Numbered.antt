@@ -15,9 +15,14 @@ pub position_more : {A : Type 0} (p : A → Bool) (x : A) (xs : List A)
     → position p (x ∷ xs) ≡ cond (p x) (Some 0) (option_map suc (position p xs))
 position_more p x xs = by_test (p x) refl
   where
-    past : (k l : ℕ) (b : Bool) → nat_lt k l ≡ b → cond (nat_lt (suc k) (suc l)) (Some (suc k)) None ≡ option_map suc (cond b (Some k) None)
-    past k l true less = let more : nat_lt (suc k) (suc l) ≡ true = lt-ltb (suc k) (suc l) (omega (arith, ltb-true k l less)) in rw more refl
-    past k l false less = let more : nat_lt (suc k) (suc l) ≡ false = le-ltb (suc k) (suc l) (omega (arith, ltb-false k l less)) in rw more refl
+    past : (k l : ℕ) (b : Bool) → nat_lt k l ≡ b
+        → cond (nat_lt (suc k) (suc l)) (Some (suc k)) None ≡ option_map suc (cond b (Some k) None)
+    past k l true less =
+        let more : nat_lt (suc k) (suc l) ≡ true = lt-ltb (suc k) (suc l) (omega (arith, ltb-true k l less)) in
+        rw more refl
+    past k l false less =
+        let more : nat_lt (suc k) (suc l) ≡ false = le-ltb (suc k) (suc l) (omega (arith, ltb-false k l less)) in
+        rw more refl
 
     by_test : (b : Bool) → p x ≡ b → cond (nat_lt (cond (not b) (1 + position_or_len p xs) 0) (suc (length xs)))
         (Some (cond (not b) (1 + position_or_len p xs) 0)) None ≡ cond b (Some 0) (option_map suc (position p xs))
@@ -64,7 +69,8 @@ in_no_list n (xs ∷ lists) j none =
 pub in_all : (n : ℕ) (lists : List (List ℕ)) (i : ℕ) → is_in n (list_at i lists) ≡ true → is_in n (concat lists) ≡ true
 in_all n [] i there = there
 in_all n (xs ∷ lists) zero there = is_in-append n xs (concat lists) ∙ or_left (is_in n xs) (is_in n (concat lists)) there
-in_all n (xs ∷ lists) (suc i) there = is_in-append n xs (concat lists) ∙ or_right (is_in n xs) (is_in n (concat lists)) (in_all n lists i there)
+in_all n (xs ∷ lists) (suc i) there =
+    is_in-append n xs (concat lists) ∙ or_right (is_in n xs) (is_in n (concat lists)) (in_all n lists i there)
 
 pub in_some : (n : ℕ) (lists : List (List ℕ)) → is_in n (concat lists) ≡ true → (i : ℕ) × (is_in n (list_at i lists) ≡ true)
 in_some n [] there = absurd cc
@@ -79,7 +85,8 @@ pub all_once : (list : ℕ → Option ℕ) (first : ℕ) (lists : List (List ℕ
     → ((i n : ℕ) → is_in n (list_at i lists) ≡ true → list n ≡ Some (first + i)) → NoneTwice (concat lists)
 all_once list first [] once known = tt
 all_once list first (xs ∷ lists) once known =
-    once_joined xs (concat lists) (once 0) (all_once list (suc first) lists (λ i. once (suc i)) (λ i n h. known (suc i) n h ∙ ap (λ (k : ℕ). Some k) (omega arith)))
+    once_joined xs (concat lists) (once 0)
+    (all_once list (suc first) lists (λ i. once (suc i)) (λ i n h. known (suc i) n h ∙ ap (λ (k : ℕ). Some k) (omega arith)))
     (λ n here. false_from_ne_true (is_in n (concat lists)) (λ later. apart n here (in_some n lists later)))
   where
     apart : (n : ℕ) → is_in n xs ≡ true → (i : ℕ) × (is_in n (list_at i lists) ≡ true) → ⊥

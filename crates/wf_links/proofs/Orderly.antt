@@ -134,7 +134,8 @@ some_place lists list n None once given = ([], list_at list lists, at_bottom lis
 some_place lists list n (Some base) once given =
     let parts = split_at base (list_at list lists) (in_list_of base lists list (given base refl)) in
     let once_there : NoneTwice (parts.0 ++ base ∷ parts.1) = rw (← parts.2) (once_at lists list once) in
-    let not_front = apart_front base parts.0 (base ∷ parts.1) once_there (or_left (base == base) (is_in base parts.1) (eq-eqb base base refl)) in
+    let here : is_in base (base ∷ parts.1) ≡ true = or_left (base == base) (is_in base parts.1) (eq-eqb base base refl) in
+    let not_front = apart_front base parts.0 (base ∷ parts.1) once_there here in
     let not_behind = (once_back parts.0 (base ∷ parts.1) once_there).0 in
     (parts.0 ++ base ∷ [], parts.1, above_node lists list n base parts.0 parts.1 parts.2 not_front not_behind)
 
@@ -169,7 +170,11 @@ put_at_place lists list n base front behind place within absent =
     elsewhere j other = rw (get_or-set_other lists list j (put_above base n (list_at list lists)) [] other) (in_no_list n lists j absent)
 
     only : (j : ℕ) → is_in n (list_at j new) ≡ true → j ≡ list
-    only j there = elim (cases_eq j list) [ inl same ↦ same | inr other ↦ absurd (both_ways (is_in n (list_at j new)) (elsewhere j other) there) ]
+    only j there =
+        elim (cases_eq j list) [
+          | inl same ↦ same
+          | inr other ↦ absurd (both_ways (is_in n (list_at j new)) (elsewhere j other) there)
+        ]
 
     in_list : list_of n new ≡ Some list
     in_list = list_of_is n new list (rw at_list (is_in-append n front (n ∷ behind)

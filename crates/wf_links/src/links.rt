@@ -1,6 +1,6 @@
 //! Several ordered lists over one set of nodes.
 
-ghost use Rattle.std.specs.Prelude.{◌≡◌, ◌<◌, IfOk, IsSome, Some, None, [], length, replicate, slice_get};
+ghost use Rattle.std.specs.Prelude.{◌≡◌, ◌<◌, IfOk, IsSome, [], length, replicate};
 ghost use Rattle.std.specs.Option.{ForSome};
 ghost use Rattle.wf_links.specs.Lists.{IsOrderly, list_at, list_of, above, below, lowest, inserted, removed};
 

@@ -11,19 +11,21 @@ next_up-above-requires-clause-node c = λ m is.
 pub set_above-requires-clause-node : goal.set_above-requires-clause-node
 set_above-requires-clause-node c = λ m is.
     (let given = rw (← c.self.view_is) at c.requires.below in
-    omega (arith, c.deref_mut.ensures.len, c.self.inside.nodes.ok.0, base_within _ _ _ c.args.list c.args.below c.self.invariant given m is))
+    omega (
+      arith,
+      c.deref_mut.ensures.len,
+      c.self.inside.nodes.ok.0,
+      base_within _ _ _ c.args.list c.args.below c.self.invariant given m is,
+    ))
 
 pub set_below-requires : goal.set_below-requires
 set_below-requires c = λ m is.
     (let s = c.self.inside in
     let r = rw (← c.self.view_is) at c.requires in
     let above_is = rw (c.deref.ensures.value, c.deref-2.ensures.value) at c.next_up-above.ensures in
-    omega (
-      arith,
-      c.deref_mut-3.ensures.len,
-      s.nodes.ok.0,
-      next_within s.nodes.items s.lowest.items _ c.args.list c.args.below c.next_up-above.result c.self.invariant r.list r.below above_is m is,
-    ))
+    let near = next_within s.nodes.items s.lowest.items _ c.args.list c.args.below c.next_up-above.result c.self.invariant r.list r.below
+    above_is m is in
+    omega (arith, c.deref_mut-3.ensures.len, s.nodes.ok.0, near))
 
 pub returns : goal.returns
 returns c =
