@@ -16,6 +16,12 @@ use Rattle.wf_links.proofs.Chains.{front_kept, back_kept}
 use Rattle.wf_links.proofs.Represented.{one_list, StandsAt, stands_at, member_within}
 use Rattle.wf_links.proofs.Changes.{changed, lowest_written, lowest_read}
 
+-- each list is without the node
+pub at_removed : (n : ℕ) (lists : List (List ℕ)) (i : ℕ) → list_at i (removed n lists) ≡ without n (list_at i lists)
+at_removed n [] i = refl
+at_removed n (xs ∷ lists) zero = refl
+at_removed n (xs ∷ lists) (suc i) = at_removed n lists i
+
 -- where a node is in one of the lists alone, only that one is changed
 none_removed : (n : ℕ) (lists : List (List ℕ)) → ((i : ℕ) → is_in n (list_at i lists) ≡ false) → removed n lists ≡ lists
 none_removed n [] absent = refl

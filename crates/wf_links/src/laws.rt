@@ -1,6 +1,6 @@
 //! Laws of the definitions: where a node stands, and where it is put.
 
-ghost use Rattle.std.specs.Prelude.{◌≡◌, ℕ, ◌≤◌, ◌==◌, ◌↔◌, Option, Some, IsTrue, count_by};
+ghost use Rattle.std.specs.Prelude.{◌≡◌, ◌≢◌, ℕ, ◌≤◌, ◌==◌, ◌↔◌, List, Option, Some, IsTrue, IsFalse, count_by};
 ghost use Rattle.wf_words.specs.Keyed.{is_in};
 ghost use Rattle.wf_links.specs.Lists.{NodeLists, IsOrderly, MayInsert, list_at, list_of, above, below, inserted, removed};
 
@@ -29,4 +29,12 @@ pub fn inserted_above()
 pub fn inserted_and_removed()
     ensures { (o : NodeLists) (list node : ℕ) (base : Option ℕ) → IsOrderly o → MayInsert o list node base
         → removed node (inserted list node base o.lists) ≡ o.lists }
+{}
+
+/// A node that is put into a list or taken out of one leaves all other lists as they were.
+pub fn other_lists_stay()
+    ensures inserted { (lists : List (List ℕ)) (list node i : ℕ) (base : Option ℕ) → i ≢ list
+        → list_at i (inserted list node base lists) ≡ list_at i lists }
+    ensures removed { (lists : List (List ℕ)) (node i : ℕ) → IsFalse (is_in node (list_at i lists))
+        → list_at i (removed node lists) ≡ list_at i lists }
 {}
