@@ -1,0 +1,11 @@
+mod Members
+mod Numbered
+mod Neighbours
+mod Chains
+mod Represented
+mod Made
+mod Changes
+mod Inserted
+mod Removed
+mod Left
+mod Orderly

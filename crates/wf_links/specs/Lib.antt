@@ -1,0 +1,3 @@
+-- Ordered lists over one set of nodes, and how they are kept.
+pub mod Lists
+pub mod Inside
