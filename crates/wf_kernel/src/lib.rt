@@ -4,6 +4,7 @@
 mod bands;
 mod bound;
 mod hiding;
+mod keeping;
 mod laying;
 mod lines;
 mod masks;
