@@ -62,6 +62,7 @@ fn rows_of_scene<R: Threads + Sync>(
 }
 
 /// The same with tables, which are worked out once for all threads.
+#[inline(never)]
 fn rows_by_tables<R: Threads + Sync>(
     rt: &R,
     workers: u32,

@@ -45,7 +45,9 @@ fn paint_scene(bytes: &mut [u8], scene: &Scene, contents: &Contents)
     }
 }
 
-/// The same with tables: a function of its own, since they take half of the stack.
+/// The same with tables. They stand on the stack, which a picture that needs none does without: so this is a function of its
+/// own when it runs, too.
+#[inline(never)]
 fn paint_by_tables(bytes: &mut [u8], scene: &Scene, contents: &Contents)
     requires count { length bytes.old ≡ scene.now.size.w * scene.now.size.h * 4 }
     requires fits { Fits scene.now contents.now }
