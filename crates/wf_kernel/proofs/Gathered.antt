@@ -33,7 +33,7 @@ four_bytes Rgba8Pre n = refl
 four_bytes Rgbx8 n = refl
 four_bytes A8 n = absurd (n refl)
 
-room_for : (image : Bitmap) (x y n : ℕ) → image.format ≢ A8 → length image.bytes ≡ image_bytes image.size image.format
+pub room_for : (image : Bitmap) (x y n : ℕ) → image.format ≢ A8 → length image.bytes ≡ image_bytes image.size image.format
     → x + n ≤ image.size.w → y < image.size.h
     → 4 * (y * image.size.w + x) + 4 * n ≤ length image.bytes
 room_for image x y n colours count_is within low =
@@ -79,7 +79,7 @@ straight_colour b image a d u straight column =
     straight in
     u_is ∙ ap (λ (p : ℕ × ℕ). pixel image p.0 p.1) (sym place)
 
-crossed_colour : (b : Bound) (image : Bitmap) (a d v : ℕ) → is_crossed b.turn b.layer ≡ true → across b.turn b.layer a ≡ v
+pub crossed_colour : (b : Bound) (image : Bitmap) (a d v : ℕ) → is_crossed b.turn b.layer ≡ true → across b.turn b.layer a ≡ v
     → pixel image (down b.turn b.layer d) v ≡ source_colour b image a d
 crossed_colour b image a d v crossed row =
     let v_is : pixel image (down b.turn b.layer d) v ≡ pixel image (down b.turn b.layer d) (across b.turn b.layer a) =

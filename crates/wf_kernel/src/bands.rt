@@ -16,8 +16,11 @@ use wf_image::{Contents, Image};
 use wf_pixel::{Rgba, Size};
 use wf_scene::Scene;
 
-/// Writes the same as `picture`, by bands of rows in at most so many threads, from 1 to 16. It takes no memory and
-/// refuses nothing: where no thread can be made, the calling thread paints the band.
+/// How many pixels a band has at least: a thread costs more than painting fewer.
+const FEWEST: u32 = 16384;
+
+/// Writes the same as `picture`, by bands of rows in at most so many threads, from 1 to 16, and a small picture in fewer. It takes no
+/// memory and refuses nothing: where no thread can be made, the calling thread paints the band.
 pub fn picture_rows<R: Threads + Sync>(
     rt: &R,
     workers: u32,
@@ -59,6 +62,7 @@ fn rows_of_scene<R: Threads + Sync>(
 }
 
 /// The same with tables, which are worked out once for all threads.
+#[inline(never)]
 fn rows_by_tables<R: Threads + Sync>(
     rt: &R,
     workers: u32,
@@ -138,7 +142,7 @@ fn paint_each<R: Threads + Sync>(
     ensures { (i : ℕ) → i < length bytes.old → slice_index bytes.new i ≡ slice_index (bound_rows size.w layers.now background 0 size.h) i }
 {
     let stride = 4 * size.w as usize;
-    let rows = size.h.div_ceil(workers).max(1) as usize;
+    let rows = size.h.div_ceil(workers).max(FEWEST / size.w + 1) as usize;
     thread::for_each_chunk_mut(
         rt,
         bytes,

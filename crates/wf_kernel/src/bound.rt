@@ -92,7 +92,9 @@ impl<'a> Default for BoundLayer<'a> {
     }
 }
 
-/// The layers of a scene with their images among these. A layer that needs a table has it at its own place.
+/// The layers of a scene with their images among these. A layer that needs a table has it at its own place. What a list of
+/// layers takes of the stack while it is made is free again when the picture is painted.
+#[inline(never)]
 pub(crate) fn bind_layers<'a>(
     scene: &Scene,
     contents: &'a Contents,

@@ -1,96 +1,219 @@
 //! Lays one layer over pixels of a row of the target.
 
-ghost use Rattle.std.specs.Prelude.{◌≡◌, ◌≢◌, ℕ, ◌+◌, ◌*◌, ◌<◌, ◌≤◌, length, None, Some, IfNone, IfSome};
+ghost use Rattle.std.specs.Prelude.{◌≡◌, ◌≢◌, ℕ, ◌+◌, ◌*◌, ◌<◌, ◌≤◌, length, true, Some};
 ghost use Rattle.wf_pixel.specs.declared.Format.TheVariants.{Rgba8Pre};
 ghost use Rattle.wf_pixel.specs.Arithmetic.{scaled};
 ghost use Rattle.wf_pixel.specs.Place.{size_of};
 ghost use Rattle.wf_image.specs.Bitmap.{read_at, drawn_row};
-ghost use Rattle.wf_kernel.specs.Bound.{bound_texel};
-ghost use Rattle.wf_kernel.specs.Placed.{source_colour, mask_value};
-ghost use Rattle.wf_kernel.specs.Laid.{laid, lifted_pixel, mode_of, fade_of, placed_texel, IsStretch, IsStretchIn};
+ghost use Rattle.wf_kernel.specs.Bound.{bound_texel, layer_at};
+ghost use Rattle.wf_kernel.specs.Kept.{AreKept};
+ghost use Rattle.wf_kernel.specs.Placed.{is_crossed, source_colour, mask_value};
+ghost use Rattle.wf_kernel.specs.Laid.{laid, lifted_pixel, mode_of, fade_of, placed_texel, IsStretch};
 
 use crate::bound::BoundLayer;
+use crate::keeping::{COLUMNS, Kept, keep_block, keep_line};
 use crate::lines::{fill_line, forward_line};
 use crate::masks::{fill_values, straight_values};
-use crate::placing::Walk;
-use crate::stretch::Stretch;
+use crate::placing::{Walk, down};
+use crate::stretch::{Stretch, stretch_of};
 use wf_image::Image;
 use wf_pixel::{Format, Rotation};
-use wf_row::{AlphaMode, blend_masked_row, blend_row};
+use wf_row::{AlphaMode, blend_masked_row, blend_row, gather_fourth};
 
-/// Lays a layer over `width` pixels of row `y`, from column `first` on.
+/// Lays a layer, by its place, over `width` pixels of row `y`, from column `first` on. The source's pixels go through `spare`,
+/// where they are not taken as they stand.
 #[inline(always)]
 pub(crate) fn lay_row(
     row: &mut [u8],
     first: u32,
     width: u32,
-    layer: &BoundLayer,
-    line: &mut [u8; 4096],
+    layers: &[BoundLayer],
+    i: usize,
+    kept: &mut Kept,
+    spare: &mut [u8; 4096],
     y: u32,
 )
     requires count { length row.old ≡ 4 * width }
     requires few { first + width ≤ 1024 }
-    ensures { row.new ≡ laid width (λ x. bound_texel layer.now (first + x) y) row.old }
+    requires layer { i < length layers.now }
+    requires kept { AreKept layers.now kept.old }
+    ensures row { row.new ≡ laid width (λ x. bound_texel (layer_at layers.now i) (first + x) y) row.old }
+    ensures kept { AreKept layers.now kept.new }
 {
-    if let Some(stretch) = stretch_of(layer, first, width, y) {
+    if let Some(stretch) = stretch_of(&layers[i], first, width, y) {
         let at = 4 * (stretch.x - first) as usize;
         let part = &mut row[at..at + 4 * stretch.len as usize];
-        lay_stretch(part, layer, line, stretch);
+        lay_stretch(part, layers, i, kept, spare, stretch);
     }
 }
 
-/// The pixels of a layer in `width` pixels of row `y` from column `first` on, or None where it shows nothing there.
-#[inline(always)]
-fn stretch_of(layer: &BoundLayer, first: u32, width: u32, y: u32) -> Option<Stretch>
-    requires few { first + width ≤ 1024 }
-    ensures some { IfSome result (λ s. IsStretchIn layer.now first width y s) }
-    ensures none { IfNone result ((j : ℕ) → j < width → bound_texel layer.now (first + j) y ≡ None) }
-{
-    let columns = layer.columns;
-    let rows = layer.rows;
-    let start = columns.start.max(first);
-    let end = (columns.start + columns.len).min(first + width);
-    if end <= start {
-        return None;
-    }
-    if y < rows.start {
-        return None;
-    }
-    if rows.start + rows.len <= y {
-        return None;
-    }
-    Some(Stretch {
-        x: start,
-        y,
-        across: columns.skip + (start - columns.start),
-        down: rows.skip + (y - rows.start),
-        len: end - start,
-    })
-}
-
-/// Lays a layer over the pixels of a stretch. The source's pixels go through `line`, where they are not taken as they
-/// stand.
-fn lay_stretch(part: &mut [u8], layer: &BoundLayer, line: &mut [u8; 4096], stretch: Stretch)
+/// Lays a layer over the pixels of a stretch.
+fn lay_stretch(
+    part: &mut [u8],
+    layers: &[BoundLayer],
+    i: usize,
+    kept: &mut Kept,
+    spare: &mut [u8; 4096],
+    stretch: Stretch,
+)
     requires count { length part.old ≡ 4 * stretch.len }
-    requires stretch { IsStretch layer.now stretch }
-    ensures { part.new ≡ laid stretch.len (λ i. bound_texel layer.now (stretch.x + i) stretch.y) part.old }
+    requires layer { i < length layers.now }
+    requires stretch { IsStretch (layer_at layers.now i) stretch }
+    requires kept { AreKept layers.now kept.old }
+    ensures part { part.new ≡ laid stretch.len (λ j. bound_texel (layer_at layers.now i) (stretch.x + j) stretch.y) part.old }
+    ensures kept { AreKept layers.now kept.new }
 {
+    let layer = &layers[i];
     let Some(image) = layer.source else {
         return;
     };
-    if layer.walk == Walk::Forward {
-        lay_line(
-            part,
-            forward_line(layer, image, stretch),
-            layer,
-            image,
-            stretch,
-        );
-    } else {
-        let line = &mut line[..4 * stretch.len as usize];
-        fill_line(line, layer, image, stretch);
-        lay_line(part, line, layer, image, stretch);
+    match layer.walk {
+        Walk::Forward => {
+            let line = forward_line(layer, image, stretch);
+            lay_line(part, line, layer, image, stretch);
+        }
+        Walk::Backward => lay_filled(part, layer, spare, image, stretch),
+        Walk::Table => lay_gathered(part, layers, i, kept, spare, image, stretch),
     }
+}
+
+/// The same, where the source's pixels are gathered by a table.
+fn lay_gathered(
+    part: &mut [u8],
+    layers: &[BoundLayer],
+    i: usize,
+    kept: &mut Kept,
+    spare: &mut [u8; 4096],
+    image: &Image,
+    stretch: Stretch,
+)
+    requires count { length part.old ≡ 4 * stretch.len }
+    requires layer { i < length layers.now }
+    requires source { (layer_at layers.now i).source ≡ Some image.now }
+    requires stretch { IsStretch (layer_at layers.now i) stretch }
+    requires kept { AreKept layers.now kept.old }
+    ensures part { part.new
+        ≡ laid stretch.len (λ j. placed_texel (layer_at layers.now i) image.now (stretch.across + j) stretch.down) part.old }
+    ensures kept { AreKept layers.now kept.new }
+{
+    let layer = &layers[i];
+    if layer.crossed {
+        lay_columns(part, layers, i, kept, spare, image, stretch);
+    } else {
+        lay_rows(part, layers, i, kept, spare, image, stretch);
+    }
+}
+
+/// The same, where rows of the source are shown as rows: a row that was gathered serves further rows.
+fn lay_rows(
+    part: &mut [u8],
+    layers: &[BoundLayer],
+    i: usize,
+    kept: &mut Kept,
+    spare: &mut [u8; 4096],
+    image: &Image,
+    stretch: Stretch,
+)
+    requires count { length part.old ≡ 4 * stretch.len }
+    requires layer { i < length layers.now }
+    requires source { (layer_at layers.now i).source ≡ Some image.now }
+    requires stretch { IsStretch (layer_at layers.now i) stretch }
+    requires kept { AreKept layers.now kept.old }
+    ensures part { part.new
+        ≡ laid stretch.len (λ j. placed_texel (layer_at layers.now i) image.now (stretch.across + j) stretch.down) part.old }
+    ensures kept { AreKept layers.now kept.new }
+{
+    let layer = &layers[i];
+    let other = down(layer.turn, &layer.layer, stretch.down);
+    if !kept.line_of.has(i, stretch, other, 1) {
+        keep_line(kept, layers, i, image, stretch);
+    }
+    if !kept.line_of.has(i, stretch, other, 1) {
+        lay_filled(part, layer, spare, image, stretch);
+        return;
+    }
+    kept.line_of.row = stretch.y;
+    let at = 4 * (stretch.across - kept.line_of.across) as usize;
+    let line = &kept.line[at..at + 4 * stretch.len as usize];
+    lay_line(part, line, layer, image, stretch);
+}
+
+/// The same, where columns of the source are shown as rows: columns that were gathered side by side serve as many rows.
+fn lay_columns(
+    part: &mut [u8],
+    layers: &[BoundLayer],
+    i: usize,
+    kept: &mut Kept,
+    spare: &mut [u8; 4096],
+    image: &Image,
+    stretch: Stretch,
+)
+    requires count { length part.old ≡ 4 * stretch.len }
+    requires layer { i < length layers.now }
+    requires source { (layer_at layers.now i).source ≡ Some image.now }
+    requires crossed { is_crossed (layer_at layers.now i).turn (layer_at layers.now i).layer ≡ true }
+    requires stretch { IsStretch (layer_at layers.now i) stretch }
+    requires kept { AreKept layers.now kept.old }
+    ensures part { part.new
+        ≡ laid stretch.len (λ j. placed_texel (layer_at layers.now i) image.now (stretch.across + j) stretch.down) part.old }
+    ensures kept { AreKept layers.now kept.new }
+{
+    let layer = &layers[i];
+    let other = down(layer.turn, &layer.layer, stretch.down);
+    if !kept.block_of.has(i, stretch, other, COLUMNS) {
+        keep_block(kept, layers, i, image, stretch);
+    }
+    if !kept.block_of.has(i, stretch, other, COLUMNS) {
+        lay_filled(part, layer, spare, image, stretch);
+        return;
+    }
+    kept.block_of.row = stretch.y;
+    let at = 16 * (stretch.across - kept.block_of.across) as usize;
+    let place = (other - kept.block_of.other) as usize;
+    let block = &kept.block[at..at + 16 * stretch.len as usize];
+    lay_column(part, layer, block, place, spare, image, stretch);
+}
+
+/// The same, where the source's pixels are those at one place of each four.
+fn lay_column(
+    part: &mut [u8],
+    layer: &BoundLayer,
+    block: &[u8],
+    place: usize,
+    spare: &mut [u8; 4096],
+    image: &Image,
+    stretch: Stretch,
+)
+    requires count { length part.old ≡ 4 * stretch.len }
+    requires source { layer.now.source ≡ Some image.now }
+    requires stretch { IsStretch layer.now stretch }
+    requires place { place < 4 }
+    requires len { length block.now ≡ 16 * stretch.len }
+    requires block { (i : ℕ) → i < stretch.len
+        → read_at Rgba8Pre block.now (16 * i + 4 * place) ≡ source_colour layer.now image.now (stretch.across + i) stretch.down }
+    ensures { part.new ≡ laid stretch.len (λ i. placed_texel layer.now image.now (stretch.across + i) stretch.down) part.old }
+{
+    let line = &mut spare[..4 * stretch.len as usize];
+    gather_fourth(line, block, place);
+    lay_line(part, line, layer, image, stretch);
+}
+
+/// The same, where the source's pixels go through a line that is kept for nothing.
+fn lay_filled(
+    part: &mut [u8],
+    layer: &BoundLayer,
+    spare: &mut [u8; 4096],
+    image: &Image,
+    stretch: Stretch,
+)
+    requires count { length part.old ≡ 4 * stretch.len }
+    requires source { layer.now.source ≡ Some image.now }
+    requires stretch { IsStretch layer.now stretch }
+    ensures { part.new ≡ laid stretch.len (λ i. placed_texel layer.now image.now (stretch.across + i) stretch.down) part.old }
+{
+    let line = &mut spare[..4 * stretch.len as usize];
+    fill_line(line, layer, image, stretch);
+    lay_line(part, line, layer, image, stretch);
 }
 
 /// The same, by the source's pixels.

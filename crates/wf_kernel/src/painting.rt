@@ -4,10 +4,12 @@ ghost use Rattle.std.specs.Prelude.{◌≡◌, ◌+◌, ◌*◌, ◌/◌, ◌%�
 ghost use Rattle.wf_image.specs.Bitmap.{pixel_bytes, drawn_row, stored};
 ghost use Rattle.wf_model.specs.Picture.{picture, Fits};
 ghost use Rattle.wf_kernel.specs.Bound.{bound_colour, bound_picture, bound_row, bound_rows};
+ghost use Rattle.wf_kernel.specs.Kept.{AreKept};
 ghost use Rattle.wf_kernel.specs.Prepared.{AreTables};
 ghost use Rattle.wf_kernel.specs.Strips.{IsStrip};
 
 use crate::bound::{BoundLayer, bind_layers};
+use crate::keeping::{Kept, nothing_kept};
 use crate::laying::lay_row;
 use crate::strips::{Strip, no_strip, strip_for};
 use crate::tables::{fill_tables, needs_tables};
@@ -43,7 +45,9 @@ fn paint_scene(bytes: &mut [u8], scene: &Scene, contents: &Contents)
     }
 }
 
-/// The same with tables: a function of its own, since they take half of the stack.
+/// The same with tables. They stand on the stack, which a picture that needs none does without: so this is a function of its
+/// own when it runs, too.
+#[inline(never)]
 fn paint_by_tables(bytes: &mut [u8], scene: &Scene, contents: &Contents)
     requires count { length bytes.old ≡ scene.now.size.w * scene.now.size.h * 4 }
     requires fits { Fits scene.now contents.now }
@@ -81,12 +85,22 @@ pub(crate) fn paint(
 {
     let stride = 4 * width as usize;
     let mut strips = [no_strip(); 66];
-    let mut line = [0; 4096];
+    let mut kept = nothing_kept(width);
+    let mut spare = [0; 4096];
     for i in 0..bytes.len() / stride {
         let at = i * stride;
         let row = &mut bytes[at..at + stride];
         let y = first + i as u32;
-        paint_row(row, width, layers, background, &mut strips, &mut line, y);
+        paint_row(
+            row,
+            width,
+            layers,
+            background,
+            &mut strips,
+            &mut kept,
+            &mut spare,
+            y,
+        );
     }
 }
 
@@ -97,15 +111,18 @@ fn paint_row(
     layers: &[BoundLayer],
     background: Rgba,
     strips: &mut [Strip],
-    line: &mut [u8; 4096],
+    kept: &mut Kept,
+    spare: &mut [u8; 4096],
     y: u32,
 )
     requires few { width ≤ 1024 }
     requires y { y < 1024 }
     requires count { length row.old ≡ 4 * width }
     requires strips { All (IsStrip layers.now width) strips.old }
+    requires kept { AreKept layers.now kept.old }
     ensures row { row.new ≡ bound_row width layers.now background y }
     ensures strips { All (IsStrip layers.now width) strips.new }
+    ensures kept { AreKept layers.now kept.new }
 {
     let mut first = 0;
     let mut k = 0usize;
@@ -113,7 +130,7 @@ fn paint_row(
         let strip = strip_for(strips, k, layers, width, first, y);
         let at = 4 * first as usize;
         let piece = &mut row[at..at + 4 * strip.width as usize];
-        paint_strip(piece, width, layers, background, strip, line, y);
+        paint_strip(piece, width, layers, background, strip, kept, spare, y);
         first += strip.width;
         k += 1;
     }
@@ -126,7 +143,8 @@ fn paint_strip(
     layers: &[BoundLayer],
     background: Rgba,
     strip: Strip,
-    line: &mut [u8; 4096],
+    kept: &mut Kept,
+    spare: &mut [u8; 4096],
     y: u32,
 )
     requires few { width ≤ 1024 }
@@ -135,11 +153,13 @@ fn paint_strip(
     requires strip { IsStrip layers.now width strip }
     requires from { strip.from ≤ y }
     requires bottom { y < strip.bottom }
-    ensures { row.new ≡ drawn_row strip.width Format.Rgba8Pre (λ x. bound_colour layers.now background (strip.first + x) y) }
+    requires kept { AreKept layers.now kept.old }
+    ensures row { row.new ≡ drawn_row strip.width Format.Rgba8Pre (λ x. bound_colour layers.now background (strip.first + x) y) }
+    ensures kept { AreKept layers.now kept.new }
 {
-    let base = begin_strip(row, width, layers, background, strip, line, y);
+    let base = begin_strip(row, width, layers, background, strip, kept, spare, y);
     for i in base..strip.top {
-        lay_row(row, strip.first, strip.width, &layers[i], line, y);
+        lay_row(row, strip.first, strip.width, layers, i, kept, spare, y);
     }
 }
 
@@ -150,7 +170,8 @@ fn begin_strip(
     layers: &[BoundLayer],
     background: Rgba,
     strip: Strip,
-    line: &mut [u8; 4096],
+    kept: &mut Kept,
+    spare: &mut [u8; 4096],
     y: u32,
 ) -> usize
     requires few { width ≤ 1024 }
@@ -159,13 +180,15 @@ fn begin_strip(
     requires strip { IsStrip layers.now width strip }
     requires from { strip.from ≤ y }
     requires bottom { y < strip.bottom }
+    requires kept { AreKept layers.now kept.old }
     ensures colours { row.new ≡ drawn_row strip.width Format.Rgba8Pre (λ x.
         bound_colour (take result layers.now) background (strip.first + x) y) }
     ensures within { result ≤ strip.top }
+    ensures kept { AreKept layers.now kept.new }
 {
     match strip.base {
         Some(base) => {
-            lay_row(row, strip.first, strip.width, &layers[base], line, y);
+            lay_row(row, strip.first, strip.width, layers, base, kept, spare, y);
             base + 1
         }
         None => {

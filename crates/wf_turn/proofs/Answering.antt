@@ -1,29 +1,16 @@
 -- The answer of the machine and that of the plain machine come to the same, once the Job is painted.
-use Rattle.std.proofs.Common.{◌≡◌, ◌∙◌, ℕ, ◌+◌, Bool, true, false, List, Option, Some, None, refl, ap}
-use Rattle.wf_image.specs.declared.canvas.Canvas.{Canvas}
-use Rattle.wf_image.specs.Bitmap.{Bitmap}
-use Rattle.wf_pixel.specs.declared.Format.{Format}
-use Rattle.wf_scene.specs.declared.Scene.{Scene}
-use Rattle.wf_calls.specs.declared.call.Job.{Job}
-use Rattle.wf_calls.specs.declared.call.JobKind.{JobKind}
+use Rattle.wf_turn.proofs.Common.{◌≡◌, ◌∙◌, ℕ, ◌+◌, Bool, true, false, List, Option, Some, None, refl, ap, Canvas, Bitmap, Format, Scene}
+use Rattle.wf_turn.proofs.Common.{Job, JobKind, Payload, Reply, is_ok_code, Frame, SamePayload, Images, Line, Verb, Leg, Stage, Program}
+use Rattle.wf_turn.proofs.Common.{first_line, given_canvas, handed, kept_first, painted_job, line_done, ticking, took, took_at, took_canvas}
+use Rattle.wf_turn.proofs.Common.{took_first, took_frame, took_job, took_leg, worked, frames_of, shown}
 use Rattle.wf_calls.specs.declared.call.JobKind.TheVariants as kind
-use Rattle.wf_calls.specs.declared.reply.Payload.{Payload}
 use Rattle.wf_calls.specs.declared.reply.Payload.TheVariants as payload
-use Rattle.wf_calls.specs.declared.reply.Reply.{Reply}
-use Rattle.wf_calls.specs.Codes.{is_ok_code}
-use Rattle.wf_film.specs.Film.{Frame}
-use Rattle.wf_machine.specs.Object.{SameImage, SameJob, SamePayload}
-use Rattle.wf_model.specs.Picture.{Images, picture}
-use Rattle.wf_script.specs.declared.line.Line.{Line}
-use Rattle.wf_script.specs.declared.line.Verb.{Verb}
+use Rattle.wf_machine.specs.Object.{SameImage, SameJob}
+use Rattle.wf_model.specs.Picture.{picture}
 use Rattle.wf_script.specs.declared.line.Verb.TheVariants as verb
-use Rattle.wf_turn.specs.declared.stage.Leg.{Leg}
 use Rattle.wf_turn.specs.declared.stage.Leg.TheVariants as leg
-use Rattle.wf_turn.specs.declared.stage.Stage.{Stage}
 use Rattle.wf_turn.specs.declared.stage.Stage.TheVariants as stage
-use Rattle.wf_turn.specs.Program.{Program, first_line, given_canvas, handed, kept_canvas, kept_first, kept_job, painted_job, line_done}
-use Rattle.wf_turn.specs.Program.{ticking, took, took_at, took_canvas, took_first, took_frame, took_job, took_leg, worked}
-use Rattle.wf_turn.specs.Turns.{frames_of, shown}
+use Rattle.wf_turn.specs.Program.{kept_canvas, kept_job}
 
 -- what a call carried out is no longer asked for
 pub took_handed : (p : Program) (reply : Reply) → took (handed p) reply ≡ took p reply
@@ -51,15 +38,15 @@ same_work : (is_new : Bool) (wanted job : Job) → SameJob is_new wanted job →
 same_work is_new wanted job same =
     let of : ℕ → JobKind → Scene → Images → Format → Job =
     λ n k s c f. record { number = n; kind = k; scene = s; contents = c; image = picture s c f } in
-    ap (λ (n : ℕ). of n job.kind job.scene job.contents job.image.format) same.number
-    ∙ ap (λ (k : JobKind). of wanted.number k job.scene job.contents job.image.format) same.kind
-    ∙ ap (λ (s : Scene). of wanted.number wanted.kind s job.contents job.image.format) same.scene
-    ∙ ap (λ (c : Images). of wanted.number wanted.kind wanted.scene c job.image.format) same.contents
-    ∙ ap (λ (f : Format). of wanted.number wanted.kind wanted.scene wanted.contents f) (format is_new wanted.kind same.image)
+    ap (λ n. of n job.kind job.scene job.contents job.image.format) same.number
+    ∙ ap (λ k. of wanted.number k job.scene job.contents job.image.format) same.kind
+    ∙ ap (λ s. of wanted.number wanted.kind s job.contents job.image.format) same.scene
+    ∙ ap (λ c. of wanted.number wanted.kind wanted.scene c job.image.format) same.contents
+    ∙ ap (λ f. of wanted.number wanted.kind wanted.scene wanted.contents f) (format is_new wanted.kind same.image)
   where
     format : (b : Bool) (k : JobKind) → SameImage b k wanted.image job.image → job.image.format ≡ wanted.image.format
     format true (kind.Port port) image = image.1
-    format _ k image = ap (λ (i : Bitmap). i.format) image
+    format _ k image = ap (λ i. i.format) image
 
 -- what a reply is to a program: its value, and its payload up to the image of a Job
 pub record IsSame (given wanted : Reply) : Type 0 where
@@ -82,22 +69,22 @@ same_job : (p : Program) (is_new : Bool) (given wanted : Payload) (l : Leg) → 
 same_job p is_new (payload.Job job) (payload.Job wanted) l same =
     let of : JobKind → Job → Program
     × List Frame = λ k j. (record p { job = Some j; unpainted = false; stage = stage.Ending l }, shown k p.tick j) in
-    ap (λ (k : JobKind). of k (painted_job job)) same.kind ∙ ap (of wanted.kind) (same_work is_new wanted job same)
+    ap (λ k. of k (painted_job job)) same.kind ∙ ap (of wanted.kind) (same_work is_new wanted job same)
 same_job p is_new payload.Nothing (payload.Job wanted) l same = absurd cc
 same_job p is_new (payload.Canvas canvas) (payload.Job wanted) l same = absurd cc
-same_job p is_new given payload.Nothing l same = ap (λ (x : Payload). outcome (took_job p x l)) same
-same_job p is_new given (payload.Canvas canvas) l same = ap (λ (x : Payload). outcome (took_job p x l)) same
+same_job p is_new given payload.Nothing l same = ap (λ x. outcome (took_job p x l)) same
+same_job p is_new given (payload.Canvas canvas) l same = ap (λ x. outcome (took_job p x l)) same
 
 module _ (p : Program) (given wanted : Reply) (same : IsSame given wanted) where
   canvas_is : given_canvas given.payload ≡ given_canvas wanted.payload
   canvas_is = same_canvas (is_ok_code given.code) given.payload wanted.payload same.payload
 
   with_canvas : outcome (took_canvas p given.payload) ≡ outcome (took_canvas p wanted.payload)
-  with_canvas = ap (λ (c : Option Canvas). outcome (line_done (record p { canvas = c }) 0)) canvas_is
+  with_canvas = ap (λ c. outcome (line_done (record p { canvas = c }) 0)) canvas_is
 
   same_leg : (l : Leg) → outcome (took_leg p given l) ≡ outcome (took_leg p wanted l)
   same_leg (leg.Contexts asked last) =
-      ap (λ (v : ℕ). outcome (took_job p given.payload (leg.Contexts (asked + 1) v))) same.value
+      ap (λ v. outcome (took_job p given.payload (leg.Contexts (asked + 1) v))) same.value
       ∙ same_job p (is_ok_code given.code) given.payload wanted.payload (leg.Contexts (asked + 1) wanted.value) same.payload
   same_leg (leg.Ports port) = same_job p (is_ok_code given.code) given.payload wanted.payload (leg.Ports (port + 1)) same.payload
 
@@ -106,11 +93,11 @@ module _ (p : Program) (given wanted : Reply) (same : IsSame given wanted) where
   same_verb l (verb.Acquire s) = with_canvas
   same_verb l verb.Post = with_canvas
   same_verb l verb.Discard = with_canvas
-  same_verb l (verb.Frame s paint) = ap (λ (c : Option Canvas). outcome (took_frame p paint c)) canvas_is
+  same_verb l (verb.Frame s paint) = ap (λ c. outcome (took_frame p paint c)) canvas_is
   same_verb l verb.Tick =
-      ap (λ (v : ℕ). outcome (took_job (ticking p) given.payload (leg.Contexts 1 v))) same.value
+      ap (λ v. outcome (took_job (ticking p) given.payload (leg.Contexts 1 v))) same.value
       ∙ same_job (ticking p) (is_ok_code given.code) given.payload wanted.payload (leg.Contexts 1 wanted.value) same.payload
-  same_verb l _ = ap (λ (n : ℕ). outcome (line_done p n)) same.value
+  same_verb l _ = ap (λ n. outcome (line_done p n)) same.value
 
   same_at : (l : Line) (s : Stage) → outcome (took_at p l given s) ≡ outcome (took_at p l wanted s)
   same_at l stage.Fresh = same_verb l l.verb

@@ -1,27 +1,15 @@
 -- A turn and the running frame: a frame that begins is held by the program that began it, to be ended next.
-use Rattle.std.proofs.Common.{◌≡◌, ◌∙◌, ℕ, Bool, true, false, [], Option, Some, None, refl, sym, ap, subst}
-use Rattle.std.specs.Option.{IfSome}
-use Rattle.wf_calls.specs.declared.call.Call.{Call}
+use Rattle.wf_turn.proofs.Common.{◌≡◌, ◌∙◌, ℕ, Bool, true, false, [], Option, Some, None, refl, sym, ap, subst, IfSome, Call, Job, Reply}
+use Rattle.wf_turn.proofs.Common.{Running, State, act, step, Line, Leg, Stage, Wanted, Ends, Program, first_line, given_canvas, go_on}
+use Rattle.wf_turn.proofs.Common.{line_done, next, plain, took, took_canvas, took_frame, took_job, worked, asked_for, waiting, frames_of}
+use Rattle.wf_turn.proofs.Common.{moves_frame, effect, is_begin, by_begin}
 use Rattle.wf_calls.specs.declared.call.Call.TheVariants as call
-use Rattle.wf_calls.specs.declared.call.Job.{Job}
-use Rattle.wf_calls.specs.declared.reply.Reply.{Reply}
-use Rattle.wf_model.specs.State.{Running, State}
-use Rattle.wf_model.specs.Step.{act, step}
-use Rattle.wf_script.specs.declared.line.Line.{Line}
-use Rattle.wf_turn.specs.declared.stage.Leg.{Leg}
-use Rattle.wf_turn.specs.declared.stage.Stage.{Stage}
 use Rattle.wf_turn.specs.declared.stage.Stage.TheVariants as stage
-use Rattle.wf_turn.specs.declared.stage.Wanted.{Wanted}
-use Rattle.wf_turn.specs.Playing.{Ends, EndsAt}
-use Rattle.wf_turn.specs.Program.{Program, first_line, given_canvas, go_on, line_done, next, plain, took, took_canvas, took_frame, took_job}
-use Rattle.wf_turn.specs.Program.{worked, asked_for, waiting}
-use Rattle.wf_turn.specs.Turns.{frames_of}
+use Rattle.wf_turn.specs.Playing.{EndsAt}
 use Rattle.wf_turn.proofs.Cases.{turn_case, asks_begin}
 use Rattle.wf_turn.proofs.Own.{own_job}
 use Rattle.wf_turn.proofs.Painting.{canvas_painted, frame_painted, done_painted, on_painted}
-use Rattle.wf_model.specs.Effects.{moves_frame, frame_stays, effect}
-use Rattle.wf_calls.specs.Parts.{is_begin}
-use Rattle.wf_model.specs.Beginnings.{by_begin}
+use Rattle.wf_model.specs.Effects.{frame_stays}
 
 -- what is known of a program and of the running frame after a turn: the program holds the frame's Job, and its lines are
 -- the same; without a running frame it shows nothing
@@ -95,8 +83,8 @@ module _ (p : Program) (h : State) (client : ℕ) (m : Bool) (w : Wanted) (f : R
       let wanted : Some (plain (call.End j)) ≡ Some w = rw (is, at, job) at asks in
       let is_end : plain (call.End j) ≡ w = cc in
       record {
-        plain_is = ap (λ (y : Wanted). y.wait) (sym is_end);
-        free = subst (λ (y : Wanted). (step h client y.call m).0.frame ≡ None) is_end (rw (runs, own) refl);
+        plain_is = ap (λ y. y.wait) (sym is_end);
+        free = subst (λ y. (step h client y.call m).0.frame ≡ None) is_end (rw (runs, own) refl);
         shows =
             let q : Program = go_on (record p { job = None; unpainted = false }) leg in
             let goes : took p (step h client w.call m).1 ≡ q = rw (is, at) refl in

@@ -1,27 +1,12 @@
 -- The next call of a program, and what takes its answer: what is true of each kind of them is true of a turn.
-use Rattle.std.proofs.Common.{◌≡◌, ℕ, ◌+◌, Bool, true, false, cond, Option, Some, None, refl, subst}
-use Rattle.std.specs.Prelude.{pos}
-use Rattle.std.specs.Option.{IfSome, is_some, option_map}
-use Rattle.wf_image.specs.declared.canvas.Canvas.{Canvas}
-use Rattle.wf_image.specs.declared.paint.Paint.{Paint}
-use Rattle.wf_calls.specs.declared.call.Call.{Call}
+use Rattle.wf_turn.proofs.Common.{◌≡◌, ℕ, ◌+◌, Bool, true, false, cond, Option, Some, None, refl, subst, pos, IfSome, is_some, option_map}
+use Rattle.wf_turn.proofs.Common.{Canvas, Paint, Call, Job, Reply, Line, Verb, Leg, Stage, Wanted, plain_call, Name, is_begin, moves_frame}
+use Rattle.wf_turn.proofs.Common.{Program, asked_for, first_call, first_line, given_canvas, go_on, handle, line_done, next, plain, took}
+use Rattle.wf_turn.proofs.Common.{took_at, took_canvas, took_first, took_frame, took_job, waiting, wanted_at}
 use Rattle.wf_calls.specs.declared.call.Call.TheVariants as call
-use Rattle.wf_calls.specs.declared.call.Job.{Job}
-use Rattle.wf_calls.specs.declared.reply.Reply.{Reply}
-use Rattle.wf_script.specs.declared.line.Line.{Line}
-use Rattle.wf_script.specs.declared.line.Verb.{Verb}
 use Rattle.wf_script.specs.declared.line.Verb.TheVariants as verb
-use Rattle.wf_turn.specs.declared.stage.Leg.{Leg}
 use Rattle.wf_turn.specs.declared.stage.Leg.TheVariants as leg
-use Rattle.wf_turn.specs.declared.stage.Stage.{Stage}
 use Rattle.wf_turn.specs.declared.stage.Stage.TheVariants as stage
-use Rattle.wf_turn.specs.declared.stage.Wanted.{Wanted}
-use Rattle.wf_turn.specs.Calls.{plain_call}
-use Rattle.wf_script.specs.declared.name.Name.{Name}
-use Rattle.wf_calls.specs.Parts.{is_begin}
-use Rattle.wf_model.specs.Effects.{moves_frame}
-use Rattle.wf_turn.specs.Program.{Program, asked_for, first_call, first_line, given_canvas, go_on, handle, line_done, next, plain, took}
-use Rattle.wf_turn.specs.Program.{took_at, took_canvas, took_first, took_frame, took_job, waiting, wanted_at}
 
 -- a line that is one call, and waits for nothing, neither begins nor ends a frame
 plain_calls : (handle : Option Name → ℕ) (v : Verb) → IfSome (plain_call handle v) (λ c. moves_frame c ≡ false)
@@ -57,23 +42,23 @@ module _ (p : Program) (T : Wanted → (Reply → Program) → Type 0) where
         → T (plain (call.End job)) (λ reply. go_on (record p { job = None; unpainted = false }) l)
 
   of_waiting : (w : Wanted) (c : Call) (now : Reply → Program) → Some (waiting c) ≡ Some w → T (waiting c) now → T w now
-  of_waiting w c now asks holds = (let is : waiting c ≡ w = cc in subst (λ (x : Wanted). T x now) is holds)
+  of_waiting w c now asks holds = (let is : waiting c ≡ w = cc in subst (λ x. T x now) is holds)
 
   of_test : (w : Wanted) (b : Bool) (c : Call) (now : Reply → Program) → cond b None (Some (plain c)) ≡ Some w → T (plain c) now → T w now
   of_test w true c now asks holds = absurd cc
-  of_test w false c now asks holds = (let is : plain c ≡ w = cc in subst (λ (x : Wanted). T x now) is holds)
+  of_test w false c now asks holds = (let is : plain c ≡ w = cc in subst (λ x. T x now) is holds)
 
   of_held : {A : Type 0} (w : Wanted) (o : Option A) (call_of : A → Call) (now : Reply → Program)
       → option_map (λ x. plain (call_of x)) o ≡ Some w → ((x : A) → o ≡ Some x → T (plain (call_of x)) now) → T w now
   of_held w None call_of now asks holds = absurd cc
-  of_held w (Some x) call_of now asks holds = (let is : plain (call_of x) ≡ w = cc in subst (λ (y : Wanted). T y now) is (holds x refl))
+  of_held w (Some x) call_of now asks holds = (let is : plain (call_of x) ≡ w = cc in subst (λ y. T y now) is (holds x refl))
 
   of_plain : (w : Wanted) → Cases → (o : Option Call) → option_map plain o ≡ Some w → IfSome o (λ c. moves_frame c ≡ false)
       → T w (λ reply. line_done p reply.value)
   of_plain w cases None asks still = absurd cc
   of_plain w cases (Some c) asks still =
       let is : plain c ≡ w = cc in
-      subst (λ (x : Wanted). T x (λ reply. line_done p reply.value)) is (cases.value c still)
+      subst (λ x. T x (λ reply. line_done p reply.value)) is (cases.value c still)
 
   canvas_goes : (w : Wanted) → Cases → (call_of : Canvas → Call) → ((c : Canvas) → moves_frame (call_of c) ≡ false)
       → option_map (λ c. plain (call_of c)) p.canvas ≡ Some w → T w (λ reply. took_canvas p reply.payload)

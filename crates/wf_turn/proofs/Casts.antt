@@ -1,17 +1,9 @@
 -- The eight programs of a show: one of them changed, and names handed on.
-use Rattle.std.proofs.Common.{◌≡◌, ◌∙◌, ℕ, zero, suc, ◌+◌, ◌-◌, Bool, true, false, not, cond, ◌&&◌, List, [], ◌∷◌, map, Option, Some, None}
-use Rattle.std.proofs.Common.{refl, sym, ap, subst, arith, set, get_or}
-use Rattle.std.specs.Prelude.{slice_get, sum_by}
-use Rattle.std.specs.Option.{IfSome}
-use Rattle.std.proofs.lemmas.List.Sums.{sum_by-cons}
-use Rattle.wf_script.specs.Script.{PlainScript}
-use Rattle.wf_turn.specs.Playing.{frames_if, shown_by}
-use Rattle.wf_turn.specs.Program.{Program, in_setup, taught}
-use Rattle.wf_turn.specs.Quota.{all_left, left}
-use Rattle.wf_turn.specs.Ready.{AreOf, IsFit}
-use Rattle.wf_turn.specs.Turns.{all_taught, handed_on, is_setting_up}
+use Rattle.wf_turn.proofs.Common.{◌≡◌, ◌∙◌, ℕ, zero, suc, ◌+◌, ◌-◌, Bool, true, false, not, cond, ◌&&◌, List, [], ◌∷◌, map, Option, Some}
+use Rattle.wf_turn.proofs.Common.{None, refl, sym, ap, subst, arith, set, get_or, slice_get, sum_by, IfSome, sum_by-cons, PlainScript}
+use Rattle.wf_turn.proofs.Common.{frames_if, shown_by, Program, in_setup, taught, all_left, left, AreOf, IsFit, all_taught, handed_on}
+use Rattle.wf_turn.proofs.Common.{is_setting_up, get_map}
 use Rattle.wf_turn.proofs.Fitting.{fit_taught}
-use Rattle.wf_words.specs.Places.{get_map}
 
 -- what is known of the program of a client
 pub record IsOf (script : PlainScript) (client : ℕ) (p : Program) : Type 0 where
@@ -27,14 +19,14 @@ at_client script k (q ∷ ps) zero p are found =
     subst (IsOf script (k + 0)) same (record { script_is = are.0; client_is = are.1 ∙ omega arith; fit = are.2 })
 at_client script k (q ∷ ps) (suc i) p are found =
     let at : k + 1 + i ≡ k + suc i = omega arith in
-    subst (λ (n : ℕ). IsOf script n p) at (at_client script (k + 1) ps i p are.3 found)
+    subst (λ n. IsOf script n p) at (at_client script (k + 1) ps i p are.3 found)
 
 pub are_set : (script : PlainScript) (k : ℕ) (ps : List Program) (i : ℕ) (p q : Program) → AreOf script k ps → slice_get ps i ≡ Some p
     → q.script ≡ p.script → q.client ≡ p.client → IsFit q → AreOf script k (set ps i q)
 are_set script k [] i p q are found script_is client_is fit = tt
 are_set script k (r ∷ ps) zero p q are found script_is client_is fit =
     let same : p ≡ r = cc in
-    (script_is ∙ ap (λ (x : Program). x.script) same ∙ are.0, client_is ∙ ap (λ (x : Program). x.client) same ∙ are.1, fit, are.3)
+    (script_is ∙ ap (λ x. x.script) same ∙ are.0, client_is ∙ ap (λ x. x.client) same ∙ are.1, fit, are.3)
 are_set script k (r ∷ ps) (suc i) p q are found script_is client_is fit =
     (are.0, are.1, are.2, are_set script (k + 1) ps i p q are.3 found script_is client_is fit)
 
@@ -56,25 +48,25 @@ are_handed script before now are =
 module _ {A : Type 0} (f : Program → A) (same : (clock p : Program) → f (taught clock p) ≡ f p) where
   mapped_same : (clock : Program) (ps : List Program) → map f (map (taught clock) ps) ≡ map f ps
   mapped_same clock [] = refl
-  mapped_same clock (p ∷ ps) = ap (λ (x : A). x ∷ map f (map (taught clock) ps)) (same clock p)
-      ∙ ap (λ (xs : List A). f p ∷ xs) (mapped_same clock ps)
+  mapped_same clock (p ∷ ps) = ap (λ x. x ∷ map f (map (taught clock) ps)) (same clock p)
+      ∙ ap (λ xs. f p ∷ xs) (mapped_same clock ps)
 
   taught_same : (ps : List Program) → map f (all_taught ps) ≡ map f ps
   taught_same [] = refl
-  taught_same (clock ∷ others) = ap (λ (xs : List A). f clock ∷ xs) (mapped_same clock others)
+  taught_same (clock ∷ others) = ap (λ xs. f clock ∷ xs) (mapped_same clock others)
 
   pub handed_same : (before now : List Program) → map f (handed_on before now) ≡ map f now
   handed_same before now =
       elim (is_setting_up before && not (is_setting_up now))
       as (λ b. map f (cond b (all_taught now) now) ≡ map f now) [ true ↦ taught_same now | false ↦ refl ]
 
-sum_map : (ps : List Program) → all_left ps ≡ sum_by (λ (n : ℕ). n) (map left ps)
+sum_map : (ps : List Program) → all_left ps ≡ sum_by (λ n. n) (map left ps)
 sum_map [] = refl
-sum_map (p ∷ ps) = sum_by-cons left p ps ∙ ap (λ (n : ℕ). left p + n) (sum_map ps) ∙ sym (sum_by-cons (λ (n : ℕ). n) (left p) (map left ps))
+sum_map (p ∷ ps) = sum_by-cons left p ps ∙ ap (λ n. left p + n) (sum_map ps) ∙ sym (sum_by-cons (λ n. n) (left p) (map left ps))
 
 pub left_handed : (before now : List Program) → all_left (handed_on before now) ≡ all_left now
 left_handed before now = sum_map (handed_on before now)
-    ∙ ap (λ (ns : List ℕ). sum_by (λ (n : ℕ). n) ns) (handed_same left (λ clock p. refl) before now) ∙ sym (sum_map now)
+    ∙ ap (λ ns. sum_by (λ n. n) ns) (handed_same left (λ clock p. refl) before now) ∙ sym (sum_map now)
 
 pub left_set : (ps : List Program) (i : ℕ) (p q : Program) → slice_get ps i ≡ Some p → all_left (set ps i q) + left p ≡ all_left ps + left q
 left_set [] i p q found = absurd cc
@@ -135,7 +127,7 @@ other_is clock others zero d apart is o found = absurd (apart refl)
 other_is clock others (suc k) d apart is None found = tt
 other_is clock others (suc k) d apart is (Some p) found =
     let at : suc k - 1 ≡ k = omega arith in
-    sym (is ∙ ap (λ (n : ℕ). get_or others n d) at ∙ there others k found)
+    sym (is ∙ ap (λ n. get_or others n d) at ∙ there others k found)
   where
     there : (ps : List Program) (i : ℕ) → slice_get ps i ≡ Some p → get_or ps i d ≡ p
     there [] i some = absurd cc
@@ -145,4 +137,4 @@ other_is clock others (suc k) d apart is (Some p) found =
 pub other_set : (clock : Program) (others : List Program) (client : ℕ) (q : Program) → (client ≡ 0 → ⊥)
     → clock ∷ set others (client - 1) q ≡ set (clock ∷ others) client q
 other_set clock others zero q apart = absurd (apart refl)
-other_set clock others (suc k) q apart = (let at : suc k - 1 ≡ k = omega arith in ap (λ (n : ℕ). clock ∷ set others n q) at)
+other_set clock others (suc k) q apart = (let at : suc k - 1 ≡ k = omega arith in ap (λ n. clock ∷ set others n q) at)

@@ -1,19 +1,12 @@
 -- The client of the first line that is not through.
-use Rattle.std.proofs.Common.{◌≡◌, ◌∙◌, ℕ, zero, suc, ◌+◌, ◌<◌, ◌≤◌, ◌==◌, Bool, true, false, not, cond, ◌&&◌, ◌⊎◌, inl, inr, List, [], ◌∷◌}
-use Rattle.std.proofs.Common.{map, length, take, get_or, Option, Some, None, refl, sym, ap, subst, arith, add-one}
-use Rattle.std.specs.Prelude.{slice_get, nat_lt, fold}
-use Rattle.std.specs.List.{enumerate_from, list_all}
-use Rattle.std.specs.Option.{IfSome, IsSomeAnd, is_none}
-use Rattle.std.proofs.lemmas.Bool.{ltb-true}
-use Rattle.std.proofs.lemmas.List.{length-map}
+use Rattle.wf_turn.proofs.Common.{◌≡◌, ◌∙◌, ℕ, zero, suc, ◌+◌, ◌<◌, ◌≤◌, ◌==◌, Bool, true, false, not, cond, ◌&&◌, ◌⊎◌, inl, inr, List, []}
+use Rattle.wf_turn.proofs.Common.{◌∷◌, map, length, take, get_or, Option, Some, None, refl, sym, ap, subst, arith, slice_get, nat_lt}
+use Rattle.wf_turn.proofs.Common.{enumerate_from, list_all, IfSome, IsSomeAnd, ltb-true, length-map, nat_tests, Line, earlier, first_client}
+use Rattle.wf_turn.proofs.Common.{PlainScript, IsCast, StandsOwn, may_turn, Program, place_of, setup_lines, Show}
+use Rattle.std.proofs.Common.{add-one}
+use Rattle.std.specs.Prelude.{fold}
+use Rattle.std.specs.Option.{is_none}
 use Rattle.std.proofs.lemmas.Option.{slice_get_within}
-use Rattle.std.proofs.lemmas.Bool.Decides.{nat_tests}
-use Rattle.wf_script.specs.declared.line.Line.{Line}
-use Rattle.wf_turn.specs.Play.{earlier, first_client}
-use Rattle.wf_script.specs.Script.{PlainScript}
-use Rattle.wf_turn.specs.Playing.{IsCast, StandsOwn, may_turn}
-use Rattle.wf_turn.specs.Program.{Program, place_of, setup_lines}
-use Rattle.wf_turn.specs.Turns.{Show}
 use Rattle.wf_turn.proofs.Casts.{at_client}
 use Rattle.wf_words.specs.Places.{get_within}
 
@@ -50,7 +43,7 @@ found_at best a (Some k ∷ places) c is =
     here : Some (a, k) ≡ Some c → IsAt best a (Some k ∷ places) c
     here same =
         let is_c : (a, k) ≡ c = cc in
-        record { index = 0; client = sym (ap (λ (x : ℕ × ℕ). x.0) is_c) ∙ omega arith; at = ap (λ (x : ℕ × ℕ). Some (Some x.1)) is_c }
+        record { index = 0; client = sym (ap (λ x. x.0) is_c) ∙ omega arith; at = ap (λ x. Some (Some x.1)) is_c }
 
     this : (b : Best) → earlier b (a, Some k) ≡ Some c → (b ≡ Some c) ⊎ IsAt best a (Some k ∷ places) c
     this None same = inr (here same)
@@ -64,7 +57,7 @@ first_place places c is =
     elim (found_at None 0 places c is) [
       | inl none ↦ absurd cc
       | inr there ↦ (let same : there.index ≡ c.0 = omega (arith, there.client) in
-          subst (λ (i : ℕ). slice_get places i ≡ Some (Some c.1)) same there.at)
+          subst (λ i. slice_get places i ≡ Some (Some c.1)) same there.at)
     ]
 
 -- a client that was found is found still
@@ -87,11 +80,11 @@ all_through programs none = as_map programs ∙ none_left 0 (map place_of progra
   where
     as_map : (ps : List Program) → list_all (λ p. is_none (place_of p)) ps ≡ list_all is_none (map place_of ps)
     as_map [] = refl
-    as_map (p ∷ ps) = ap (λ (b : Bool). is_none (place_of p) && b) (as_map ps)
+    as_map (p ∷ ps) = ap (λ b. is_none (place_of p) && b) (as_map ps)
 
 -- no place that was found is behind an earlier one
 least : (a : ℕ) (places : List (Option ℕ)) (b c : ℕ × ℕ) → first_from (Some b) a places ≡ Some c → c.1 ≤ b.1
-least a [] b c is = (let same : b ≡ c = cc in omega (arith, ap (λ (x : ℕ × ℕ). x.1) same))
+least a [] b c is = (let same : b ≡ c = cc in omega (arith, ap (λ x. x.1) same))
 least a (None ∷ places) b c is = least (a + 1) places b c is
 least a (Some k ∷ places) b c is =
     elim (nat_lt k b.1) as (λ x. nat_lt k b.1 ≡ x → first_from (cond x (Some (a, k)) (Some b)) (a + 1) places ≡ Some c → c.1 ≤ b.1) [
@@ -107,11 +100,11 @@ first_more best a places i d within = rw add-one (by_place best a places i withi
     by_place : (best : Best) (a : ℕ) (places : List (Option ℕ)) (i : ℕ) → i < length places
         → first_from best a (take (suc i) places) ≡ earlier (first_from best a (take i places)) (a + i, get_or places i d)
     by_place best a [] i within = absurd (omega (arith, within))
-    by_place best a (o ∷ places) zero within = ap (λ (n : ℕ). earlier best (n, o)) (omega arith)
+    by_place best a (o ∷ places) zero within = ap (λ n. earlier best (n, o)) (omega arith)
     by_place best a (o ∷ places) (suc i) within =
         let at : a + 1 + i ≡ a + suc i = omega arith in
         by_place (earlier best (a, o)) (a + 1) places i (omega (arith, within))
-        ∙ ap (λ (n : ℕ). earlier (first_from (earlier best (a, o)) (a + 1) (take i places)) (n, get_or places i d)) at
+        ∙ ap (λ n. earlier (first_from (earlier best (a, o)) (a + 1) (take i places)) (n, get_or places i d)) at
 
 -- a place holds a line of a client
 abbrev pub IsLineOf : List Line → ℕ → ℕ → Type 0
@@ -149,12 +142,12 @@ first_may lines clock others c script is own = of_place (place_of clock) refl
     of_setup : (k : ℕ) → place_of clock ≡ Some k → (b : Bool) → nat_lt k (setup_lines clock.script.lines) ≡ b → May
     of_setup k at false past = rw (at, past) (allowed (not (c.0 == 0)))
     of_setup k at true inside =
-        let below : k < setup_lines lines = subst (λ (ls : List Line). k < setup_lines ls) script
+        let below : k < setup_lines lines = subst (λ ls. k < setup_lines ls) script
         (ltb-true k (setup_lines clock.script.lines) inside) in
         let within : c.1 ≤ k = least 1 (map place_of others) (0, k) c
-        (ap (λ (o : Option ℕ). first_from (earlier None (0, o)) 1 (map place_of others)) (sym at) ∙ is) in
+        (ap (λ o. first_from (earlier None (0, o)) 1 (map place_of others)) (sym at) ∙ is) in
         let zeroth : c.0 ≡ 0 = setup_clock lines c.1 c.0 (omega (arith, below, within)) own in
-        ap (λ (n : ℕ). may_turn (clock ∷ others) n) zeroth
+        ap (λ n. may_turn (clock ∷ others) n) zeroth
 
     of_place : (o : Option ℕ) → place_of clock ≡ o → May
     of_place None none = rw none (allowed (not (c.0 == 0)))
@@ -173,7 +166,7 @@ all_passed clock ps i best end is = is ∙ ap (first_from (clock_first clock) 1)
     take_all [] zero end = refl
     take_all [] (suc i) end = refl
     take_all (x ∷ xs) zero end = absurd (omega (arith, end))
-    take_all (x ∷ xs) (suc i) end = ap (λ (ys : List _). x ∷ ys) (take_all xs i (omega (arith, end)))
+    take_all (x ∷ xs) (suc i) end = ap (λ ys. x ∷ ys) (take_all xs i (omega (arith, end)))
 
 pub one_passed : (clock : Program) (ps : List Program) (i : ℕ) (best : Best) (p : Program) (place : Option ℕ) → i < length ps
     → p ≡ get_or ps i p → place ≡ place_of p → best ≡ first_from (clock_first clock) 1 (take i (map place_of ps))
@@ -182,9 +175,9 @@ one_passed clock ps i best p place within item is so_far =
     let at : get_or (map place_of ps) i (place_of p) ≡ place = get_mapped ps i within ∙ ap place_of (sym item) ∙ sym is in
     let next : i + 1 ≡ 1 + i = omega arith in
     let front : Best = first_from (clock_first clock) 1 (take i (map place_of ps)) in
-    ap (λ (b : Best). earlier b (i + 1, place)) so_far
-    ∙ ap (λ (o : Option ℕ). earlier front (i + 1, o)) (sym at)
-    ∙ ap (λ (n : ℕ). earlier front (n, get_or (map place_of ps) i (place_of p))) next
+    ap (λ b. earlier b (i + 1, place)) so_far
+    ∙ ap (λ o. earlier front (i + 1, o)) (sym at)
+    ∙ ap (λ n. earlier front (n, get_or (map place_of ps) i (place_of p))) next
     ∙ sym (first_more (clock_first clock) 1 (map place_of ps) i (place_of p) (omega (arith, within, length-map ps place_of)))
   where
     get_mapped : (qs : List Program) (j : ℕ) → j < length qs → get_or (map place_of qs) j (place_of p) ≡ place_of (get_or qs j p)
@@ -221,7 +214,7 @@ pub own_passed : (clock : Program) (ps : List Program) (i : ℕ) (best : Best) (
     → IfSome best (StandsOwn (clock ∷ ps)) → IfSome (earlier best (i + 1, place)) (StandsOwn (clock ∷ ps))
 own_passed clock ps i best p place within item own so_far =
     let next : suc i ≡ i + 1 = omega arith in
-    subst (λ (n : ℕ). IfSome (earlier best (n, place)) (StandsOwn (clock ∷ ps))) next
+    subst (λ n. IfSome (earlier best (n, place)) (StandsOwn (clock ∷ ps))) next
     (own_more (clock ∷ ps) (suc i) best p place (get_within ps i p within item) own so_far)
 
 -- what is known of the client that is found
@@ -247,15 +240,15 @@ found_may s cast c is own =
         past (q ∷ qs) zero none = absurd cc
         past (q ∷ qs) (suc i) none = (let rest = past qs i none in omega (arith, rest))
     of_programs [] are (Some p) some =
-        absurd (let no : slice_get {X = Program} [] c.0 ≡ Some p = ap (λ (ps : List Program). slice_get ps c.0) (sym are) ∙ some in cc)
+        absurd (let no : slice_get {X = Program} [] c.0 ≡ Some p = ap (λ ps. slice_get ps c.0) (sym are) ∙ some in cc)
     of_programs (clock ∷ others) are (Some p) some =
         let of = at_client cast.script 0 s.programs c.0 p cast.programs some in
-        let first : slice_get s.programs 0 ≡ Some clock = ap (λ (ps : List Program). slice_get ps 0) are in
+        let first : slice_get s.programs 0 ≡ Some clock = ap (λ ps. slice_get ps 0) are in
         let clock_of = at_client cast.script 0 s.programs 0 clock cast.programs first in
         let mine : IsSomeAnd (slice_get p.script.lines c.1) (λ l. l.client ≡ p.client) = rw some at own in
         let client : p.client ≡ c.0 = of.client_is ∙ omega arith in
-        let line : IsLineOf cast.script.lines c.0 c.1 = subst (λ (n : ℕ). IsLineOf cast.script.lines n c.1) client
-        (subst (λ (x : PlainScript). IsLineOf x.lines p.client c.1) of.script_is mine) in
-        ap (λ (ps : List Program). may_turn ps c.0) are
-        ∙ first_may cast.script.lines clock others c (ap (λ (x : PlainScript). x.lines) clock_of.script_is)
-        (ap (λ (ps : List Program). first_client (map place_of ps)) (sym are) ∙ is) line
+        let line : IsLineOf cast.script.lines c.0 c.1 = subst (λ n. IsLineOf cast.script.lines n c.1) client
+        (subst (λ x. IsLineOf x.lines p.client c.1) of.script_is mine) in
+        ap (λ ps. may_turn ps c.0) are
+        ∙ first_may cast.script.lines clock others c (ap (λ x. x.lines) clock_of.script_is)
+        (ap (λ ps. first_client (map place_of ps)) (sym are) ∙ is) line

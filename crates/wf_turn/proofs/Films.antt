@@ -1,25 +1,15 @@
 -- The film that serial play puts, whole or cut.
-use Rattle.std.proofs.Common.{◌≡◌, ◌∙◌, ℕ, ◌+◌, ◌*◌, ◌≤◌, ◌==◌, Bool, true, false, cond, List, [], ◌∷◌, ◌++◌, map, length, None, Ok, Err}
-use Rattle.std.proofs.Common.{inl, inr, refl, sym, ap, subst, arith, append_assoc, append-nil}
-use Rattle.std.specs.Prelude.{flat_map, filter, sum_by}
-use Rattle.std.specs.List.{enumerate_from, range_with_len}
-use Rattle.std.proofs.lemmas.List.{length-append}
-use Rattle.std.proofs.lemmas.List.Sums.{sum_by-cons}
-use Rattle.wf_calls.specs.declared.order.Turn.{Turn}
-use Rattle.wf_film.specs.Film.{Frame, frame_bytes, head_bytes, magic, tail_bytes}
-use Rattle.wf_io.specs.Bytes.{Puts, PutsPart}
-use Rattle.wf_io.specs.Parts.{puts_both, stops_late}
-use Rattle.wf_script.specs.declared.line.Line.{Line}
-use Rattle.wf_script.specs.Script.{PlainScript}
+use Rattle.wf_turn.proofs.Common.{◌≡◌, ◌∙◌, ℕ, ◌+◌, ◌*◌, ◌≤◌, ◌==◌, Bool, true, false, cond, List, [], ◌∷◌, ◌++◌, map, length, None, Ok}
+use Rattle.wf_turn.proofs.Common.{inl, inr, refl, sym, ap, subst, arith, append_assoc, append-nil, flat_map, filter, sum_by, enumerate_from}
+use Rattle.wf_turn.proofs.Common.{range_with_len, length-append, sum_by-cons, Turn, Frame, frame_bytes, tail_bytes, Puts, PutsPart}
+use Rattle.wf_turn.proofs.Common.{puts_both, stops_late, Line, PlainScript, first_client, frames_after, replay, PlaysTurns, StopsTurns}
+use Rattle.wf_turn.proofs.Common.{with_frames, Program, lines_from, place_of, program, all_left, left, line_quota, lines_left, most_turns}
+use Rattle.wf_turn.proofs.Common.{quota, quota_of, IsRun, PlaysFilm, Show, opening_show}
+use Rattle.std.proofs.Common.{Err}
+use Rattle.wf_film.specs.Film.{head_bytes, magic}
 use Rattle.wf_turn.specs.declared.player.PlayStop.{PlayStop}
 use Rattle.wf_turn.specs.declared.player.PlayStop.TheVariants as stop
 use Rattle.wf_turn.specs.declared.stage.Stage.TheVariants as stage
-use Rattle.wf_turn.specs.Play.{first_client, frames_after, replay}
-use Rattle.wf_turn.specs.Playing.{PlaysTurns, StopsTurns, with_frames}
-use Rattle.wf_turn.specs.Program.{Program, lines_from, place_of, program}
-use Rattle.wf_turn.specs.Quota.{all_left, left, line_quota, lines_left, most_turns, quota, quota_of}
-use Rattle.wf_turn.specs.Serial.{IsRun, PlaysFilm}
-use Rattle.wf_turn.specs.Turns.{Show, opening_show}
 use Rattle.wf_turn.proofs.Framing.{next_behind}
 use Rattle.wf_turn.proofs.Lefts.{left_before}
 use Rattle.wf_turn.proofs.QuotaSums.{most_40}
@@ -33,20 +23,20 @@ quota_from client at [] = refl
 quota_from client at (l ∷ lines) =
     let rest = quota_from client (at + 1) lines in
     elim (l.client == client) as (λ b. (l.client == client) ≡ b
-    → lines_left (cond b ((at, l) ∷ filter (λ (m : ℕ × Line). m.1.client == client) (enumerate_from (at + 1) lines))
-    (filter (λ (m : ℕ × Line). m.1.client == client) (enumerate_from (at + 1) lines))) ≡ quota (l ∷ lines) client) [
+    → lines_left (cond b ((at, l) ∷ filter (λ m. m.1.client == client) (enumerate_from (at + 1) lines))
+    (filter (λ m. m.1.client == client) (enumerate_from (at + 1) lines))) ≡ quota (l ∷ lines) client) [
       | true ↦ λ here. (
-          let this : quota_of client l ≡ line_quota l.verb = ap (λ (b : Bool). cond b (line_quota l.verb) 0) here in
+          let this : quota_of client l ≡ line_quota l.verb = ap (λ b. cond b (line_quota l.verb) 0) here in
           omega (
             arith,
             rest,
             this,
             sum_by-cons (quota_of client) l lines,
-            sum_by-cons (λ (m : ℕ × Line). line_quota m.1.verb) (at, l)
-                (filter (λ (m : ℕ × Line). m.1.client == client) (enumerate_from (at + 1) lines)),
+            sum_by-cons (λ m. line_quota m.1.verb) (at, l)
+                (filter (λ m. m.1.client == client) (enumerate_from (at + 1) lines)),
           ))
       | false ↦ λ other. (
-          let this : quota_of client l ≡ 0 = ap (λ (b : Bool). cond b (line_quota l.verb) 0) other in
+          let this : quota_of client l ≡ 0 = ap (λ b. cond b (line_quota l.verb) 0) other in
           omega (arith, rest, this, sum_by-cons (quota_of client) l lines))
     ] refl
 
@@ -102,7 +92,7 @@ module _ {K : Type 0} (took : K → List ℕ → Type 0) (script : PlainScript) 
   whole k a b c written now order first plays over many tail =
       let few : length order ≤ 40 * length script.lines = omega (arith, many, left_few script) in
       let frames = head_is now order plays.frames plays.run few in (
-        subst (λ (fs : List Frame). Puts took k c (head_bytes fs ++ tail_bytes order)) (sym frames)
+        subst (λ fs. Puts took k c (head_bytes fs ++ tail_bytes order)) (sym frames)
             (puts_both took k b c (head_bytes plays.frames) (tail_bytes order) (head_put k a b written now order first plays) tail),
         is_serial script (with_frames plays.frames now) order plays.run few over,
       )
@@ -126,10 +116,10 @@ module _ {K : Type 0} (took : K → List ℕ → Type 0) (script : PlainScript) 
         serial = begins_serial script (with_frames plays.frames now) order plays.run few;
         cut = inr (inr (record {
           complete = complete script (with_frames plays.frames now) order plays.run few over;
-          put = subst (λ (fs : List Frame). PutsPart took k c 0 (head_bytes fs ++ tail_bytes order) written) (sym frames)
+          put = subst (λ fs. PutsPart took k c 0 (head_bytes fs ++ tail_bytes order) written) (sym frames)
               (stops_late took k b c 0 middle (head_bytes plays.frames) (tail_bytes order) written
               (head_put k a b middle now order first plays) at part);
-          least = subst (λ (fs : List Frame). length (head_bytes fs) ≤ written) (sym frames) (omega (arith, at, part.least));
+          least = subst (λ fs. length (head_bytes fs) ≤ written) (sym frames) (omega (arith, at, part.least));
         }));
       }
 
@@ -148,8 +138,8 @@ module _ {K : Type 0} (took : K → List ℕ → Type 0) (script : PlainScript) 
       let order_is : (stops.before ++ stops.begins ∷ []) ++ stops.ends ∷ [] ≡ order =
       append_assoc stops.before (stops.begins ∷ []) (stops.ends ∷ []) ∙ sym stops.played_is in
       let run : IsRun start order (with_frames fs now) =
-      subst (λ (gs : List Frame). IsRun start order (with_frames gs now)) (append-nil fs)
-      (subst (λ (ts : List Turn). IsRun start ts (with_frames (fs ++ []) now)) order_is ended) in
+      subst (λ gs. IsRun start order (with_frames gs now)) (append-nil fs)
+      (subst (λ ts. IsRun start ts (with_frames (fs ++ []) now)) order_is ended) in
       let longer : length order ≡ length stops.before + 2 = ap length stops.played_is
       ∙ length-append stops.before (stops.begins ∷ stops.ends ∷ []) in
       let before_frames = head_is stops.last stops.before stops.frames stops.run (omega (arith, few, longer)) in
@@ -157,7 +147,7 @@ module _ {K : Type 0} (took : K → List ℕ → Type 0) (script : PlainScript) 
       (omega (arith, few, longer, length-append stops.before (stops.begins ∷ []))) in
       let frames = head_is now order fs run few in
       let joined : fs ≡ frames_after (replay script stops.before) ++ stops.frame ∷ [] =
-      ap (λ (gs : List Frame). gs ++ stops.frame ∷ []) (sym before_frames) in
+      ap (λ gs. gs ++ stops.frame ∷ []) (sym before_frames) in
       record {
         serial = begins_serial script (with_frames fs now) order run few;
         cut = inr (inl (record {
@@ -169,9 +159,9 @@ module _ {K : Type 0} (took : K → List ℕ → Type 0) (script : PlainScript) 
           shows = begun_frames ∙ joined;
           last = frames ∙ joined;
           own = stops.own;
-          put = subst (λ (gs : List Frame). PutsPart took k b 0 (head_bytes gs) written) (sym frames)
+          put = subst (λ gs. PutsPart took k b 0 (head_bytes gs) written) (sym frames)
               (stops_late took k a b 0 (length magic) magic (flat_map frame_bytes fs) written first refl stops.part);
-          least = subst (λ (gs : List Frame). length (head_bytes gs) ≤ written) (sym before_frames)
+          least = subst (λ gs. length (head_bytes gs) ≤ written) (sym before_frames)
               (omega (arith, stops.least, length-append magic (flat_map frame_bytes stops.frames)));
         }));
       }
@@ -179,22 +169,22 @@ module _ {K : Type 0} (took : K → List ℕ → Type 0) (script : PlainScript) 
   -- the stop that is answered
   pub stop_is : (k a : K) (r : PlayStop) (written : ℕ) (given order : List Turn) → r ≡ stop.WriteFault written given → given ≡ order
       → PlaysFilm took k a script (Err (stop.WriteFault written order)) → PlaysFilm took k a script (Err r)
-  stop_is k a r written given order is same plays = subst (λ (x : PlayStop). PlaysFilm took k a script (Err x))
-      (sym (is ∙ ap (λ (o : List Turn). stop.WriteFault written o) same)) plays
+  stop_is k a r written given order is same plays = subst (λ x. PlaysFilm took k a script (Err x))
+      (sym (is ∙ ap (λ o. stop.WriteFault written o) same)) plays
 
   -- a show that is open, and what was written before it
   pub turns_open : (s : Show) → s ≡ start → (a b : K) (was written : ℕ) (now : Show) (order : List Turn) → was ≡ length magic
       → PlaysTurns took a b was written s now order → PlaysTurns took a b (length magic) written start now order
   turns_open s opened a b was written now order begins plays =
-      subst (λ (v : Show). PlaysTurns took a b (length magic) written v now order) opened
-      (subst (λ (n : ℕ). PlaysTurns took a b n written s now order) begins plays)
+      subst (λ v. PlaysTurns took a b (length magic) written v now order) opened
+      (subst (λ n. PlaysTurns took a b n written s now order) begins plays)
 
   pub stops_open : (s : Show) → s ≡ start → (a b : K) (was written : ℕ) (now : Show) (order : List Turn) → was ≡ length magic
       → StopsTurns took a b was written s now order → StopsTurns took a b (length magic) written start now order
   stops_open s opened a b was written now order begins stops =
-      subst (λ (v : Show). StopsTurns took a b (length magic) written v now order) opened
-      (subst (λ (n : ℕ). StopsTurns took a b n written s now order) begins stops)
+      subst (λ v. StopsTurns took a b (length magic) written v now order) opened
+      (subst (λ n. StopsTurns took a b n written s now order) begins stops)
 
 -- there is room for all turns of a show that is open, and few enough bytes
 pub left_open : (s : Show) (script : PlainScript) → s ≡ opening_show script → all_left s.programs ≤ most_turns script.lines
-left_open s script opened = omega (arith, left_most script, ap (λ (v : Show). all_left v.programs) opened)
+left_open s script opened = omega (arith, left_most script, ap (λ v. all_left v.programs) opened)

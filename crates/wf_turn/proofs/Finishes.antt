@@ -1,21 +1,12 @@
 -- A program whose first line is through.
-use Rattle.std.proofs.Common.{◌≡◌, ◌∙◌, ℕ, ◌+◌, ◌<◌, ◌≤◌, ◌==◌, Bool, true, cond, List, [], ◌∷◌, ◌++◌, length, take, drop, get_or, Option}
-use Rattle.std.proofs.Common.{Some, None, refl, sym, ap, subst, arith, append-nil, IsTrue}
-use Rattle.std.proofs.lemmas.Bool.{eq-eqb}
-use Rattle.std.proofs.lemmas.List.{drop_more, length-append, take-append-drop}
-use Rattle.std.proofs.lemmas.List.Elements.{filter_map-append}
-use Rattle.std.specs.Prelude.{zip, option_to_list}
-use Rattle.std.specs.Option.{is_some}
-use Rattle.wf_image.specs.declared.canvas.Canvas.{Canvas}
-use Rattle.wf_script.specs.declared.line.Line.{Line}
-use Rattle.wf_script.specs.declared.name.Name.{Name}
-use Rattle.wf_turn.specs.declared.program.Program.TheInside.{Inside}
-use Rattle.wf_turn.specs.declared.stage.Stage.{Stage}
+use Rattle.wf_turn.proofs.Common.{◌≡◌, ◌∙◌, ℕ, ◌+◌, ◌<◌, ◌≤◌, ◌==◌, Bool, true, cond, List, [], ◌∷◌, ◌++◌, length, take, drop, get_or}
+use Rattle.wf_turn.proofs.Common.{Option, Some, None, refl, sym, ap, subst, arith, append-nil, IsTrue, eq-eqb, drop_more, length-append}
+use Rattle.wf_turn.proofs.Common.{take-append-drop, filter_map-append, zip, option_to_list, is_some, Canvas, Line, Name, Inside, Stage}
+use Rattle.wf_turn.proofs.Common.{IsProgram, program_of, Table, bound_by, bound_name, bound_names, known, IsPlace, Program, bound}
+use Rattle.wf_turn.proofs.Common.{line_done, lines_from, skipped}
 use Rattle.wf_turn.specs.declared.stage.Stage.TheVariants as stage
-use Rattle.wf_turn.specs.Inside.{IsProgram, IsStage, program_of}
-use Rattle.wf_turn.specs.Names.{Table, bound_by, bound_name, bound_names, bound_value, known}
-use Rattle.wf_turn.specs.Passing.{IsPlace}
-use Rattle.wf_turn.specs.Program.{Program, bound, line_done, lines_from, skipped}
+use Rattle.wf_turn.specs.Inside.{IsStage}
+use Rattle.wf_turn.specs.Names.{bound_value}
 use Rattle.wf_turn.proofs.Handles.{known_none}
 use Rattle.wf_turn.proofs.Skips.{get_within, lines_at}
 use Rattle.wf_turn.proofs.Values.{names_more}
@@ -24,12 +15,12 @@ use Rattle.wf_turn.proofs.Values.{names_more}
 known_more : (front rest : List Name) (o : Option Name) (values : List ℕ) (v : ℕ) → length values ≡ length front
     → zip (front ++ (option_to_list o ++ rest)) (values ++ bound_value o v) ≡ bound o v (zip (front ++ (option_to_list o ++ rest)) values)
 known_more front rest None values v as_long = ap (zip (front ++ rest)) (append-nil values)
-known_more [] rest (Some n) [] v as_long = ap (λ (rows : List (Name × ℕ)). (n, v) ∷ rows)
+known_more [] rest (Some n) [] v as_long = ap (λ rows. (n, v) ∷ rows)
     (known_none (record { names = rest; values = [] }) refl)
 known_more [] rest (Some n) (w ∷ values) v as_long = absurd (omega (arith, as_long))
 known_more (m ∷ front) rest (Some n) [] v as_long = absurd (omega (arith, as_long))
 known_more (m ∷ front) rest (Some n) (w ∷ values) v as_long =
-    ap (λ (rows : List (Name × ℕ)). (m, w) ∷ rows) (known_more front rest (Some n) values v (omega (arith, as_long)))
+    ap (λ rows. (m, w) ∷ rows) (known_more front rest (Some n) values v (omega (arith, as_long)))
 
 started : (ports at tick : ℕ) (s : Stage) → IsStage ports at tick s → tick ≤ at + 1
 started ports at tick stage.Fresh is = omega (arith, is)
@@ -51,20 +42,20 @@ module _ (p : Inside) (l : Line) (sound : IsProgram p) (within : p.at < length p
   own : (l.client == p.client) ≡ true
   own =
       let here : (get_or lines p.at l).client ≡ p.client = rw (get_within lines p.at l within) at sound.place.here in
-      eq-eqb l.client p.client (ap (λ (m : Line). m.client) is ∙ here)
+      eq-eqb l.client p.client (ap (λ m. m.client) is ∙ here)
 
   bound_is : bound_by p.client l ≡ bound_name l
-  bound_is = ap (λ (b : Bool). cond b (bound_name l) None) own
+  bound_is = ap (λ b. cond b (bound_name l) None) own
 
   names_are : p.own.names ≡ front ++ (option_to_list (bound_name l) ++ rest)
   names_are =
       sound.names
       ∙ ap (bound_names p.client) (sym (take-append-drop p.at lines)
-      ∙ ap (λ (ls : List Line). take p.at lines ++ ls) (drop_more lines p.at l within
-      ∙ ap (λ (m : Line). m ∷ drop (p.at + 1) lines) (sym is)))
+      ∙ ap (λ ls. take p.at lines ++ ls) (drop_more lines p.at l within
+      ∙ ap (λ m. m ∷ drop (p.at + 1) lines) (sym is)))
       ∙ filter_map-append (bound_by p.client) (take p.at lines) (l ∷ drop (p.at + 1) lines)
-      ∙ ap (λ (names : List Name). front ++ names) (filter_map-append (bound_by p.client) (l ∷ []) (drop (p.at + 1) lines)
-      ∙ ap (λ (names : List Name). names ++ rest) (one (bound_by p.client l) refl ∙ ap option_to_list bound_is))
+      ∙ ap (λ names. front ++ names) (filter_map-append (bound_by p.client) (l ∷ []) (drop (p.at + 1) lines)
+      ∙ ap (λ names. names ++ rest) (one (bound_by p.client l) refl ∙ ap option_to_list bound_is))
     where
       one : (o : Option Name) → bound_by p.client l ≡ o → bound_names p.client (l ∷ []) ≡ option_to_list (bound_by p.client l)
       one None none = rw none refl
@@ -93,14 +84,14 @@ module _ (p : Inside) (l : Line) (sound : IsProgram p) (within : p.at < length p
     pub finished : (now : Inside) → now ≡ record p { at = at; own = table; canvas = canvas; stage = stage.Fresh } → IsProgram now
     finished now now_is = subst IsProgram (sym now_is) (record {
       place = place;
-      names = ap (λ (t : Table). t.names) bound_now ∙ sound.names;
+      names = ap (λ t. t.names) bound_now ∙ sound.names;
       values =
-          ap (λ (t : Table). length t.values) bound_now
+          ap (λ t. length t.values) bound_now
           ∙ length-append p.own.values (bound_value (bound_name l) v)
-          ∙ ap (λ (k : ℕ). k + length (bound_value (bound_name l) v)) sound.values
-          ∙ ap (λ (k : ℕ). length front + k) (as_many (bound_name l))
+          ∙ ap (λ k. k + length (bound_value (bound_name l) v)) sound.values
+          ∙ ap (λ k. length front + k) (as_many (bound_name l))
           ∙ sym (ap length (names_same ∙ names_more p.client lines p.at l within is
-          ∙ ap (λ (o : Option Name). front ++ option_to_list o) bound_is) ∙ length-append front (option_to_list (bound_name l)));
+          ∙ ap (λ o. front ++ option_to_list o) bound_is) ∙ length-append front (option_to_list (bound_name l)));
       setup = sound.setup;
       end_of_setup = sound.end_of_setup;
       ports = sound.ports;
@@ -119,16 +110,16 @@ module _ (p : Inside) (l : Line) (sound : IsProgram p) (within : p.at < length p
     leaves_done s seen passes now now_is =
         let here : lines_from p.client p.at lines ≡ (p.at, l) ∷ lines_from p.client (p.at + 1) lines =
         lines_at p.client p.at lines l within is
-        ∙ ap (λ (b : Bool). cond b ((p.at, l) ∷ lines_from p.client (p.at + 1) lines) (lines_from p.client (p.at + 1) lines)) own in
+        ∙ ap (λ b. cond b ((p.at, l) ∷ lines_from p.client (p.at + 1) lines) (lines_from p.client (p.at + 1) lines)) own in
         let rows : known table ≡ bound (bound_name l) v (known p.own) =
         ap known bound_now
-        ∙ ap (λ (names : List Name). zip names (p.own.values ++ bound_value (bound_name l) v)) names_are
+        ∙ ap (λ names. zip names (p.own.values ++ bound_value (bound_name l) v)) names_are
         ∙ known_more front rest (bound_name l) p.own.values v sound.values
-        ∙ ap (λ (names : List Name). bound (bound_name l) v (zip names p.own.values)) (sym names_are) in
+        ∙ ap (λ names. bound (bound_name l) v (zip names p.own.values)) (sym names_are) in
         let with : List (Name × ℕ) → Option Canvas × List (ℕ × Line)
         → Program = λ names x. record (program_of p) { own = names; canvas = x.0; lines = x.1; stage = stage.Fresh } in
         ap program_of now_is
-        ∙ ap (λ (names : List (Name × ℕ)). with names (canvas, lines_from p.client at lines)) rows
+        ∙ ap (λ names. with names (canvas, lines_from p.client at lines)) rows
         ∙ ap (with (bound (bound_name l) v (known p.own))) (sym passes)
-        ∙ sym (ap (λ (ls : List (ℕ × Line)). line_done (record (program_of p) { lines = ls }) v) here)
-        ∙ ap (λ (q : Program). line_done q v) seen
+        ∙ sym (ap (λ ls. line_done (record (program_of p) { lines = ls }) v) here)
+        ∙ ap (λ q. line_done q v) seen

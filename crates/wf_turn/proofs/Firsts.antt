@@ -1,19 +1,9 @@
 -- The first line of a program, and what the setup hands on.
-use Rattle.std.proofs.Common.{◌≡◌, ◌∙◌, ℕ, zero, suc, ◌+◌, ◌<◌, ◌≤◌, Bool, cond, List, [], ◌∷◌, ◌++◌, length, take, drop, get_or, Option}
-use Rattle.std.proofs.Common.{Some, None, refl, sym, ap, subst, arith}
-use Rattle.std.proofs.lemmas.Bool.{eq-eqb}
-use Rattle.std.proofs.lemmas.List.Elements.{filter_map-append}
-use Rattle.std.proofs.lemmas.List.{take-append-drop}
-use Rattle.std.specs.Prelude.{slice_get, zip}
-use Rattle.std.specs.Option.{IfSome, IsSomeAnd}
-use Rattle.wf_script.specs.declared.line.Line.{Line}
-use Rattle.wf_script.specs.declared.name.Name.{Name}
-use Rattle.wf_script.specs.Script.{PlainScript}
-use Rattle.wf_turn.specs.declared.program.Program.TheInside.{Inside}
-use Rattle.wf_turn.specs.Inside.{IsProgram, program_of}
-use Rattle.wf_turn.specs.Names.{bound_by, bound_names}
-use Rattle.wf_turn.specs.Passing.{IsPlace}
-use Rattle.wf_turn.specs.Program.{Program, first_line, first_of, lines_from, place_of, setup_lines, setup_names, taught}
+use Rattle.wf_turn.proofs.Common.{◌≡◌, ◌∙◌, ℕ, zero, suc, ◌+◌, ◌<◌, ◌≤◌, Bool, cond, List, [], ◌∷◌, ◌++◌, length, take, drop, get_or}
+use Rattle.wf_turn.proofs.Common.{Option, Some, None, refl, sym, ap, subst, arith, eq-eqb, filter_map-append, take-append-drop, slice_get}
+use Rattle.wf_turn.proofs.Common.{zip, IfSome, IsSomeAnd, Line, Name, PlainScript, Inside, IsProgram, program_of, bound_by, bound_names}
+use Rattle.wf_turn.proofs.Common.{IsPlace, Program, first_line, first_of, lines_from, place_of, setup_lines, taught}
+use Rattle.wf_turn.specs.Program.{setup_names}
 use Rattle.wf_turn.proofs.Skips.{get_within, lines_at, lines_end}
 
 abbrev pub from_line : ℕ → ℕ → List Line → Option Line → List (ℕ × Line)
@@ -37,7 +27,7 @@ from_place client at lines place = of_line (slice_get lines at) refl place.here
         let within = inside lines at l some in
         let is : l ≡ get_or lines at l = cc (some, get_within lines at l within) in
         lines_at client at lines l within is
-        ∙ ap (λ (b : Bool). cond b ((at, l) ∷ lines_from client (at + 1) lines) (lines_from client (at + 1) lines))
+        ∙ ap (λ b. cond b ((at, l) ∷ lines_from client (at + 1) lines) (lines_from client (at + 1) lines))
         (eq-eqb l.client client here)
       where
         inside : {A : Type 0} (xs : List A) (i : ℕ) (x : A) → slice_get xs i ≡ Some x → i < length xs
@@ -61,12 +51,12 @@ place_at p s l sound seen is = of_line (slice_get p.script.now.lines p.at) refl 
     of_line (Some m) at some =
         let here : lines_from p.client p.at p.script.now.lines ≡ (p.at, m) ∷ lines_from p.client (p.at + 1) p.script.now.lines =
         from_place p.client p.at p.script.now.lines sound.place ∙ ap (from_line p.client p.at p.script.now.lines) at in
-        sym (ap (λ (ls : List (ℕ × Line)). place_of (record (program_of p) { lines = ls })) here) ∙ ap place_of seen
+        sym (ap (λ ls. place_of (record (program_of p) { lines = ls })) here) ∙ ap place_of seen
 
 -- the line at a program's place is its client's
 pub own_at : (p : Inside) (s : Program) (l : Line) → IsProgram p → program_of p ≡ s → first_line s ≡ Some l
     → IsSomeAnd (slice_get s.script.lines p.at) (λ m. m.client ≡ s.client)
-own_at p s l sound seen is = subst (λ (q : Program). IsSomeAnd (slice_get q.script.lines p.at) (λ m. m.client ≡ q.client)) seen
+own_at p s l sound seen is = subst (λ q. IsSomeAnd (slice_get q.script.lines p.at) (λ m. m.client ≡ q.client)) seen
     (of_line (slice_get p.script.now.lines p.at) (first_at p sound ∙ ap first_line seen ∙ is) sound.place.here)
   where
     of_line : (o : Option Line) → o ≡ Some l → IfSome o (λ m. m.client ≡ p.client) → IsSomeAnd o (λ m. m.client ≡ p.client)
@@ -78,7 +68,7 @@ first_values : (first rest : List Name) (values : List ℕ)
     → zip first (take (length first) values) ≡ take (length first) (zip (first ++ rest) values)
 first_values [] rest values = refl
 first_values (n ∷ first) rest [] = refl
-first_values (n ∷ first) rest (v ∷ values) = ap (λ (rows : List (Name × ℕ)). (n, v) ∷ rows) (first_values first rest values)
+first_values (n ∷ first) rest (v ∷ values) = ap (λ rows. (n, v) ∷ rows) (first_values first rest values)
 
 -- the setup's names are the first ones that client 0 binds
 setup_first : (lines : List Line) → bound_names 0 lines ≡ setup_names lines ++ bound_names 0 (drop (setup_lines lines) lines)
@@ -92,16 +82,16 @@ pub learns : (p clock : Inside) (s k : Program) (names : List Name) (values : Li
     → record (program_of p) { learned = zip names values } ≡ taught k s
 learns p clock s k names values sound clock_sound seen clock_seen script client names_are values_are =
     let lines = p.script.now.lines in
-    let same : clock.script.now ≡ p.script.now = ap (λ (q : Program). q.script) clock_seen ∙ script
-    ∙ sym (ap (λ (q : Program). q.script) seen) in
-    let zeroth : clock.client ≡ 0 = ap (λ (q : Program). q.client) clock_seen ∙ client in
+    let same : clock.script.now ≡ p.script.now = ap (λ q. q.script) clock_seen ∙ script
+    ∙ sym (ap (λ q. q.script) seen) in
+    let zeroth : clock.client ≡ 0 = ap (λ q. q.client) clock_seen ∙ client in
     let clock_names : clock.own.names ≡ setup_names lines ++ bound_names 0 (drop (setup_lines lines) lines) =
-    clock_sound.names ∙ ap (λ (n : ℕ). bound_names n clock.script.now.lines) zeroth ∙ ap (λ (x : PlainScript). bound_names 0 x.lines) same
+    clock_sound.names ∙ ap (λ n. bound_names n clock.script.now.lines) zeroth ∙ ap (λ x. bound_names 0 x.lines) same
     ∙ setup_first lines in
     let learned : zip names values ≡ take (length (setup_names lines)) (zip clock.own.names clock.own.values) =
-    ap (λ (ns : List Name). zip ns values) (names_are ∙ sound.setup)
-    ∙ ap (λ (vs : List ℕ). zip (setup_names lines) vs) (values_are ∙ ap (λ (ns : List Name). take (length ns) clock.own.values) sound.setup)
+    ap (λ ns. zip ns values) (names_are ∙ sound.setup)
+    ∙ ap (λ vs. zip (setup_names lines) vs) (values_are ∙ ap (λ ns. take (length ns) clock.own.values) sound.setup)
     ∙ first_values (setup_names lines) (bound_names 0 (drop (setup_lines lines) lines)) clock.own.values
-    ∙ ap (λ (ns : List Name). take (length (setup_names lines)) (zip ns clock.own.values)) (sym clock_names) in
-    ap (λ (rows : List (Name × ℕ)). record (program_of p) { learned = rows }) learned
-    ∙ ap (λ (q : Program). taught q (program_of p)) clock_seen ∙ ap (taught k) seen
+    ∙ ap (λ ns. take (length (setup_names lines)) (zip ns clock.own.values)) (sym clock_names) in
+    ap (λ rows. record (program_of p) { learned = rows }) learned
+    ∙ ap (λ q. taught q (program_of p)) clock_seen ∙ ap (taught k) seen

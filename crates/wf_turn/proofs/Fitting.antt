@@ -1,28 +1,16 @@
 -- A program that took an answer can make its next call.
-use Rattle.std.proofs.Common.{◌≡◌, ℕ, ◌+◌, ◌≤◌, ◌==◌, Bool, true, false, not, cond, ◌||◌, List, [], ◌∷◌, Option, Some, None, refl, sym, ap}
-use Rattle.std.proofs.Common.{subst, arith, IsTrue}
-use Rattle.std.specs.Prelude.{nat_lt}
-use Rattle.std.specs.Option.{is_some, option_map, IfSome, IsSome}
-use Rattle.std.proofs.lemmas.Bool.{ltb-false, ltb-true, or_parts}
-use Rattle.wf_image.specs.declared.canvas.Canvas.{Canvas}
-use Rattle.wf_image.specs.declared.paint.Paint.{Paint}
-use Rattle.wf_calls.specs.declared.call.Job.{Job}
-use Rattle.wf_calls.specs.declared.reply.Payload.{Payload}
+use Rattle.wf_turn.proofs.Common.{◌≡◌, ℕ, ◌+◌, ◌≤◌, ◌==◌, Bool, true, false, not, cond, ◌||◌, List, [], ◌∷◌, Option, Some, None, refl, sym}
+use Rattle.wf_turn.proofs.Common.{ap, subst, arith, IsTrue, nat_lt, is_some, option_map, IfSome, IsSome, ltb-true, Canvas, Paint, Job}
+use Rattle.wf_turn.proofs.Common.{Payload, Reply, Line, Verb, Leg, Stage, Wanted, bound_name, Program, asked_next, at_port, before, bound}
+use Rattle.wf_turn.proofs.Common.{first_call, first_line, first_of, given_canvas, go_on, is_event, line_done, next, painted_job, port_count}
+use Rattle.wf_turn.proofs.Common.{silent, skipped, taught, ticking, took, took_at, took_first, took_frame, took_job, took_leg, wanted_at}
+use Rattle.wf_turn.proofs.Common.{worked, IsAsking, IsAt, IsFit}
+use Rattle.std.proofs.lemmas.Bool.{ltb-false, or_parts}
 use Rattle.wf_calls.specs.declared.reply.Payload.TheVariants as payload
-use Rattle.wf_calls.specs.declared.reply.Reply.{Reply}
-use Rattle.wf_script.specs.declared.line.Line.{Line}
-use Rattle.wf_script.specs.declared.line.Verb.{Verb}
 use Rattle.wf_script.specs.declared.line.Verb.TheVariants as verb
-use Rattle.wf_turn.specs.declared.stage.Leg.{Leg}
 use Rattle.wf_turn.specs.declared.stage.Leg.TheVariants as leg
-use Rattle.wf_turn.specs.declared.stage.Stage.{Stage}
 use Rattle.wf_turn.specs.declared.stage.Stage.TheVariants as stage
-use Rattle.wf_turn.specs.declared.stage.Wanted.{Wanted}
-use Rattle.wf_turn.specs.Names.{bound_name}
-use Rattle.wf_turn.specs.Program.{Program, asked_next, at_port, before, bound, first_call, first_line, first_of, given_canvas, go_on}
-use Rattle.wf_turn.specs.Program.{is_event, line_done, next, painted_job, port_count, silent, skipped, taught, ticking, took, took_at}
-use Rattle.wf_turn.specs.Program.{took_first, took_frame, took_job, took_leg, wanted_at, worked}
-use Rattle.wf_turn.specs.Ready.{IsAnswered, IsAsking, IsAt, IsFit}
+use Rattle.wf_turn.specs.Ready.{IsAnswered}
 
 -- where lines are skipped, an event stands first
 skips_to : (canvas : Option Canvas) (ls : List (ℕ × Line))
@@ -55,11 +43,11 @@ holds_done p v few = of_lines p.lines refl
   where
     of_lines : (ls : List (ℕ × Line)) → p.lines ≡ ls → Holds (line_done p v)
     of_lines [] is =
-        let same : line_done p v ≡ record p { lines = [] } = ap (λ (ms : List (ℕ × Line)). line_done (record p { lines = ms }) v) is in
+        let same : line_done p v ≡ record p { lines = [] } = ap (λ ms. line_done (record p { lines = ms }) v) is in
         subst Holds (sym same) (record { at = tt; ports = few })
     of_lines (l ∷ ls) is =
         let same : line_done p v ≡ before (record p { own = bound (bound_name l.1) v p.own }) ls =
-        ap (λ (ms : List (ℕ × Line)). line_done (record p { lines = ms }) v) is in
+        ap (λ ms. line_done (record p { lines = ms }) v) is in
         subst Holds (sym same) (holds_before (record p { own = bound (bound_name l.1) v p.own }) ls few)
 
 holds_ports : (p : Program) (port : ℕ) → port_count p ≤ 4 → Holds (at_port p port)

@@ -1,14 +1,6 @@
 -- A turn with frames behind those that are there already.
-use Rattle.std.proofs.Common.{◌≡◌, ◌∙◌, ℕ, Bool, true, false, ◌&&◌, List, [], ◌++◌, Option, Some, None, refl, ap}
-use Rattle.wf_calls.specs.declared.order.Turn.{Turn}
-use Rattle.wf_film.specs.Film.{Frame}
-use Rattle.wf_model.specs.Frames.{is_running}
-use Rattle.wf_turn.specs.declared.stage.Wanted.{Wanted}
-use Rattle.wf_turn.specs.Play.{is_marked}
-use Rattle.wf_turn.specs.Playing.{TurnsTo, with_frames}
-use Rattle.wf_turn.specs.Program.{Program, next}
-use Rattle.wf_turn.specs.Serial.{IsNextTurn}
-use Rattle.wf_turn.specs.Turns.{Show, program_at, turn}
+use Rattle.wf_turn.proofs.Common.{◌≡◌, ◌∙◌, ℕ, Bool, true, false, ◌&&◌, List, [], ◌++◌, Option, Some, None, refl, ap, Turn, Frame}
+use Rattle.wf_turn.proofs.Common.{is_running, Wanted, is_marked, TurnsTo, with_frames, Program, next, IsNextTurn, Show, program_at, turn}
 
 -- frames before all those of a show
 abbrev behind : List Frame → Option (Show × Turn) → Option (Show × Turn)

@@ -1,18 +1,12 @@
 -- The values of names that a program sees.
-use Rattle.std.proofs.Common.{◌≡◌, ◌∙◌, ℕ, true, false, cond, List, [], ◌∷◌, ◌++◌, Option, Some, None, refl, ap}
-use Rattle.std.specs.Prelude.{find}
-use Rattle.std.specs.Option.{option_map, unwrap_or}
-use Rattle.std.specs.Str.{bytes_eq}
-use Rattle.wf_script.specs.declared.name.Name.{Name}
-use Rattle.wf_turn.specs.Names.{Table, known, value_of}
-use Rattle.wf_image.specs.declared.canvas.Canvas.{Canvas}
-use Rattle.wf_script.specs.Script.{PlainScript}
+use Rattle.wf_turn.proofs.Common.{◌≡◌, ◌∙◌, ℕ, true, false, cond, List, [], ◌∷◌, ◌++◌, Option, Some, None, refl, ap, find, option_map}
+use Rattle.wf_turn.proofs.Common.{unwrap_or, bytes_eq, Name, Table, known, value_of, Canvas, PlainScript, Program, handle, lines_from}
+use Rattle.wf_turn.proofs.Common.{program, skipped}
 use Rattle.wf_turn.specs.declared.stage.Stage.TheVariants as stage
-use Rattle.wf_turn.specs.Program.{Program, handle, lines_from, program, skipped}
 
 -- without values no name is known
 pub known_none : (t : Table) → t.values ≡ [] → known t ≡ []
-known_none t none = ap (λ (values : List ℕ). known (record t { values = values })) none ∙ nothing t.names
+known_none t none = ap (λ values. known (record t { values = values })) none ∙ nothing t.names
   where
     nothing : (names : List Name) → known (record { names = names; values = [] }) ≡ []
     nothing [] = refl
@@ -25,9 +19,9 @@ or_else (Some v) second = Some v
 value_either : (name : Name) (xs ys : List (Name × ℕ)) → value_of name (xs ++ ys) ≡ or_else (value_of name xs) (value_of name ys)
 value_either name [] ys = refl
 value_either name (x ∷ xs) ys =
-    elim (bytes_eq x.0 name) as (λ b. option_map (λ (row : Name × ℕ). row.1)
-    (cond b (Some x) (find (λ (row : Name × ℕ). bytes_eq row.0 name) (xs ++ ys)))
-    ≡ or_else (option_map (λ (row : Name × ℕ). row.1) (cond b (Some x) (find (λ (row : Name × ℕ). bytes_eq row.0 name) xs)))
+    elim (bytes_eq x.0 name) as (λ b. option_map (λ row. row.1)
+    (cond b (Some x) (find (λ row. bytes_eq row.0 name) (xs ++ ys)))
+    ≡ or_else (option_map (λ row. row.1) (cond b (Some x) (find (λ row. bytes_eq row.0 name) xs)))
     (value_of name ys)) [
       | true ↦ refl
       | false ↦ value_either name xs ys
@@ -35,12 +29,12 @@ value_either name (x ∷ xs) ys =
 
 -- a name that the client bound, and one that it did not bind
 pub own_handle : (p : Program) (name : Name) (v : ℕ) → value_of name p.own ≡ Some v → handle p (Some name) ≡ v
-own_handle p name v is = ap (λ (o : Option ℕ). unwrap_or o 0) (value_either name p.own p.learned
-    ∙ ap (λ (o : Option ℕ). or_else o (value_of name p.learned)) is)
+own_handle p name v is = ap (λ o. unwrap_or o 0) (value_either name p.own p.learned
+    ∙ ap (λ o. or_else o (value_of name p.learned)) is)
 
 pub learned_handle : (p : Program) (name : Name) → value_of name p.own ≡ None → handle p (Some name) ≡ unwrap_or (value_of name p.learned) 0
-learned_handle p name none = ap (λ (o : Option ℕ). unwrap_or o 0) (value_either name p.own p.learned
-    ∙ ap (λ (o : Option ℕ). or_else o (value_of name p.learned)) none)
+learned_handle p name none = ap (λ o. unwrap_or o 0) (value_either name p.own p.learned
+    ∙ ap (λ o. or_else o (value_of name p.learned)) none)
 
 -- the program before the first event of its lines
 pub opened : (script : PlainScript) (client at : ℕ) (own learned : List (Name × ℕ)) (canvas : Option Canvas) → own ≡ [] → learned ≡ []

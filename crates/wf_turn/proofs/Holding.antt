@@ -1,25 +1,12 @@
 -- The Job that a program holds, and whether that is not painted yet: what is true of both stays true through an answer.
-use Rattle.std.proofs.Common.{◌≡◌, ℕ, zero, suc, ◌+◌, Bool, true, false, not, cond, ◌==◌, ◌&&◌, ◌||◌, List, [], ◌∷◌, map, Option, Some}
-use Rattle.std.proofs.Common.{None, refl, set}
-use Rattle.std.specs.Prelude.{nat_lt}
-use Rattle.wf_image.specs.declared.canvas.Canvas.{Canvas}
-use Rattle.wf_image.specs.declared.paint.Paint.{Paint}
-use Rattle.wf_calls.specs.declared.call.Job.{Job}
-use Rattle.wf_calls.specs.declared.reply.Payload.{Payload}
+use Rattle.wf_turn.proofs.Common.{◌≡◌, ℕ, zero, suc, ◌+◌, Bool, true, false, not, cond, ◌==◌, ◌&&◌, ◌||◌, List, [], ◌∷◌, map, Option, Some}
+use Rattle.wf_turn.proofs.Common.{None, refl, set, nat_lt, Canvas, Paint, Job, Payload, Reply, is_begin, Line, PlainScript, Leg, Wanted}
+use Rattle.wf_turn.proofs.Common.{Program, at_port, given_canvas, go_on, line_done, next, port_count, program, taught, took, took_frame}
+use Rattle.wf_turn.proofs.Common.{took_job, all_taught, handed_on, is_setting_up, each_mapped, AllByRecursion, range_with_len}
 use Rattle.wf_calls.specs.declared.reply.Payload.TheVariants as payload
-use Rattle.wf_calls.specs.declared.reply.Reply.{Reply}
-use Rattle.wf_calls.specs.Parts.{is_begin}
-use Rattle.wf_script.specs.declared.line.Line.{Line}
-use Rattle.wf_script.specs.Script.{PlainScript}
-use Rattle.wf_turn.specs.declared.stage.Leg.{Leg}
 use Rattle.wf_turn.specs.declared.stage.Leg.TheVariants as leg
 use Rattle.wf_turn.specs.declared.stage.Stage.TheVariants as stage
-use Rattle.wf_turn.specs.declared.stage.Wanted.{Wanted}
-use Rattle.wf_turn.specs.Program.{Program, at_port, given_canvas, go_on, line_done, next, port_count, program, taught, took, took_frame}
-use Rattle.wf_turn.specs.Program.{took_job}
-use Rattle.wf_turn.specs.Turns.{all_taught, handed_on, is_setting_up}
-use Rattle.wf_words.specs.Each.{each_mapped, each_set}
-use Rattle.std.specs.List.{AllByRecursion, range_with_len}
+use Rattle.wf_words.specs.Each.{each_set}
 use Rattle.wf_turn.proofs.Cases.{asks_begin, turn_case}
 
 module _ (Q : Option Job → Bool → Type 0) where

@@ -1,25 +1,13 @@
 -- What an answer leaves of a program: all but its lines, its names, what it holds, its stage and its tick.
-use Rattle.std.proofs.Common.{◌≡◌, ℕ, ◌+◌, Bool, true, false, not, cond, ◌==◌, ◌||◌, List, [], ◌∷◌, Option, Some, None, refl, sym, ap}
-use Rattle.std.proofs.Common.{subst}
-use Rattle.std.specs.Prelude.{nat_lt}
-use Rattle.std.specs.Option.{option_map}
-use Rattle.wf_image.specs.declared.canvas.Canvas.{Canvas}
-use Rattle.wf_image.specs.declared.paint.Paint.{Paint}
-use Rattle.wf_calls.specs.declared.call.Job.{Job}
-use Rattle.wf_calls.specs.declared.reply.Payload.{Payload}
+use Rattle.wf_turn.proofs.Common.{◌≡◌, ℕ, ◌+◌, Bool, true, false, not, cond, ◌==◌, ◌||◌, List, [], ◌∷◌, Option, Some, None, refl, sym, ap}
+use Rattle.wf_turn.proofs.Common.{subst, nat_lt, option_map, Canvas, Paint, Job, Payload, Reply, Line, Verb, Name, Leg, Stage, bound_name}
+use Rattle.wf_turn.proofs.Common.{Program, at_port, before, bound, first_line, given_canvas, go_on, line_done, painted_job, port_count}
+use Rattle.wf_turn.proofs.Common.{skipped, ticking, took, took_at, took_first, took_frame, took_job, took_leg, worked}
 use Rattle.wf_calls.specs.declared.reply.Payload.TheVariants as payload
-use Rattle.wf_calls.specs.declared.reply.Reply.{Reply}
-use Rattle.wf_script.specs.declared.line.Line.{Line}
-use Rattle.wf_script.specs.declared.line.Verb.{Verb}
 use Rattle.wf_script.specs.declared.line.Verb.TheVariants as verb
-use Rattle.wf_script.specs.declared.name.Name.{Name}
-use Rattle.wf_turn.specs.declared.stage.Leg.{Leg}
 use Rattle.wf_turn.specs.declared.stage.Leg.TheVariants as leg
-use Rattle.wf_turn.specs.declared.stage.Stage.{Stage}
 use Rattle.wf_turn.specs.declared.stage.Stage.TheVariants as stage
-use Rattle.wf_turn.specs.Names.{bound_name}
-use Rattle.wf_turn.specs.Program.{Program, at_port, before, bound, first_line, given_canvas, go_on, line_done, painted_canvas, painted_job}
-use Rattle.wf_turn.specs.Program.{port_count, skipped, ticking, took, took_at, took_first, took_frame, took_job, took_leg, worked}
+use Rattle.wf_turn.specs.Program.{painted_canvas}
 
 -- a program whose changing parts are these
 abbrev pub changed : Program → List (ℕ × Line) → List (Name × ℕ) → Option Canvas → Option Job → Bool → Stage → ℕ → Program
@@ -35,11 +23,11 @@ module _ (P : Program
     where
       of_lines : (ls : List (ℕ × Line)) → p.lines ≡ ls → P (line_done p v)
       of_lines [] is =
-          let same : line_done p v ≡ record p { lines = [] } = ap (λ (ms : List (ℕ × Line)). line_done (record p { lines = ms }) v) is in
+          let same : line_done p v ≡ record p { lines = [] } = ap (λ ms. line_done (record p { lines = ms }) v) is in
           subst P (sym same) (keeps p [] p.own p.canvas p.job p.unpainted p.stage p.tick holds)
       of_lines (l ∷ ls) is =
           let same : line_done p v ≡ before (record p { own = bound (bound_name l.1) v p.own }) ls =
-          ap (λ (ms : List (ℕ × Line)). line_done (record p { lines = ms }) v) is in
+          ap (λ ms. line_done (record p { lines = ms }) v) is in
           subst P (sym same) (keeps p (skipped p.canvas ls).1 (bound (bound_name l.1) v p.own) (skipped p.canvas ls).0 p.job p.unpainted
           stage.Fresh p.tick holds)
 

@@ -1,30 +1,18 @@
 -- Each answer leaves a program with fewer events to make.
-use Rattle.std.proofs.Common.{◌≡◌, ◌∙◌, ℕ, ◌+◌, ◌*◌, ◌-◌, ◌≤◌, ◌==◌, true, false, not, cond, ◌||◌, List, [], ◌∷◌, Option, Some, None, refl}
-use Rattle.std.proofs.Common.{sym, ap, subst, arith, IsTrue}
-use Rattle.std.specs.Prelude.{nat_lt}
-use Rattle.std.specs.Option.{is_some, option_map, IfSome}
-use Rattle.std.proofs.lemmas.List.Sums.{sum_by-cons}
-use Rattle.wf_image.specs.declared.canvas.Canvas.{Canvas}
-use Rattle.wf_image.specs.declared.paint.Paint.{Paint}
-use Rattle.wf_calls.specs.declared.reply.Payload.{Payload}
+use Rattle.wf_turn.proofs.Common.{◌≡◌, ◌∙◌, ℕ, ◌+◌, ◌*◌, ◌-◌, ◌≤◌, ◌==◌, true, false, not, cond, ◌||◌, List, [], ◌∷◌, Option, Some, None}
+use Rattle.wf_turn.proofs.Common.{refl, sym, ap, subst, arith, IsTrue, nat_lt, is_some, option_map, IfSome, sum_by-cons, Canvas, Paint}
+use Rattle.wf_turn.proofs.Common.{Payload, Reply, Line, Verb, Leg, Stage, bound_name, Program, asked_next, at_port, before, bound}
+use Rattle.wf_turn.proofs.Common.{first_line, first_of, given_canvas, go_on, is_event, line_done, painted_job, port_count, silent, skipped}
+use Rattle.wf_turn.proofs.Common.{ticking, took, took_at, took_first, took_frame, took_job, took_leg, worked, left, line_quota, lines_left}
+use Rattle.wf_turn.proofs.Common.{IsAsking, IsAt, IsFit}
 use Rattle.wf_calls.specs.declared.reply.Payload.TheVariants as payload
-use Rattle.wf_calls.specs.declared.reply.Reply.{Reply}
-use Rattle.wf_script.specs.declared.line.Line.{Line}
-use Rattle.wf_script.specs.declared.line.Verb.{Verb}
 use Rattle.wf_script.specs.declared.line.Verb.TheVariants as verb
-use Rattle.wf_turn.specs.declared.stage.Leg.{Leg}
 use Rattle.wf_turn.specs.declared.stage.Leg.TheVariants as leg
-use Rattle.wf_turn.specs.declared.stage.Stage.{Stage}
 use Rattle.wf_turn.specs.declared.stage.Stage.TheVariants as stage
-use Rattle.wf_turn.specs.Names.{bound_name}
-use Rattle.wf_turn.specs.Program.{Program, asked_next, at_port, before, bound, first_line, first_of, given_canvas, go_on, is_event}
-use Rattle.wf_turn.specs.Program.{line_done, painted_job, port_count, silent, skipped, ticking, took, took_at, took_first, took_frame}
-use Rattle.wf_turn.specs.Program.{took_job, took_leg, worked}
-use Rattle.wf_turn.specs.Quota.{left, leg_left, line_quota, lines_left, stage_left}
-use Rattle.wf_turn.specs.Ready.{IsAsking, IsAt, IsFit}
+use Rattle.wf_turn.specs.Quota.{leg_left, stage_left}
 
 one_line : (l : ℕ × Line) (ls : List (ℕ × Line)) → lines_left (l ∷ ls) ≡ line_quota l.1.verb + lines_left ls
-one_line l ls = sum_by-cons (λ (m : ℕ × Line). line_quota m.1.verb) l ls
+one_line l ls = sum_by-cons (λ m. line_quota m.1.verb) l ls
 
 left_skipped : (p : Program) (canvas : Option Canvas) (ls : List (ℕ × Line))
     → left (record p { canvas = (skipped canvas ls).0; lines = (skipped canvas ls).1; stage = stage.Fresh }) ≤ lines_left ls
@@ -118,10 +106,10 @@ left_took p l reply fit is = of_lines p.lines refl
     of_lines : (ls : List (ℕ × Line)) → p.lines ≡ ls → left (worked (took p reply)) + 1 ≤ left p
     of_lines [] none = (let no : None ≡ Some l = ap first_of (sym none) ∙ is in absurd cc)
     of_lines (m ∷ ls) some =
-        let same : p ≡ record p { lines = m ∷ ls } = ap (λ (ms : List (ℕ × Line)). record p { lines = ms }) some in
+        let same : p ≡ record p { lines = m ∷ ls } = ap (λ ms. record p { lines = ms }) some in
         let at : IsAt (record p { lines = m ∷ ls }) m.1 p.stage =
-        subst (λ (ms : List (ℕ × Line)). IfSome (first_of ms) (λ k. IsAt (record p { lines = ms }) k p.stage)) some fit.at in
+        subst (λ ms. IfSome (first_of ms) (λ k. IsAt (record p { lines = ms }) k p.stage)) some fit.at in
         let less = left_at p m ls p.stage reply at fit.ports in
         let full : left (worked (took (record p { lines = m ∷ ls }) reply)) + 1 ≤ left (record p { lines = m ∷ ls }) =
         rw (left_worked (took (record p { lines = m ∷ ls }) reply)) (omega (arith, less)) in
-        subst (λ (q : Program). left (worked (took q reply)) + 1 ≤ left q) (sym same) full
+        subst (λ q. left (worked (took q reply)) + 1 ≤ left q) (sym same) full

@@ -1,36 +1,20 @@
 -- Each frame of an order is what a port shows at a moment of it.
-use Rattle.std.proofs.Common.{◌≡◌, ℕ, Bool, false, List, [], ◌++◌, Option, Some, None, refl, sym, subst, get_or, Ok, ap}
-use Rattle.std.specs.Prelude.{pos, All}
-use Rattle.std.proofs.lemmas.List.Elements.{All-append, All-cons, All-nil}
-use Rattle.wf_calls.specs.declared.call.Call.{Call}
+use Rattle.wf_turn.proofs.Common.{◌≡◌, ℕ, Bool, false, List, [], ◌++◌, Option, Some, None, refl, sym, subst, get_or, Ok, ap, pos, All}
+use Rattle.wf_turn.proofs.Common.{All-cons, All-nil, Call, JobKind, Reply, Turn, entry, Frame, frame_of, job_of, Beginning, begin_call}
+use Rattle.wf_turn.proofs.Common.{start, State, step, PlainScript, Leg, Wanted, Begins, IsOfMoment, frames_after, is_marked, replay}
+use Rattle.wf_turn.proofs.Common.{given_canvas, go_on, line_done, next, painted_job, Program, took, took_canvas, took_frame, took_job}
+use Rattle.wf_turn.proofs.Common.{worked, plain, asked_for, Show, frames_of, shown, turn, program_at, each_at, Stage, by_begin, next_is}
+use Rattle.wf_turn.proofs.Common.{port_is, bare}
+use Rattle.std.proofs.lemmas.List.Elements.{All-append}
 use Rattle.wf_calls.specs.declared.call.Call.TheVariants as call
-use Rattle.wf_calls.specs.declared.call.JobKind.{JobKind}
-use Rattle.wf_calls.specs.declared.reply.Reply.{Reply}
-use Rattle.wf_calls.specs.declared.order.Turn.{Turn}
-use Rattle.wf_calls.specs.Codes.{entry}
-use Rattle.wf_film.specs.Film.{Frame, frame_of}
-use Rattle.wf_model.specs.Frames.{job_of, Beginning, begin_call, start, port_beginning}
-use Rattle.wf_model.specs.State.{State}
-use Rattle.wf_model.specs.Step.{step}
-use Rattle.wf_script.specs.Script.{PlainScript}
-use Rattle.wf_turn.specs.declared.stage.Leg.{Leg}
+use Rattle.wf_model.specs.Frames.{port_beginning}
 use Rattle.wf_turn.specs.declared.stage.Leg.TheVariants as leg
-use Rattle.wf_turn.specs.declared.stage.Wanted.{Wanted}
-use Rattle.wf_turn.specs.Moments.{Begins, IsOfMoment}
-use Rattle.wf_turn.specs.Play.{frames_after, is_marked, replay}
-use Rattle.wf_turn.specs.Program.{given_canvas, go_on, line_done, next, painted_job, Program, took, took_canvas, took_frame, took_job}
-use Rattle.wf_turn.specs.Program.{worked, plain, asked_for}
-use Rattle.wf_turn.specs.Turns.{Show, frames_of, shown, turn, program_at}
 use Rattle.wf_turn.proofs.Begins.{nothing_shown}
 use Rattle.wf_turn.proofs.Cases.{turn_case, IsTick, asks_begin}
 use Rattle.wf_turn.proofs.Holding.{Holds, AllHold, handed_hold, opening_hold}
 use Rattle.wf_turn.proofs.Works.{worked_painted}
 use Rattle.wf_turn.proofs.Painting.{canvas_painted, frame_painted, IsPainted, done_painted, on_painted}
 use Rattle.wf_turn.proofs.Replays.{Step, at_step, order_keeps, taken_turn, turn_of}
-use Rattle.wf_words.specs.Each.{each_at}
-use Rattle.wf_turn.specs.declared.stage.Stage.{Stage}
-use Rattle.wf_model.specs.Beginnings.{by_begin, next_is, port_is}
-use Rattle.wf_calls.specs.Replies.{bare}
 
 -- the turn of a program: what it shows behind the answer, the entry of the answer tells
 module _ (show : Show) (client : ℕ) (m : Bool) (p : Program) (stands : program_at show client ≡ Some p) (painted : p.unpainted ≡ false)
@@ -58,13 +42,13 @@ module _ (show : Show) (client : ℕ) (m : Bool) (p : Program) (stands : program
     begun (leg.Contexts asked last) tick at asks b is =
         let own = next_is last h b is in
         let t = entry client (start b h).1 in
-        subst (λ (k : JobKind). AreBegun t (shown k tick (painted_job (job_of b h)))) (sym (ap (λ (x : Beginning). x.kind) own.is))
+        subst (λ k. AreBegun t (shown k tick (painted_job (job_of b h)))) (sym (ap (λ x. x.kind) own.is))
         (All-nil (λ f. Begins f show t))
     begun (leg.Ports port) tick at asks b is =
         let own = port_is (pos port) h b is in
         let its = port_beginning (pos port) own.scene in
         let t = entry client (start its h).1 in
-        subst (λ (x : Beginning). AreBegun (entry client (start x h).1) (shown x.kind tick (painted_job (job_of x h)))) (sym own.is)
+        subst (λ x. AreBegun (entry client (start x h).1) (shown x.kind tick (painted_job (job_of x h)))) (sym own.is)
         (All-cons (λ f. Begins f show t) (frame_of port tick (painted_job (job_of its h)).image) []
         (record {
           asks = record { program = p; own = stands; next_is = asks };
@@ -113,7 +97,7 @@ turn_adds show client m done are taken =
     let t = turn_of show client m done taken in
     let reply : Reply = (step show.state client t.wanted.call m).1 in
     let own : t.program.unpainted ≡ false = each_at (Holds IsPainted) show.programs client t.program are t.own in
-    subst (λ (x : Show × Turn). Adds show x.0 x.1) t.is
+    subst (λ x. Adds show x.0 x.1) t.is
     (record {
       painted = handed_hold IsPainted show.programs client (worked (took t.program reply)) (worked_painted (took t.program reply)) are;
       frames = frames_of (took t.program reply);
@@ -142,7 +126,7 @@ module _ (script : PlainScript) (order : List Turn) where
 
   pub of_moments : All (IsOfMoment script order) (frames_after (replay script order))
   of_moments =
-      elim (replay script order) as (λ (o : Option Show). replay script order ≡ o → All (IsOfMoment script order) (frames_after o)) [
+      elim (replay script order) as (λ o. replay script order ≡ o → All (IsOfMoment script order) (frames_after o)) [
         | None ↦ λ none. All-nil (IsOfMoment script order)
         | Some last ↦
             λ is. (order_keeps script order AreOfMoments turn_keeps

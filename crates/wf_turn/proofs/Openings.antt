@@ -1,17 +1,10 @@
 -- The show before the first turn.
-use Rattle.std.proofs.Common.{◌≡◌, ◌∙◌, ℕ, zero, suc, ◌+◌, ◌≤◌, true, false, ◌&&◌, List, [], ◌∷◌, ◌++◌, map, length, None, refl, ap, arith}
-use Rattle.std.specs.Prelude.{nat_le}
-use Rattle.std.specs.List.{list_all, range_with_len}
-use Rattle.std.proofs.lemmas.Bool.{and_parts, leb-true}
-use Rattle.std.proofs.lemmas.List.{length-map}
-use Rattle.wf_calls.specs.PortRules.{may_declare, may_have}
-use Rattle.wf_script.specs.Script.{PlainScript}
-use Rattle.wf_turn.specs.Playing.{IsCast}
+use Rattle.wf_turn.proofs.Common.{◌≡◌, ◌∙◌, ℕ, zero, suc, ◌+◌, ◌≤◌, true, false, ◌&&◌, List, [], ◌∷◌, ◌++◌, map, length, None, refl, ap}
+use Rattle.wf_turn.proofs.Common.{arith, nat_le, list_all, range_with_len, and_parts, length-map, may_declare, PlainScript, IsCast, Program}
+use Rattle.wf_turn.proofs.Common.{lines_from, program, AreOf, opening_show, ArePainted}
+use Rattle.std.proofs.lemmas.Bool.{leb-true}
+use Rattle.wf_calls.specs.PortRules.{may_have}
 use Rattle.wf_turn.specs.declared.stage.Stage.TheVariants as stage
-use Rattle.wf_turn.specs.Program.{Program, lines_from, program}
-use Rattle.wf_turn.specs.Ready.{AreOf}
-use Rattle.wf_turn.specs.Turns.{opening_show}
-use Rattle.wf_turn.specs.Playing.{ArePainted}
 use Rattle.wf_turn.proofs.Holding.{opening_hold}
 use Rattle.wf_turn.proofs.Painting.{IsPainted}
 use Rattle.wf_turn.proofs.Fitting.{fit_before}
@@ -64,12 +57,12 @@ opening_painted script = opening_hold IsPainted refl script 0 8
 
 -- one client more
 pub range_more : (n : ℕ) → range_with_len 1 (n + 1) ≡ range_with_len 1 n ++ (n + 1) ∷ []
-range_more n = from 1 n ∙ ap (λ (k : ℕ). range_with_len 1 n ++ k ∷ []) (omega arith)
+range_more n = from 1 n ∙ ap (λ k. range_with_len 1 n ++ k ∷ []) (omega arith)
   where
     from : (a n : ℕ) → range_with_len a (n + 1) ≡ range_with_len a n ++ (a + n) ∷ []
-    from a zero = (let here : a ≡ a + 0 = omega arith in ap (λ (k : ℕ). k ∷ []) here)
+    from a zero = (let here : a ≡ a + 0 = omega arith in ap (λ k. k ∷ []) here)
     from a (suc n) =
         let shift : suc n + 1 ≡ suc (n + 1) = omega arith in
         let at : a + 1 + n ≡ a + suc n = omega arith in
-        ap (range_with_len a) shift ∙ ap (λ (ns : List ℕ). a ∷ ns) (from (a + 1) n)
-        ∙ ap (λ (k : ℕ). a ∷ range_with_len (a + 1) n ++ k ∷ []) at
+        ap (range_with_len a) shift ∙ ap (λ ns. a ∷ ns) (from (a + 1) n)
+        ∙ ap (λ k. a ∷ range_with_len (a + 1) n ++ k ∷ []) at

@@ -1,24 +1,11 @@
 -- The Job of a frame that begins is that frame's, painted or not.
-use Rattle.std.proofs.Common.{◌≡◌, ℕ, ◌+◌, true, false, ◌==◌, List, [], ◌∷◌, map, length, Option, Some, None, refl, subst, arith}
-use Rattle.std.specs.List.{list_all}
-use Rattle.std.proofs.lemmas.Bool.{eq-eqb}
-use Rattle.std.proofs.lemmas.Bool.Decides.{nat_tests}
-use Rattle.std.proofs.lemmas.List.{length-map}
-use Rattle.wf_words.specs.Keyed.{is_in}
-use Rattle.wf_pixel.specs.declared.Format.{Format}
+use Rattle.wf_turn.proofs.Common.{◌≡◌, ℕ, ◌+◌, true, false, ◌==◌, List, [], ◌∷◌, map, length, Option, Some, None, refl, subst, arith}
+use Rattle.wf_turn.proofs.Common.{list_all, eq-eqb, nat_tests, length-map, is_in, Format, Size, same_format, same_size, Bitmap, drawn}
+use Rattle.wf_turn.proofs.Common.{image_of, KeptStream, stream_at, JobKind, Beginning, is_of_frame, job_of, newest_images, newest_of}
+use Rattle.wf_turn.proofs.Common.{running_of, same_kind, scene_streams, Images, State, painted_job}
 use Rattle.wf_pixel.specs.declared.Format.TheVariants as format
-use Rattle.wf_pixel.specs.declared.Size.{Size}
-use Rattle.wf_pixel.specs.Choice.{same_format, same_size}
-use Rattle.wf_image.specs.Bitmap.{Bitmap, drawn}
-use Rattle.wf_image.specs.Contents.{image_of}
-use Rattle.wf_stream.specs.Streams.{KeptStream, stream_at}
-use Rattle.wf_calls.specs.declared.call.JobKind.{JobKind}
 use Rattle.wf_calls.specs.declared.call.JobKind.TheVariants as kind
-use Rattle.wf_model.specs.Frames.{Beginning, content_shape, has_shape, is_of_frame, job_of, newest_images, newest_of, running_of, same_kind}
-use Rattle.wf_model.specs.Frames.{scene_streams}
-use Rattle.wf_model.specs.Picture.{Images}
-use Rattle.wf_model.specs.State.{State}
-use Rattle.wf_turn.specs.Program.{painted_job}
+use Rattle.wf_model.specs.Frames.{content_shape, has_shape}
 use Rattle.wf_words.specs.Once.{NoneTwice, once_none_twice}
 
 -- no stream has two images
@@ -75,7 +62,7 @@ all_shaped (p ∷ xs) apart whole within =
     more n i found =
         elim (p.0 == n) as (λ b. (p.0 == n) ≡ b → image_of n (p ∷ xs) ≡ Some i) [
           | true ↦ λ here. absurd (let same : p.0 ≡ n = grind (arith, nat_tests, here) in
-              let no : image_of n xs ≡ None = subst (λ (k : ℕ). image_of k xs ≡ None) same apart.0 in cc)
+              let no : image_of n xs ≡ None = subst (λ k. image_of k xs ≡ None) same apart.0 in cc)
           | false ↦ λ other. rw other found
         ] refl
 

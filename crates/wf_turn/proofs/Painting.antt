@@ -1,25 +1,12 @@
 -- The Job that a program takes can be painted.
-use Rattle.std.proofs.Common.{◌≡◌, ◌∙◌, ℕ, Bool, true, false, Option, None, Some, refl, ap, subst, IsTrue}
-use Rattle.std.specs.Option.{IfSome}
-use Rattle.wf_calls.specs.declared.call.Call.{Call}
-use Rattle.wf_calls.specs.declared.call.Job.{Job}
-use Rattle.wf_calls.specs.declared.reply.Payload.{Payload}
+use Rattle.wf_turn.proofs.Common.{◌≡◌, ◌∙◌, ℕ, Bool, true, false, Option, None, Some, refl, ap, subst, IsTrue, IfSome, Call, Job, Payload}
+use Rattle.wf_turn.proofs.Common.{Reply, is_ok_code, is_out_of_memory, by_begin, IsPaintable, SamePayload, is_begin, State, act, step, Leg}
+use Rattle.wf_turn.proofs.Common.{Wanted, Program, go_on, line_done, next, took, took_canvas, given_canvas, took_frame, IsWork, Paint}
+use Rattle.wf_turn.proofs.Common.{Canvas}
 use Rattle.wf_calls.specs.declared.reply.Payload.TheVariants as payload
-use Rattle.wf_calls.specs.declared.reply.Reply.{Reply}
 use Rattle.wf_calls.specs.declared.code.Code.TheVariants as code
-use Rattle.wf_calls.specs.Codes.{is_ok_code, is_out_of_memory}
-use Rattle.wf_model.specs.Beginnings.{by_begin}
-use Rattle.wf_machine.specs.Object.{CarriesPaintable, IsAnswer, IsPaintable, MayAnswer, SamePayload}
-use Rattle.wf_calls.specs.Parts.{is_begin}
-use Rattle.wf_model.specs.State.{State}
-use Rattle.wf_model.specs.Step.{act, step}
-use Rattle.wf_turn.specs.declared.stage.Leg.{Leg}
-use Rattle.wf_turn.specs.declared.stage.Wanted.{Wanted}
-use Rattle.wf_turn.specs.Program.{Program, go_on, line_done, next, took, took_canvas, given_canvas, took_frame}
-use Rattle.wf_turn.specs.Ready.{IsWork}
+use Rattle.wf_machine.specs.Object.{CarriesPaintable, IsAnswer, MayAnswer}
 use Rattle.wf_turn.proofs.Holding.{done_holds, on_holds, took_holds}
-use Rattle.wf_image.specs.declared.paint.Paint.{Paint}
-use Rattle.wf_image.specs.declared.canvas.Canvas.{Canvas}
 
 -- an answer that may carry a Job carries one only with Ok
 abbrev JobIsOk : Reply → Type 0
@@ -35,11 +22,11 @@ wanted_job is_new (payload.Canvas canvas) job same = absurd cc
 carried : (wanted given : Reply) (job : Job) → JobIsOk wanted → IsAnswer wanted given → given.payload ≡ payload.Job job → IsPaintable job
 carried wanted given job ok answer has =
     let same : SamePayload (is_ok_code given.code) wanted.payload (payload.Job job) =
-    subst (λ (x : Payload). SamePayload (is_ok_code given.code) wanted.payload x) has answer.payload in
+    subst (λ x. SamePayload (is_ok_code given.code) wanted.payload x) has answer.payload in
     let j = wanted_job (is_ok_code given.code) wanted.payload job same in
     let is : is_ok_code given.code ≡ true = ap is_ok_code (answer.code ∙ ok j.0 j.1) in
     let carries : CarriesPaintable (is_ok_code given.code) (payload.Job job) =
-    subst (λ (x : Payload). CarriesPaintable (is_ok_code given.code) x) has answer.paintable in
+    subst (λ x. CarriesPaintable (is_ok_code given.code) x) has answer.paintable in
     rw is at carries
 
 -- a Job that comes with the answer to a call that begins a frame can be painted

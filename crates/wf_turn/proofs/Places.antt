@@ -1,11 +1,7 @@
 -- Names that are added to an index.
-use Rattle.std.proofs.Common.{◌≡◌, ◌∙◌, ℕ, zero, suc, Bool, true, false, cond, List, [], ◌∷◌, ◌++◌, length, Option, Some, None, refl, sym}
-use Rattle.std.proofs.Common.{ap, Bor}
+use Rattle.wf_turn.proofs.Common.{◌≡◌, ◌∙◌, ℕ, zero, suc, Bool, true, false, cond, List, [], ◌∷◌, ◌++◌, length, Option, Some, None, refl}
+use Rattle.wf_turn.proofs.Common.{sym, ap, Bor, is_some, option_copied, bytes_eq, Name, next_place, place_in}
 use Rattle.std.proofs.lemmas.Slice.Eq.{bytes_eq-Decides}
-use Rattle.std.specs.Option.{is_some, option_copied}
-use Rattle.std.specs.Str.{bytes_eq}
-use Rattle.wf_script.specs.declared.name.Name.{Name}
-use Rattle.wf_turn.specs.Index.{next_place, place_in}
 
 -- the place of a name once another stands behind
 abbrev place_or : Option ℕ → Option ℕ → Option ℕ

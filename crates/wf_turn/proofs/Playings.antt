@@ -1,24 +1,13 @@
 -- Turns that are played one after another, and their frames.
-use Rattle.std.proofs.Common.{◌≡◌, ◌∙◌, ℕ, ◌+◌, ◌*◌, ◌<◌, ◌≤◌, ◌^◌, Bool, true, false, ◌⊎◌, inl, inr, List, [], ◌∷◌, ◌++◌, length, Option}
-use Rattle.std.proofs.Common.{Some, None, refl, sym, ap, subst, arith, append_assoc, append-nil}
-use Rattle.std.specs.Prelude.{flat_map, slice_get}
-use Rattle.std.specs.Option.{IsSome}
-use Rattle.std.proofs.lemmas.List.{length-append}
+use Rattle.wf_turn.proofs.Common.{◌≡◌, ◌∙◌, ℕ, ◌+◌, ◌*◌, ◌<◌, ◌≤◌, Bool, true, false, ◌⊎◌, inl, inr, List, [], ◌∷◌, ◌++◌, length, Option}
+use Rattle.wf_turn.proofs.Common.{Some, None, refl, sym, ap, subst, arith, append_assoc, append-nil, flat_map, slice_get, IsSome}
+use Rattle.wf_turn.proofs.Common.{length-append, Turn, Job, JobKind, Frame, frame_bytes, frame_of, Puts, PutsPart, puts_both, stops_late}
+use Rattle.wf_turn.proofs.Common.{Running, ArePainted, PlaysTurns, StopsTurns, Turned, TurnsTo, frames_if, shown_by, with_frames, Program}
+use Rattle.wf_turn.proofs.Common.{all_left, IsRun, Show, shown}
+use Rattle.std.proofs.Common.{◌^◌}
 use Rattle.std.proofs.lemmas.Grind.{flat_map-append}
-use Rattle.wf_calls.specs.declared.order.Turn.{Turn}
-use Rattle.wf_calls.specs.declared.call.Job.{Job}
-use Rattle.wf_calls.specs.declared.call.JobKind.{JobKind}
 use Rattle.wf_calls.specs.declared.call.JobKind.TheVariants as kind
-use Rattle.wf_film.specs.Film.{Frame, frame_bytes, frame_of}
-use Rattle.wf_io.specs.Bytes.{Puts, PutsPart}
-use Rattle.wf_io.specs.Parts.{puts_both, stops_late}
-use Rattle.wf_model.specs.State.{Running}
-use Rattle.wf_turn.specs.Playing.{ArePainted, PlaysTurn, PlaysTurns, StopsTurn, StopsTurns, Turned, TurnsTo, frames_if, job_frames}
-use Rattle.wf_turn.specs.Playing.{shown_by, with_frames}
-use Rattle.wf_turn.specs.Program.{Program}
-use Rattle.wf_turn.specs.Quota.{all_left}
-use Rattle.wf_turn.specs.Serial.{IsRun}
-use Rattle.wf_turn.specs.Turns.{Show, shown}
+use Rattle.wf_turn.specs.Playing.{PlaysTurn, StopsTurn, job_frames}
 use Rattle.wf_turn.proofs.Serials.{run_more}
 use Rattle.wf_turn.proofs.Framing.{next_behind}
 
@@ -53,10 +42,10 @@ module _ {K : Type 0} (took : K → List ℕ → Type 0) where
       record {
         frames = so_far.frames ++ one.frames;
         run =
-            subst (λ (ts : List Turn). IsRun (with_frames [] start) ts (with_frames (so_far.frames ++ one.frames) now)) (sym one.after_is)
+            subst (λ ts. IsRun (with_frames [] start) ts (with_frames (so_far.frames ++ one.frames) now)) (sym one.after_is)
             (run_more (with_frames [] start) (with_frames so_far.frames last) (with_frames (so_far.frames ++ one.frames) now) played
             one.turn so_far.run (next_behind so_far.frames one.frames last now one.turn one.next));
-        put = subst (λ (bytes : List ℕ). Puts took a c bytes) (sym (flat_one so_far.frames one.frames))
+        put = subst (λ bytes. Puts took a c bytes) (sym (flat_one so_far.frames one.frames))
             (puts_both took a b c (flat_map frame_bytes so_far.frames) (flat_map frame_bytes one.frames) so_far.put one.put);
         written_is = omega (
           arith,
@@ -87,8 +76,8 @@ module _ {K : Type 0} (took : K → List ℕ → Type 0) where
         own = stop.own;
         played_is = stop.after_is;
         part =
-            subst (λ (bytes : List ℕ). PutsPart took a c was bytes written)
-            (sym (flat_one so_far.frames (stop.frame ∷ []) ∙ ap (λ (bytes : List ℕ). flat_map frame_bytes so_far.frames ++ bytes) one))
+            subst (λ bytes. PutsPart took a c was bytes written)
+            (sym (flat_one so_far.frames (stop.frame ∷ []) ∙ ap (λ bytes. flat_map frame_bytes so_far.frames ++ bytes) one))
             (stops_late took a b c was middle (flat_map frame_bytes so_far.frames) (frame_bytes stop.frame) written so_far.put
             so_far.written_is stop.part);
         least = omega (arith, so_far.written_is, stop.part.least);
@@ -126,24 +115,24 @@ stopped took k a was written show middle now client t u painted ended played fir
     elim (one_shown true middle.programs client) [
       | inl none ↦
           absurd (let short = part.short in let nothing : length (flat_map frame_bytes (shown_by true middle.programs client))
-          ≡ 0 = ap (λ (fs : List Frame). length (flat_map frame_bytes fs)) none in omega (arith, part.least, short, nothing))
+          ≡ 0 = ap (λ fs. length (flat_map frame_bytes fs)) none in omega (arith, part.least, short, nothing))
       | inr one ↦ of_frame one.0 one.1
     ]
   where
     of_frame : (f : Frame) → shown_by true middle.programs client ≡ f ∷ [] → StopsTurn took k a was written show now played after
     of_frame f is =
-        let shows : shown_by painted middle.programs client ≡ f ∷ [] = ap (λ (b : Bool). shown_by b middle.programs client) paints ∙ is in
+        let shows : shown_by painted middle.programs client ≡ f ∷ [] = ap (λ b. shown_by b middle.programs client) paints ∙ is in
         let runs : IsSome middle.state.frame = of_running middle.state.frame refl shows in
         record {
           begins = t;
           ends = u;
           frame = f;
           middle = middle;
-          begun = subst (λ (fs : List Frame). TurnsTo show t fs middle) shows begins.next;
-          ended = subst (λ (fs : List Frame). TurnsTo middle u fs now) (ends.ended runs) ends.next;
+          begun = subst (λ fs. TurnsTo show t fs middle) shows begins.next;
+          ended = subst (λ fs. TurnsTo middle u fs now) (ends.ended runs) ends.next;
           own = ends.client_is ∙ sym begins.client_is;
-          after_is = after_is ∙ ap (λ (ts : List Turn). ts ++ u ∷ []) first_is ∙ append_assoc played (t ∷ []) (u ∷ []);
-          part = subst (λ (bytes : List ℕ). PutsPart took k a was bytes written) (ap (λ (fs : List Frame). flat_map frame_bytes fs) is
+          after_is = after_is ∙ ap (λ ts. ts ++ u ∷ []) first_is ∙ append_assoc played (t ∷ []) (u ∷ []);
+          part = subst (λ bytes. PutsPart took k a was bytes written) (ap (λ fs. flat_map frame_bytes fs) is
               ∙ append-nil (frame_bytes f)) part;
         }
       where

@@ -1,18 +1,12 @@
 -- Sums of quotas.
-use Rattle.std.proofs.Common.{◌≡◌, ◌∙◌, ℕ, zero, suc, ◌+◌, ◌*◌, ◌<◌, ◌≤◌, ◌==◌, Bool, true, false, cond, List, [], ◌∷◌, length, refl, sym}
-use Rattle.std.proofs.Common.{ap, arith}
-use Rattle.std.specs.Prelude.{sum_by}
-use Rattle.std.specs.List.{range_with_len}
-use Rattle.std.proofs.lemmas.Bool.Decides.{nat_tests}
-use Rattle.std.proofs.lemmas.List.Sums.{sum_by-cons}
-use Rattle.wf_script.specs.declared.line.Line.{Line}
-use Rattle.wf_script.specs.declared.line.Verb.{Verb}
+use Rattle.wf_turn.proofs.Common.{◌≡◌, ◌∙◌, ℕ, zero, suc, ◌+◌, ◌*◌, ◌<◌, ◌≤◌, ◌==◌, Bool, true, false, cond, List, [], ◌∷◌, length, refl}
+use Rattle.wf_turn.proofs.Common.{sym, ap, arith, sum_by, range_with_len, nat_tests, sum_by-cons, Line, Verb, line_quota, most_turns, quota}
+use Rattle.wf_turn.proofs.Common.{quota_of}
 use Rattle.wf_script.specs.declared.line.Verb.TheVariants as verb
-use Rattle.wf_turn.specs.Quota.{line_quota, most_turns, quota, quota_of}
 
 -- one number more
 pub total_more : (f : ℕ → ℕ) (n : ℕ) → sum_by f (range_with_len 0 (n + 1)) ≡ sum_by f (range_with_len 0 n) + f n
-total_more f n = from 0 n ∙ ap (λ (k : ℕ). sum_by f (range_with_len 0 n) + f k) (omega arith)
+total_more f n = from 0 n ∙ ap (λ k. sum_by f (range_with_len 0 n) + f k) (omega arith)
   where
     from : (a n : ℕ) → sum_by f (range_with_len a (n + 1)) ≡ sum_by f (range_with_len a n) + f (a + n)
     from a zero =
@@ -21,7 +15,7 @@ total_more f n = from 0 n ∙ ap (λ (k : ℕ). sum_by f (range_with_len 0 n) + 
     from a (suc n) =
         let shift : suc n + 1 ≡ suc (n + 1) = omega arith in
         let at : a + 1 + n ≡ a + suc n = omega arith in
-        rw shift (sum_by-cons f a (range_with_len (a + 1) (n + 1)) ∙ ap (λ (k : ℕ). f a + k) (from (a + 1) n)
+        rw shift (sum_by-cons f a (range_with_len (a + 1) (n + 1)) ∙ ap (λ k. f a + k) (from (a + 1) n)
         ∙ rw at (omega (arith, sum_by-cons f a (range_with_len (a + 1) n))))
 
 least_40 : (v : Verb) → line_quota v ≤ 40
@@ -38,11 +32,11 @@ one_client l a (suc n) =
     elim (l.client == a) as (λ b. (l.client == a) ≡ b → sum_by each (a ∷ range_with_len (a + 1) n) ≤ line_quota l.verb) [
       | true ↦ λ here. (
           let none = past l (a + 1) n (grind (arith, nat_tests, here)) in
-          let this : each a ≡ line_quota l.verb = ap (λ (b : Bool). cond b (line_quota l.verb) 0) here in
+          let this : each a ≡ line_quota l.verb = ap (λ b. cond b (line_quota l.verb) 0) here in
           omega (arith, sum_by-cons each a (range_with_len (a + 1) n), none, this))
       | false ↦ λ apart. (
           let rest = one_client l (a + 1) n in
-          let none : each a ≡ 0 = ap (λ (b : Bool). cond b (line_quota l.verb) 0) apart in
+          let none : each a ≡ 0 = ap (λ b. cond b (line_quota l.verb) 0) apart in
           omega (arith, sum_by-cons each a (range_with_len (a + 1) n), rest, none))
     ] refl
   where
@@ -51,7 +45,7 @@ one_client l a (suc n) =
     past l a (suc n) below =
         let each : ℕ → ℕ = λ c. quota_of c l in
         let apart : (l.client == a) ≡ false = grind (arith, nat_tests, below) in
-        let none : each a ≡ 0 = ap (λ (b : Bool). cond b (line_quota l.verb) 0) apart in
+        let none : each a ≡ 0 = ap (λ b. cond b (line_quota l.verb) 0) apart in
         let rest = past l (a + 1) n (omega (arith, below)) in
         omega (arith, sum_by-cons each a (range_with_len (a + 1) n), rest, none)
 

@@ -1,27 +1,18 @@
 -- What each turn keeps holds in every show that an order reaches.
-use Rattle.std.proofs.Common.{◌≡◌, ◌∙◌, ℕ, Bool, true, false, not, cond, ◌&&◌, ◌==◌, List, [], ◌∷◌, ◌++◌, Option, Some, None, refl, sym, ap}
-use Rattle.std.proofs.Common.{subst, append_assoc}
-use Rattle.std.specs.Prelude.{slice_get}
-use Rattle.std.specs.Option.{unwrap_or}
-use Rattle.std.proofs.lemmas.Bool.{and_parts, eqb-true}
-use Rattle.wf_calls.specs.declared.order.Turn.{Turn}
-use Rattle.wf_model.specs.Frames.{is_running}
-use Rattle.wf_model.specs.Step.{step}
-use Rattle.wf_script.specs.Script.{PlainScript}
-use Rattle.wf_turn.specs.declared.stage.Wanted.{Wanted}
+use Rattle.wf_turn.proofs.Common.{◌≡◌, ◌∙◌, ℕ, Bool, true, false, not, cond, ◌&&◌, ◌==◌, List, [], ◌∷◌, ◌++◌, Option, Some, None, refl, sym}
+use Rattle.wf_turn.proofs.Common.{ap, subst, append_assoc, slice_get, unwrap_or, and_parts, eqb-true, Turn, is_running, step, PlainScript}
+use Rattle.wf_turn.proofs.Common.{Wanted, is_marked, replay, replay_from, replay_turn, same_turn, Program, next, Show, answered}
+use Rattle.wf_turn.proofs.Common.{is_setting_up, opening_show, program_at, turn}
 use Rattle.wf_turn.specs.Moments.{At}
-use Rattle.wf_turn.specs.Play.{is_marked, replay, replay_from, replay_turn, same_turn}
-use Rattle.wf_turn.specs.Program.{Program, next}
-use Rattle.wf_turn.specs.Turns.{Show, answered, is_setting_up, opening_show, program_at, turn}
 use Rattle.wf_turn.proofs.Serials.{nothing_replayed}
 
 same_is : (s t : Turn) → same_turn s t ≡ true → s ≡ t
 same_is s t same =
     let most = and_parts ((s.client == t.client) && (s.code == t.code)) (s.value == t.value) same in
     let first = and_parts (s.client == t.client) (s.code == t.code) most.0 in
-    ap (λ (n : ℕ). record { client = n; code = s.code; value = s.value }) (eqb-true s.client t.client first.0)
-    ∙ ap (λ (n : ℕ). record { client = t.client; code = n; value = s.value }) (eqb-true s.code t.code first.1)
-    ∙ ap (λ (n : ℕ). record { client = t.client; code = t.code; value = n }) (eqb-true s.value t.value most.1)
+    ap (λ n. record { client = n; code = s.code; value = s.value }) (eqb-true s.client t.client first.0)
+    ∙ ap (λ n. record { client = t.client; code = n; value = s.value }) (eqb-true s.code t.code first.1)
+    ∙ ap (λ n. record { client = t.client; code = t.code; value = n }) (eqb-true s.value t.value most.1)
 
 -- a replay takes the turn that its entry tells
 pub taken_turn : (t : Turn) (o : Option (Show × Turn)) (after : Show) → replay_turn t o ≡ Some after → o ≡ Some (after, t)
@@ -32,7 +23,7 @@ taken_turn t (Some done) after is = of_same (same_turn done.1 t) refl
     of_same false apart = absurd (let no : None ≡ Some after = rw apart at is in cc)
     of_same true same =
         let now : Some done.0 ≡ Some after = rw same at is in
-        ap (λ (o : Option Show). Some (unwrap_or o after, done.1)) now ∙ ap (λ (x : Turn). Some (after, x)) (same_is done.1 t same)
+        ap (λ o. Some (unwrap_or o after, done.1)) now ∙ ap (λ x. Some (after, x)) (same_is done.1 t same)
 
 abbrev pub next_show : Show → Turn → Option Show
 next_show show t = replay_turn t (turn show t.client (is_marked t))
@@ -40,17 +31,17 @@ next_show show t = replay_turn t (turn show t.client (is_marked t))
 replay_step : (show : Show) (t : Turn) (ts : List Turn) (o : Option Show) → next_show show t ≡ o
     → replay_from show (t ∷ ts) ≡ elim o as (λ _. Option Show) [ None ↦ None | Some after ↦ replay_from after ts ]
 unfolding replay_from
-replay_step show t ts o is = ap (λ (x : Option Show). elim x as (λ _. Option Show) [ None ↦ None | Some after ↦ replay_from after ts ]) is
+replay_step show t ts o is = ap (λ x. elim x as (λ _. Option Show) [ None ↦ None | Some after ↦ replay_from after ts ]) is
 
 -- an entry more is a turn more
 replay_more : (start show after : Show) (ts : List Turn) (t : Turn) → replay_from start ts ≡ Some show → next_show show t ≡ Some after
     → replay_from start (ts ++ t ∷ []) ≡ Some after
 replay_more start show after [] t reached is =
     let same : Some start ≡ Some show = sym (nothing_replayed start) ∙ reached in
-    let own : start ≡ show = ap (λ (o : Option Show). unwrap_or o show) same in
-    replay_step start t [] (Some after) (ap (λ (s : Show). next_show s t) own ∙ is) ∙ nothing_replayed after
+    let own : start ≡ show = ap (λ o. unwrap_or o show) same in
+    replay_step start t [] (Some after) (ap (λ s. next_show s t) own ∙ is) ∙ nothing_replayed after
 replay_more start show after (u ∷ us) t reached is =
-    elim (next_show start u) as (λ (o : Option Show). next_show start u ≡ o → replay_from start (u ∷ us ++ t ∷ []) ≡ Some after) [
+    elim (next_show start u) as (λ o. next_show start u ≡ o → replay_from start (u ∷ us ++ t ∷ []) ≡ Some after) [
       | None ↦ λ none. absurd (let no : None ≡ Some show = sym (replay_step start u us None none) ∙ reached in cc)
       | Some s ↦ λ some. replay_step start u (us ++ t ∷ []) (Some s) some
           ∙ replay_more s show after us t (sym (replay_step start u us (Some s) some) ∙ reached) is
@@ -85,9 +76,9 @@ module _ (script : PlainScript) (order : List Turn) (Holds : Show → Type 0) (k
       → replay_from show later ≡ Some last → Holds last
   rest_keeps [] earlier show last cut reached holds is =
       let same : Some show ≡ Some last = sym (nothing_replayed show) ∙ is in
-      subst Holds (ap (λ (o : Option Show). unwrap_or o last) same) holds
+      subst Holds (ap (λ o. unwrap_or o last) same) holds
   rest_keeps (t ∷ later) earlier show last cut reached holds is =
-      elim (next_show show t) as (λ (o : Option Show). next_show show t ≡ o → Holds last) [
+      elim (next_show show t) as (λ o. next_show show t ≡ o → Holds last) [
         | None ↦ λ none. absurd (let no : None ≡ Some last = sym (replay_step show t later None none) ∙ is in cc)
         | Some after ↦ λ some. rest_keeps later (earlier ++ t ∷ []) after last (cut ∙ sym (append_assoc earlier (t ∷ []) later))
             (replay_more (opening_show script) show after earlier t reached some)
@@ -127,7 +118,7 @@ turn_of show client m done taken = of_program (program_at show client) refl
           stands = at;
           own = own_program show client p at;
           asks = asks;
-          is = ap (λ (o : Option (Show × Turn)). unwrap_or o done) same;
+          is = ap (λ o. unwrap_or o done) same;
         }
 
     of_wanted : (p : Program) → program_at show client ≡ Some p → (o : Option Wanted) → next p ≡ o → TurnOf show client m done

@@ -1,28 +1,19 @@
 -- Worked scripts: what the plain machine and the plain player make of them.
-use Rattle.std.proofs.Common.{◌≡◌, ℕ, List, [], ◌∷◌, ◌++◌, map, Option, Some, None, codes, length, pos, refl, sym, subst}
+use Rattle.wf_turn.proofs.Common.{◌≡◌, ℕ, List, [], ◌∷◌, ◌++◌, map, Option, Some, None, length, refl, sym, subst, Size, drawn, Turn, Frame}
+use Rattle.wf_turn.proofs.Common.{act, step, Line, Verb, Name, PlainScript, Begins, IsOfMoment, Program, next, program, waiting, Show}
+use Rattle.wf_turn.proofs.Common.{opening_show, turn, serial_from, serial_order, replay_from, frames_after, replay}
+use Rattle.std.proofs.Common.{codes, pos}
 use Rattle.wf_pixel.specs.declared.Rgba.{Rgba}
-use Rattle.wf_pixel.specs.declared.Size.{Size}
 use Rattle.wf_pixel.specs.declared.Format.TheVariants.{Rgba8}
 use Rattle.wf_image.specs.declared.paint.Paint.TheVariants.{Fill}
-use Rattle.wf_image.specs.Bitmap.{drawn}
 use Rattle.wf_scene.specs.declared.attributes.ElementAttr.{ElementAttr}
 use Rattle.wf_scene.specs.declared.attributes.ElementAttr.TheVariants as element
 use Rattle.wf_calls.specs.declared.call.StatWord.TheVariants as stat
-use Rattle.wf_calls.specs.declared.order.Turn.{Turn}
-use Rattle.wf_film.specs.Film.{Frame}
-use Rattle.wf_model.specs.Step.{act, step}
-use Rattle.wf_script.specs.declared.line.Line.{Line}
 use Rattle.wf_script.specs.declared.line.Value.{Value}
 use Rattle.wf_script.specs.declared.line.Value.TheVariants as value
-use Rattle.wf_script.specs.declared.line.Verb.{Verb}
 use Rattle.wf_script.specs.declared.line.Verb.TheVariants as verb
-use Rattle.wf_script.specs.declared.name.Name.{Name}
-use Rattle.wf_script.specs.Script.{PlainScript}
 use Rattle.wf_calls.specs.declared.call.Call.TheVariants as call
-use Rattle.wf_turn.specs.Moments.{Begins, IsOfMoment}
-use Rattle.wf_turn.specs.Program.{Program, next, program, waiting}
-use Rattle.wf_turn.specs.Turns.{Show, opening_show, turn}
-use Rattle.wf_turn.specs.Play.{serial_from, serial_order, replay_from, film, frames_after, replay}
+use Rattle.wf_turn.specs.Play.{film}
 
 abbrev line : ℕ → Verb → Line
 line client v = record { client = client; name = None; verb = v }
@@ -176,5 +167,5 @@ not_at_creation begins =
     let own : Some (program created 0) ≡ Some begins.asks.program = begins.asks.own in
     let is : program created 0 ≡ begins.asks.program = cc in
     let next : next (program created 0) ≡ Some (waiting (call.BeginPort (pos 1))) =
-    subst (λ (p : Program). next p ≡ Some (waiting (call.BeginPort (pos 1)))) (sym is) begins.asks.next_is in
+    subst (λ p. next p ≡ Some (waiting (call.BeginPort (pos 1)))) (sym is) begins.asks.next_is in
     absurd cc

@@ -1,34 +1,22 @@
 -- What each call keeps of the ports' screens.
-use Rattle.std.proofs.Common.{◌≡◌, ◌∙◌, ℕ, ◌+◌, Bool, true, false, not, ◌&&◌, Option, Some, None, refl, sym, subst, arith, ap}
-use Rattle.std.specs.Prelude.{Result, Ok, Err, nat_le}
-use Rattle.std.proofs.lemmas.Bool.{and_parts}
-use Rattle.std.proofs.lemmas.Bool.Decides.{nat_tests}
-use Rattle.wf_words.specs.Keyed.{is_in}
-use Rattle.wf_pixel.specs.Choice.{same_format, same_size}
-use Rattle.wf_image.specs.declared.canvas.Canvas.{Canvas}
-use Rattle.wf_image.specs.Bitmap.{Bitmap}
-use Rattle.wf_image.specs.Contents.{image_of}
-use Rattle.wf_stream.specs.Buffers.{Buffers, acquired, is_blocked}
-use Rattle.wf_stream.specs.Streams.{KeptStream, stream_at, stream_of}
-use Rattle.wf_calls.specs.declared.call.Call.{Call}
+use Rattle.wf_turn.proofs.Common.{◌≡◌, ◌∙◌, ℕ, ◌+◌, Bool, true, false, not, ◌&&◌, Option, Some, None, refl, sym, subst, arith, ap, nat_le}
+use Rattle.wf_turn.proofs.Common.{and_parts, nat_tests, is_in, same_format, same_size, Canvas, Bitmap, image_of, Buffers, acquired}
+use Rattle.wf_turn.proofs.Common.{KeptStream, stream_at, stream_of, Call, Job, Reply, is_ok_code, home_if, is_of_frame, is_target, job_of}
+use Rattle.wf_turn.proofs.Common.{same_kind, Running, State, act, step, effect, moves_frame, is_begin, each_mapped, Code}
+use Rattle.std.specs.Prelude.{Result, Ok, Err}
+use Rattle.wf_stream.specs.Buffers.{is_blocked}
 use Rattle.wf_calls.specs.declared.call.Call.TheVariants as call
-use Rattle.wf_calls.specs.declared.call.Job.{Job}
-use Rattle.wf_calls.specs.declared.reply.Reply.{Reply}
 use Rattle.wf_calls.specs.declared.reply.Refusal.{Refusal}
 use Rattle.wf_calls.specs.declared.code.Code.TheVariants as code
-use Rattle.wf_calls.specs.Codes.{is_ok_code}
-use Rattle.wf_model.specs.Frames.{brought_home, home_if, is_of_frame, is_target, job_of, same_kind, end_frame}
+use Rattle.wf_model.specs.Frames.{brought_home, end_frame}
 use Rattle.wf_model.specs.Names.{all_names, settle_if}
 use Rattle.wf_model.specs.Outcome.{found, refuse}
-use Rattle.wf_model.specs.State.{Running, State}
-use Rattle.wf_model.specs.Step.{act, step}
 use Rattle.wf_model.specs.Streams.{acquirable, is_out_at_client, is_out_of, with_stream, stream_made}
 use Rattle.wf_turn.proofs.Screening.{AreFine, BringsHome, at_number, begun_fine, ended_fine, home_fine, of_handle, others_change}
 use Rattle.wf_turn.proofs.Screening.{unnamed_fine, Fine}
-use Rattle.wf_model.specs.Effects.{Effect, acquires, begins, composes, effect, ends, makes, moves_frame, refuses, returns, tells, unnames}
-use Rattle.wf_calls.specs.Parts.{is_begin, Register, of_device, register_of, no_register}
-use Rattle.wf_words.specs.Each.{each_filtered, each_more, each_mapped}
-use Rattle.wf_calls.specs.declared.code.Code.{Code}
+use Rattle.wf_model.specs.Effects.{Effect, acquires, begins, composes, ends, makes, refuses, returns, tells, unnames}
+use Rattle.wf_calls.specs.Parts.{Register, of_device, register_of, no_register}
+use Rattle.wf_words.specs.Each.{each_filtered, each_more}
 use Rattle.wf_model.specs.Registers.{offered}
 use Rattle.wf_words.specs.Refusals.{◌>>=◌}
 use Rattle.wf_words.specs.Options.{not_some}
@@ -87,8 +75,8 @@ module _ (n : ℕ) (Composed : ℕ → Bitmap → Type 0) where
           (and_parts (s.buffers.out && same_size canvas.image.size s.buffers.size) (same_format canvas.image.format s.buffers.format)
           out).0 in
           let draws : is_target canvas.stream h.frame ≡ true =
-          subst (λ (k : ℕ). is_target k h.frame ≡ true) own.1
-          ((own.0 (subst (λ (k : ℕ). nat_le k n ≡ true) (sym own.1) screen)).drawn first.0) in
+          subst (λ k. is_target k h.frame ≡ true) own.1
+          ((own.0 (subst (λ k. nat_le k n ≡ true) (sym own.1) screen)).drawn first.0) in
           (let no : not true ≡ true = rw draws at parts.0 in cc)
 
       of_range : (b : Bool) → nat_le canvas.stream n ≡ b → nat_le canvas.stream n ≡ false
@@ -114,7 +102,7 @@ module _ (n : ℕ) (Composed : ℕ → Bitmap → Type 0) where
           → o ≡ Some s
       live_at None same = absurd cc
       live_at (Some t) same =
-          ap (λ (x : KeptStream). Some x) (of_tests t (refuse code.Busy t.buffers.out) (λ _. refuse code.NoBuffer (is_blocked t.buffers))
+          ap (λ x. Some x) (of_tests t (refuse code.Busy t.buffers.out) (λ _. refuse code.NoBuffer (is_blocked t.buffers))
           same)
 
   settled : (b : Bool) (h : State) → AreScreens h → AreScreens (settle_if b h)
@@ -141,21 +129,21 @@ module _ (n : ℕ) (Composed : ℕ → Bitmap → Type 0) where
   effect_keeps : (h : State) (c : Call) (x : State × Reply) → Effect h c x → Carries c → AreScreens h → AreScreens x.0
   effect_keeps h c x (refuses honest left) carries are = subst AreScreens (sym left) (offered_keeps (register_of c) x.1.code h are)
   effect_keeps h c x (composes made core value is) carries are =
-      subst (λ (y : State × Reply). AreScreens y.0) (sym is) (record { streams = are.streams; numbered = are.numbered })
-  effect_keeps h c x (makes new is) carries are = subst (λ (y : State × Reply). AreScreens y.0) (sym is) (made_keeps new h are)
+      subst (λ y. AreScreens y.0) (sym is) (record { streams = are.streams; numbered = are.numbered })
+  effect_keeps h c x (makes new is) carries are = subst (λ y. AreScreens y.0) (sym is) (made_keeps new h are)
   effect_keeps h c x (unnames handle is) carries are =
-      subst (λ (y : State × Reply). AreScreens y.0) (sym is)
+      subst (λ y. AreScreens y.0) (sym is)
       (record { streams = unnamed_fine n Composed handle h.frame h.streams are.streams; numbered = are.numbered })
   effect_keeps h c x (acquires handle s at is) carries are =
-      subst (λ (y : State × Reply). AreScreens y.0) (sym is) (changed_keeps s.number acquired h (acquired_apart handle s h are at) are)
+      subst (λ y. AreScreens y.0) (sym is) (changed_keeps s.number acquired h (acquired_apart handle s h are at) are)
   effect_keeps h c x (returns canvas f way out is) carries are =
-      subst (λ (y : State × Reply). AreScreens y.0) (sym is) (changed_keeps canvas.stream f h (clients_canvas canvas h are out) are)
+      subst (λ y. AreScreens y.0) (sym is) (changed_keeps canvas.stream f h (clients_canvas canvas h are out) are)
   effect_keeps h c x (begins b free begun is) carries are =
-      subst (λ (y : State × Reply). AreScreens y.0) (sym is)
+      subst (λ y. AreScreens y.0) (sym is)
       (record { streams = begun_fine n Composed (job_of b h) h (not_some h.frame free) are.streams; numbered = are.numbered })
   effect_keeps h c x (ends job r call_is runs own is) carries are =
-      subst (λ (y : State × Reply). AreScreens y.0) (sym is) (ended_keeps job r h runs own (carries job call_is) are)
-  effect_keeps h c x (tells value is) carries are = subst (λ (y : State × Reply). AreScreens y.0) (sym is) are
+      subst (λ y. AreScreens y.0) (sym is) (ended_keeps job r h runs own (carries job call_is) are)
+  effect_keeps h c x (tells value is) carries are = subst (λ y. AreScreens y.0) (sym is) are
 
   pub step_keeps : (h : State) (client : ℕ) (c : Call) (m : Bool) → Carries c → AreScreens h → AreScreens (step h client c m).0
   unfolding step

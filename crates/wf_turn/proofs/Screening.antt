@@ -1,27 +1,17 @@
 -- What each call keeps of the streams of the ports' screens: they have no handle, their write buffers are out only while
 -- a frame draws into them, and each of their images was composed.
-use Rattle.std.proofs.Common.{◌≡◌, ℕ, Bool, true, false, not, cond, ◌&&◌, ◌||◌, ◌==◌, List, [], ◌∷◌, map, Option, Some, None, refl, sym}
-use Rattle.std.proofs.Common.{subst, arith}
-use Rattle.std.specs.Prelude.{nat_le}
-use Rattle.std.specs.Option.{IfSome}
-use Rattle.std.proofs.lemmas.Bool.{and_parts, eq-eqb, eqb-true}
-use Rattle.std.proofs.lemmas.Bool.Decides.{nat_tests}
-use Rattle.wf_words.specs.Keyed.{is_in}
-use Rattle.wf_image.specs.Bitmap.{Bitmap}
-use Rattle.wf_image.specs.Contents.{image_of}
-use Rattle.wf_stream.specs.Buffers.{Buffers, ReadBuffer, acquired, home_image, latched, newest, posted}
+use Rattle.wf_turn.proofs.Common.{◌≡◌, ℕ, Bool, true, false, not, cond, ◌&&◌, ◌||◌, ◌==◌, List, [], ◌∷◌, map, Option, Some, None, refl, sym}
+use Rattle.wf_turn.proofs.Common.{subst, arith, nat_le, IfSome, and_parts, eq-eqb, eqb-true, nat_tests, is_in, Bitmap, image_of, Buffers}
+use Rattle.wf_turn.proofs.Common.{acquired, KeptStream, stream_at, stream_of, Job, JobKind, home_if, is_target, newest_images, newest_of}
+use Rattle.wf_turn.proofs.Common.{running_of, same_kind, scene_streams, Images, Running, State, AllByRecursion, each_mapped}
+use Rattle.wf_stream.specs.Buffers.{ReadBuffer, home_image, latched, newest, posted}
 use Rattle.wf_stream.specs.Buffers.ReadBuffer.{away, home, never}
-use Rattle.wf_stream.specs.Streams.{KeptStream, change_stream, stream_at, stream_of, unnamed, has_number}
-use Rattle.wf_calls.specs.declared.call.Job.{Job}
-use Rattle.wf_calls.specs.declared.call.JobKind.{JobKind}
+use Rattle.wf_stream.specs.Streams.{change_stream, unnamed, has_number}
 use Rattle.wf_calls.specs.declared.call.JobKind.TheVariants as kind
-use Rattle.wf_model.specs.Frames.{delivered, drawing, home_if, is_target, latched_among, newest_images, newest_of, running_of, same_kind}
-use Rattle.wf_model.specs.Frames.{scene_streams, with_job}
+use Rattle.wf_model.specs.Frames.{delivered, drawing, latched_among}
+use Rattle.wf_model.specs.Frames.{with_job}
 use Rattle.wf_model.specs.Composing.{composed}
-use Rattle.wf_model.specs.Picture.{Images}
-use Rattle.wf_model.specs.State.{Running, State}
-use Rattle.std.specs.List.{AllByRecursion}
-use Rattle.wf_words.specs.Each.{each_found, each_mapped, each_other}
+use Rattle.wf_words.specs.Each.{each_found, each_other}
 use Rattle.wf_words.specs.Found.{passes}
 
 -- the streams up to a number are screens; of images, which were composed for which stream
@@ -64,7 +54,7 @@ module _ (n : ℕ) (Composed : ℕ → Bitmap → Type 0) where
   other k g out f s fine =
       elim (s.number == k) as (λ b. (s.number == k) ≡ b → Fine f (cond b (record s { buffers = g s.buffers }) s)) [
         | true ↦ λ here screen. absurd (let no : nat_le k n
-            ≡ true = subst (λ (x : ℕ). nat_le x n ≡ true) (eqb-true s.number k here) screen in cc)
+            ≡ true = subst (λ x. nat_le x n ≡ true) (eqb-true s.number k here) screen in cc)
         | false ↦ λ apart. fine
       ] refl
 
@@ -174,8 +164,8 @@ module _ (n : ℕ) (Composed : ℕ → Bitmap → Type 0) where
       of_stream (Some s) at =
           let own = at_number f k ss s are at in
           let newest_is : newest s.buffers ≡ Some image = rw at at has in
-          subst (λ (x : ℕ). Composed x image) own.1 (newest_composed f s image
-          (own.0 (subst (λ (x : ℕ). nat_le x n ≡ true) (sym own.1) screen)) newest_is)
+          subst (λ x. Composed x image) own.1 (newest_composed f s image
+          (own.0 (subst (λ x. nat_le x n ≡ true) (sym own.1) screen)) newest_is)
 
   pub newest_home : (f : Option Running) (ns : List ℕ) (ss : List KeptStream) → AreFine f ss → AreHome (newest_images ns ss)
   newest_home f [] ss are = tt
@@ -192,8 +182,8 @@ module _ (n : ℕ) (Composed : ℕ → Bitmap → Type 0) where
         | true ↦ λ here. (
             let same : x.1 ≡ image = (let is : Some x.1 ≡ Some image = rw here at has in cc) in
             let number : x.0 ≡ k = eqb-true x.0 k here in
-            subst (λ (i : Bitmap). Composed k i) same (subst (λ (m : ℕ). Composed m x.1) number
-            (are.0 (subst (λ (m : ℕ). nat_le m n ≡ true) (sym number) screen))))
+            subst (λ i. Composed k i) same (subst (λ m. Composed m x.1) number
+            (are.0 (subst (λ m. nat_le m n ≡ true) (sym number) screen))))
         | false ↦ λ apart. home_composed xs k image are.1 screen (rw apart at has)
       ] refl
 
@@ -229,7 +219,7 @@ module _ (n : ℕ) (Composed : ℕ → Bitmap → Type 0) where
             record {
               bare = is.bare;
               drawn = λ out. absurd (let no : false ≡ true = out in cc);
-              ready = subst (λ (m : ℕ). Composed m image) (sym number) (composed (subst (λ (m : ℕ). nat_le m n ≡ true) number screen));
+              ready = subst (λ m. Composed m image) (sym number) (composed (subst (λ m. nat_le m n ≡ true) number screen));
               read = is.read;
             })
         | false ↦ λ apart screen. (let is = fine screen in

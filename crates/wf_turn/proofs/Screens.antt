@@ -1,42 +1,23 @@
 -- Each image of a screen, after any order, was composed of a context's committed scene.
-use Rattle.std.proofs.Common.{◌≡◌, ◌∙◌, ℕ, ◌+◌, Bool, true, false, cond, List, [], ◌∷◌, map, length, Option, Some, None, refl, sym, subst}
-use Rattle.std.proofs.Common.{arith, Ok, pos}
-use Rattle.std.specs.Prelude.{nat_le, zip}
-use Rattle.std.specs.List.{range_with_len}
-use Rattle.std.specs.Option.{IfSome}
-use Rattle.std.proofs.lemmas.Bool.Decides.{nat_tests}
-use Rattle.wf_image.specs.Bitmap.{Bitmap}
-use Rattle.wf_scene.specs.declared.Scene.{Scene}
-use Rattle.wf_calls.specs.declared.call.Call.{Call}
+use Rattle.wf_turn.proofs.Common.{◌≡◌, ◌∙◌, ℕ, ◌+◌, Bool, true, false, cond, List, [], ◌∷◌, map, length, Option, Some, None, refl, sym}
+use Rattle.wf_turn.proofs.Common.{subst, arith, Ok, nat_le, zip, range_with_len, IfSome, nat_tests, Bitmap, Scene, Call, Job, Reply, Turn}
+use Rattle.wf_turn.proofs.Common.{entry, is_begin, job_of, newest_images, scene_streams, Beginning, begin_call, start, State, step}
+use Rattle.wf_turn.proofs.Common.{PlainScript, Wanted, Leg, is_marked, replay, Program, next, painted_job, took, worked, took_canvas}
+use Rattle.wf_turn.proofs.Common.{asked_for, plain, line_done, took_frame, given_canvas, took_job, Show, opening_show, turn, program_at}
+use Rattle.wf_turn.proofs.Common.{each_at, Leg, moves_frame, by_begin, next_is, port_is}
+use Rattle.std.proofs.Common.{pos}
 use Rattle.wf_calls.specs.declared.call.Call.TheVariants as call
-use Rattle.wf_calls.specs.declared.call.Job.{Job}
 use Rattle.wf_calls.specs.declared.reply.Payload.TheVariants as payload
-use Rattle.wf_calls.specs.declared.reply.Reply.{Reply}
-use Rattle.wf_calls.specs.declared.order.Turn.{Turn}
 use Rattle.wf_calls.specs.declared.ports.Modes.{Modes}
-use Rattle.wf_calls.specs.Codes.{entry}
-use Rattle.wf_calls.specs.Parts.{is_begin}
-use Rattle.wf_model.specs.Frames.{job_of, newest_images, scene_streams, Beginning, begin_call, start, context_beginning}
-use Rattle.wf_model.specs.State.{State, screen}
-use Rattle.wf_model.specs.Step.{step}
-use Rattle.wf_script.specs.Script.{PlainScript}
-use Rattle.wf_turn.specs.declared.stage.Wanted.{Wanted}
-use Rattle.wf_turn.specs.declared.stage.Leg.{Leg}
+use Rattle.wf_model.specs.Frames.{context_beginning}
+use Rattle.wf_model.specs.State.{screen}
 use Rattle.wf_turn.specs.declared.stage.Leg.TheVariants as leg
 use Rattle.wf_turn.specs.Moments.{Composes, IsComposed, image_after}
-use Rattle.wf_turn.specs.Play.{is_marked, replay}
-use Rattle.wf_turn.specs.Program.{Program, next, painted_job, took, worked, took_canvas, asked_for, plain, line_done, took_frame}
-use Rattle.wf_turn.specs.Program.{given_canvas, took_job}
-use Rattle.wf_turn.specs.Turns.{Show, opening_show, turn, program_at}
 use Rattle.wf_turn.proofs.Cases.{turn_case, asks_begin}
 use Rattle.wf_turn.proofs.Holding.{AllHold, handed_hold, opening_hold, took_holds, Holds}
 use Rattle.wf_turn.proofs.Replays.{Step, at_step, order_keeps, taken_turn, turn_of}
 use Rattle.wf_turn.proofs.Screening.{AreFine, AreHome, BringsHome, newest_home, screen_composed}
 use Rattle.wf_turn.proofs.ScreenCalls.{AreScreens, Carries, step_keeps, carries_none, asks_carry}
-use Rattle.wf_words.specs.Each.{each_at}
-use Rattle.wf_turn.specs.declared.stage.Leg.{Leg}
-use Rattle.wf_model.specs.Effects.{moves_frame}
-use Rattle.wf_model.specs.Beginnings.{by_begin, next_is, port_is}
 
 module _ (n : ℕ) (Composed : ℕ → Bitmap → Type 0) where
   -- a Job that a program holds brings home what was composed, once it is painted
@@ -88,8 +69,8 @@ module _ (n : ℕ) (Composed : ℕ → Bitmap → Type 0) where
         let own = next_is last h b is in
         let c = own.context in
         let its = context_beginning c.handle c.target c.committed own.buffers in
-        let told : Tells (start its h).1 = subst (λ (x : Beginning). Tells (start x h).1) own.is tells in
-        subst (λ (x : Beginning). BringsHome n Composed (painted_job (job_of x h))) (sym own.is)
+        let told : Tells (start its h).1 = subst (λ x. Tells (start x h).1) own.is tells in
+        subst (λ x. BringsHome n Composed (painted_job (job_of x h))) (sym own.is)
         (record {
           contents = contents_home c.committed;
           image = λ screen. told c.target (painted_job (job_of its h)).image (record {
@@ -105,7 +86,7 @@ module _ (n : ℕ) (Composed : ℕ → Bitmap → Type 0) where
         })
     begun_brings (leg.Ports port) asks b is tells =
         let own = port_is (pos port) h b is in
-        subst (λ (x : Beginning). BringsHome n Composed (painted_job (job_of x h))) (sym own.is)
+        subst (λ x. BringsHome n Composed (painted_job (job_of x h))) (sym own.is)
         (record { contents = contents_home own.scene; image = tt })
 
     abbrev Comes : Wanted → (Reply → Program) → Type 0
@@ -128,7 +109,7 @@ module _ (n : ℕ) (Composed : ℕ → Bitmap → Type 0) where
         (asked_for l).call m begins (λ a tells job has. absurd cc)
         (λ b is tells job has. (
         let same : job_of b h ≡ job = cc in
-        subst (λ (j : Job). BringsHome n Composed (painted_job j)) same (begun_brings l asks b is tells)))
+        subst (λ j. BringsHome n Composed (painted_job j)) same (begun_brings l asks b is tells)))
 
     begin_brings : (w : Wanted) → next p ≡ Some w → Comes w (took p)
     begin_brings w asks =
@@ -156,12 +137,12 @@ module _ (n : ℕ) (Composed : ℕ → Bitmap → Type 0) where
       let reply : Reply = (step show.state client t.wanted.call m).1 in
       let brings : Brings p.job p.unpainted = each_at (Holds Brings) show.programs client p are.programs t.own in
       let own_tells : Tells show client m p t.stands are.state reply =
-      subst (λ (x : Show × Turn). (stream : ℕ) (image : Bitmap) → Composes stream image show x.1 → Composed stream image)
+      subst (λ x. (stream : ℕ) (image : Bitmap) → Composes stream image show x.1 → Composed stream image)
       (sym t.is) tells in
       let will : WillBring (took p reply).job (took p reply).unpainted =
       took_holds WillBring tt p t.wanted reply (rw brings.0 brings.1)
       (λ begins job has. begin_brings show client m p t.stands are.state t.wanted t.asks t.asks begins own_tells job has) t.asks in
-      subst (λ (x : Show × Turn). AreComposed x.0) t.is
+      subst (λ x. AreComposed x.0) t.is
       (record {
         state = step_keeps n Composed show.state client t.wanted.call m (next_carries p t.wanted brings t.asks) are.state;
         programs = handed_hold Brings show.programs client (worked (took p reply)) (worked_brings (took p reply) will) are.programs;

@@ -1,19 +1,10 @@
 -- Serial play: a run of turns is a replay, and the beginning of the serial order.
-use Rattle.std.proofs.Common.{◌≡◌, ◌∙◌, ℕ, zero, suc, ◌+◌, ◌*◌, ◌-◌, ◌<◌, ◌≤◌, ◌==◌, true, false, cond, List, [], ◌∷◌, ◌++◌, map, length}
-use Rattle.std.proofs.Common.{Option, Some, None, refl, sym, ap, subst, arith, append-nil}
-use Rattle.std.specs.Prelude.{filter}
-use Rattle.std.specs.List.{enumerate_from}
-use Rattle.std.specs.Option.{IsSomeAnd}
-use Rattle.std.proofs.lemmas.Bool.{eq-eqb}
-use Rattle.std.proofs.lemmas.Bool.Decides.{nat_tests}
-use Rattle.wf_words.specs.Keyed.{is_in}
-use Rattle.wf_calls.specs.declared.order.Turn.{Turn}
-use Rattle.wf_script.specs.Script.{PlainScript}
-use Rattle.wf_turn.specs.Play.{IsComplete, first_client, is_marked, marks, replay, replay_from, replay_turn, same_turn, serial_from}
-use Rattle.wf_turn.specs.Play.{serial_order}
-use Rattle.wf_turn.specs.Program.{place_of}
-use Rattle.wf_turn.specs.Serial.{BeginsSerial, IsNextTurn, IsRun, IsSerial}
-use Rattle.wf_turn.specs.Turns.{Show, opening_show, turn}
+use Rattle.wf_turn.proofs.Common.{◌≡◌, ◌∙◌, ℕ, zero, suc, ◌+◌, ◌*◌, ◌-◌, ◌<◌, ◌≤◌, ◌==◌, true, false, cond, List, [], ◌∷◌, ◌++◌, map}
+use Rattle.wf_turn.proofs.Common.{length, Option, Some, None, refl, sym, ap, subst, arith, append-nil, filter, enumerate_from, IsSomeAnd}
+use Rattle.wf_turn.proofs.Common.{eq-eqb, nat_tests, is_in, Turn, PlainScript, first_client, is_marked, replay, replay_from, replay_turn}
+use Rattle.wf_turn.proofs.Common.{same_turn, serial_from, serial_order, place_of, IsNextTurn, IsRun, Show, opening_show, turn}
+use Rattle.wf_turn.specs.Play.{IsComplete, marks}
+use Rattle.wf_turn.specs.Serial.{BeginsSerial, IsSerial}
 use Rattle.wf_turn.proofs.Clients.{all_through}
 
 same_self : (t : Turn) → same_turn t t ≡ true
@@ -24,7 +15,7 @@ replay_next : (show after : Show) (t : Turn) (ts : List Turn) → turn show t.cl
     → replay_from show (t ∷ ts) ≡ replay_from after ts
 unfolding replay_from
 replay_next show after t ts e =
-    ap (λ (o : Option (Show × Turn)). elim (replay_turn t o) as (λ _. Option Show) [ None ↦ None | Some x ↦ replay_from x ts ]) e
+    ap (λ o. elim (replay_turn t o) as (λ _. Option Show) [ None ↦ None | Some x ↦ replay_from x ts ]) e
     ∙ rw (same_self t) refl
 
 pub nothing_replayed : (show : Show) → replay_from show [] ≡ Some show
@@ -32,13 +23,13 @@ unfolding replay_from
 nothing_replayed show = refl
 
 pub run_replays : (show after : Show) (ts : List Turn) → IsRun show ts after → replay_from show ts ≡ Some after
-run_replays show after [] run = nothing_replayed show ∙ ap (λ (s : Show). Some s) run
+run_replays show after [] run = nothing_replayed show ∙ ap (λ s. Some s) run
 run_replays show after (t ∷ ts) run = replay_next show run.0 t ts run.1.0.taken ∙ run_replays run.0 after ts run.1.1
 
 -- one turn more
 pub run_more : (show middle after : Show) (ts : List Turn) (t : Turn) → IsRun show ts middle → IsNextTurn middle t after
     → IsRun show (ts ++ t ∷ []) after
-run_more show middle after [] t run next = (after, (subst (λ (s : Show). IsNextTurn s t after) (sym run) next, refl))
+run_more show middle after [] t run next = (after, (subst (λ s. IsNextTurn s t after) (sym run) next, refl))
 run_more show middle after (u ∷ ts) t run next = (run.0, (run.1.0, run_more run.0 middle after ts t run.1.1 next))
 
 -- the marks of an order tell what each entry of it is
@@ -56,8 +47,8 @@ none_before n place (t ∷ ts) before =
     let rest = none_before n (place + 1) ts (omega (arith, before)) in
     elim (is_marked t)
     as (λ b. is_in n
-    (map (λ (row : ℕ × Turn). row.0) (cond b ((place, t) ∷ filter (λ (row : ℕ × Turn). is_marked row.1) (enumerate_from (place + 1) ts))
-    (filter (λ (row : ℕ × Turn). is_marked row.1) (enumerate_from (place + 1) ts)))) ≡ false) [
+    (map (λ row. row.0) (cond b ((place, t) ∷ filter (λ row. is_marked row.1) (enumerate_from (place + 1) ts))
+    (filter (λ row. is_marked row.1) (enumerate_from (place + 1) ts)))) ≡ false) [
       | true ↦ rw apart rest
       | false ↦ rest
     ]
@@ -75,9 +66,9 @@ marks_tell place (t ∷ ts) =
     let here : (place == place) ≡ true = eq-eqb place place refl in
     let more = one_more place (marks_from (place + 1) ts) (place + 1) ts (omega arith) rest in
     let nothing = none_before place (place + 1) ts (omega arith) in
-    elim (is_marked t) as (λ b. let ms = map (λ (row : ℕ × Turn). row.0)
-    (cond b ((place, t) ∷ filter (λ (row : ℕ × Turn). is_marked row.1) (enumerate_from (place + 1) ts))
-    (filter (λ (row : ℕ × Turn). is_marked row.1) (enumerate_from (place + 1) ts))) in (is_in place ms ≡ b) × Tell ms (place + 1) ts) [
+    elim (is_marked t) as (λ b. let ms = map (λ row. row.0)
+    (cond b ((place, t) ∷ filter (λ row. is_marked row.1) (enumerate_from (place + 1) ts))
+    (filter (λ row. is_marked row.1) (enumerate_from (place + 1) ts))) in (is_in place ms ≡ b) × Tell ms (place + 1) ts) [
       | true ↦ (rw here refl, more)
       | false ↦ (nothing, rest)
     ]
@@ -102,7 +93,7 @@ serial_next most place ms show after t next told = one_turn most place ms show
     of_first : (o : Option (ℕ × ℕ)) → IsSomeAnd o (λ c. c.0 ≡ t.client)
         → by_client most place ms show o ≡ t ∷ serial_from most (place + 1) ms after
     of_first None none = absurd none
-    of_first (Some c) here = ap (by_turn most place ms) (ap (λ (n : ℕ). turn show n (is_in place ms)) here ∙ ap (turn show t.client) told
+    of_first (Some c) here = ap (by_turn most place ms) (ap (λ n. turn show n (is_in place ms)) here ∙ ap (turn show t.client) told
         ∙ next.taken)
 
 -- where all are through, the serial order ends
@@ -121,16 +112,16 @@ run_serial : (most place : ℕ) (ms : List ℕ) (show after : Show) (ts : List T
 run_serial most place ms show after [] run tell few =
     let same : most ≡ most - 0 = omega arith in
     let here : place ≡ place + 0 = omega arith in
-    ap (λ (s : Show). serial_from most place ms s) run ∙ ap (λ (n : ℕ). serial_from n place ms after) same
-    ∙ ap (λ (n : ℕ). serial_from (most - 0) n ms after) here
+    ap (λ s. serial_from most place ms s) run ∙ ap (λ n. serial_from n place ms after) same
+    ∙ ap (λ n. serial_from (most - 0) n ms after) here
 run_serial zero place ms show after (t ∷ ts) run tell few = absurd (omega (arith, few))
 run_serial (suc most) place ms show after (t ∷ ts) run tell few =
     let fewer : suc most - suc (length ts) ≡ most - length ts = omega arith in
     let later : place + 1 + length ts ≡ place + suc (length ts) = omega arith in
     serial_next most place ms show run.0 t run.1.0 tell.0
-    ∙ ap (λ (us : List Turn). t ∷ us) (run_serial most (place + 1) ms run.0 after ts run.1.1 tell.1 (omega (arith, few)))
-    ∙ ap (λ (n : ℕ). t ∷ ts ++ serial_from n (place + 1 + length ts) ms after) (sym fewer)
-    ∙ ap (λ (n : ℕ). t ∷ ts ++ serial_from (suc most - suc (length ts)) n ms after) later
+    ∙ ap (λ us. t ∷ us) (run_serial most (place + 1) ms run.0 after ts run.1.1 tell.1 (omega (arith, few)))
+    ∙ ap (λ n. t ∷ ts ++ serial_from n (place + 1 + length ts) ms after) (sym fewer)
+    ∙ ap (λ n. t ∷ ts ++ serial_from (suc most - suc (length ts)) n ms after) later
 
 -- what is played from the opening of a script on
 module _ (script : PlainScript) (after : Show) (order : List Turn) (run : IsRun (opening_show script) order after)
@@ -158,6 +149,6 @@ module _ (script : PlainScript) (after : Show) (order : List Turn) (run : IsRun 
     is_serial =
         record {
           complete = complete;
-          serial = sym (begins_with ∙ ap (λ (us : List Turn). order ++ us)
+          serial = sym (begins_with ∙ ap (λ us. order ++ us)
               (serial_end (40 * length script.lines - length order) (0 + length order) (marks order) after over) ∙ append-nil order);
         }

@@ -1,34 +1,20 @@
 -- One turn of a show that is played serially.
-use Rattle.std.proofs.Common.{◌≡◌, ◌∙◌, ℕ, zero, suc, ◌+◌, ◌-◌, ◌<◌, ◌≤◌, ◌==◌, Bool, true, false, not, cond, ◌&&◌, List, [], ◌∷◌, map}
-use Rattle.std.proofs.Common.{length, Option, Some, None, refl, sym, ap, subst, arith, set, get_or, IsTrue}
-use Rattle.std.specs.Prelude.{slice_get}
-use Rattle.std.specs.Option.{IfSome, IsSome, IsSomeAnd}
-use Rattle.wf_calls.specs.declared.order.Turn.{Turn}
-use Rattle.wf_calls.specs.declared.reply.Reply.{Reply}
-use Rattle.wf_calls.specs.Codes.{entry}
-use Rattle.wf_film.specs.Film.{Frame}
-use Rattle.wf_machine.specs.Object.{IsPaintable}
-use Rattle.wf_model.specs.State.{Running, State}
-use Rattle.wf_model.specs.Step.{step}
-use Rattle.wf_script.specs.declared.line.Line.{Line}
-use Rattle.wf_script.specs.Script.{PlainScript}
-use Rattle.wf_turn.specs.Play.{first_client, is_marked}
-use Rattle.wf_turn.specs.Playing.{ArePainted, Ends, FirstEnds, HoldsPaintable, IsCast, IsReady, TakesTurn, TakesTurnAt, Turned, TurnsTo}
-use Rattle.wf_turn.specs.Playing.{all_painted, has_work, may_turn, shown_by, with_frames, with_paint}
-use Rattle.wf_turn.specs.Program.{Program, in_setup, is_work, place_of, taught, took, worked}
-use Rattle.wf_turn.specs.Quota.{all_left, left}
-use Rattle.std.proofs.lemmas.List.{length-map}
-use Rattle.wf_turn.specs.Ready.{AreOf, IsFit}
-use Rattle.wf_turn.specs.Ready.{IsWork}
+use Rattle.wf_turn.proofs.Common.{◌≡◌, ◌∙◌, ℕ, zero, suc, ◌+◌, ◌-◌, ◌<◌, ◌≤◌, ◌==◌, Bool, true, false, not, cond, ◌&&◌, List, [], ◌∷◌, map}
+use Rattle.wf_turn.proofs.Common.{length, Option, Some, None, refl, sym, ap, subst, arith, set, get_or, IsTrue, slice_get, IfSome, IsSome}
+use Rattle.wf_turn.proofs.Common.{IsSomeAnd, Turn, Reply, entry, Frame, IsPaintable, Running, State, step, Line, PlainScript, first_client}
+use Rattle.wf_turn.proofs.Common.{is_marked, ArePainted, Ends, IsCast, TakesTurn, Turned, TurnsTo, all_painted, has_work, may_turn}
+use Rattle.wf_turn.proofs.Common.{shown_by, with_frames, with_paint, Program, in_setup, is_work, place_of, taught, took, worked, all_left}
+use Rattle.wf_turn.proofs.Common.{left, length-map, AreOf, IsFit, IsWork, Show, answered, frames_of, handed_on, is_setting_up, turn}
+use Rattle.wf_turn.proofs.Common.{get_map, get_set}
+use Rattle.wf_turn.specs.Playing.{FirstEnds, HoldsPaintable, IsReady, TakesTurnAt}
 use Rattle.wf_turn.proofs.Holding.{handed_hold}
 use Rattle.wf_turn.proofs.Painting.{IsPainted}
 use Rattle.wf_turn.proofs.Works.{all_are, cast_painted, handed_here, handed_worked, paint_all, worked_painted, worked_set}
 use Rattle.wf_turn.specs.Serial.{IsFirst}
-use Rattle.wf_turn.specs.Turns.{Show, answered, frames_of, handed_on, is_setting_up, turn}
 use Rattle.wf_turn.proofs.Begins.{Leaves, ended, turn_leaves}
 use Rattle.wf_turn.proofs.Casts.{IsOf, are_handed, are_set, at_client, handed_get, handed_same, left_handed, left_set, not_handed, other_is}
 use Rattle.wf_turn.proofs.Casts.{other_set, setup_set, shown_handed}
-use Rattle.wf_words.specs.Places.{get_map, get_set, length_map, map_set}
+use Rattle.wf_words.specs.Places.{length_map, map_set}
 use Rattle.wf_turn.proofs.Clients.{first_place}
 use Rattle.wf_turn.proofs.Fitting.{fit_took}
 use Rattle.wf_turn.proofs.Keeping.{same_client, same_script}
@@ -101,7 +87,7 @@ module _ (s : Show) (client : ℕ) (p q : Program) (left_state : State) (t : Tur
   takes_turn = rw (is_not (not (client == 0) && is_setting_up s.programs) allowed, found, takes.asks, takes.ready) refl
 
   pub client_is : t.client ≡ client
-  client_is = ap (λ (x : Turn). x.client) takes.entry_is
+  client_is = ap (λ x. x.client) takes.entry_is
 
   pub turns : TurnsTo s t (shown_by painted programs_now client) show_now
   turns =
@@ -111,14 +97,14 @@ module _ (s : Show) (client : ℕ) (p q : Program) (left_state : State) (t : Tur
         frames = frames;
       } in
       record {
-        first = subst (λ (n : ℕ). IsFirst s.programs n) (sym client_is) first;
+        first = subst (λ n. IsFirst s.programs n) (sym client_is) first;
         taken =
-            ap (λ (n : ℕ). turn (with_frames [] s) n (is_marked t)) client_is
+            ap (λ n. turn (with_frames [] s) n (is_marked t)) client_is
             ∙ takes_turn
-            ∙ ap (λ (h : State). Some (show h (worked (took p W.1)) (frames_of (took p W.1)), entry client W.1)) (sym takes.state)
-            ∙ ap (λ (r : Program). Some (show left_state r (frames_of (took p W.1)), entry client W.1)) (sym takes.program)
-            ∙ ap (λ (frames : List Frame). Some (show left_state q frames, entry client W.1)) frames_are
-            ∙ ap (λ (x : Turn). Some (show left_state q (shown_by painted programs_now client), x)) (sym takes.entry_is);
+            ∙ ap (λ h. Some (show h (worked (took p W.1)) (frames_of (took p W.1)), entry client W.1)) (sym takes.state)
+            ∙ ap (λ r. Some (show left_state r (frames_of (took p W.1)), entry client W.1)) (sym takes.program)
+            ∙ ap (λ frames. Some (show left_state q frames, entry client W.1)) frames_are
+            ∙ ap (λ x. Some (show left_state q (shown_by painted programs_now client), x)) (sym takes.entry_is);
       }
 
   of_p : IsOf cast.script (0 + client) p
@@ -130,8 +116,8 @@ module _ (s : Show) (client : ℕ) (p q : Program) (left_state : State) (t : Tur
   programs_are : AreOf cast.script 0 programs_now
   programs_are =
       are_handed cast.script s.programs placed
-      (are_set cast.script 0 s.programs client p q cast.programs found (ap (λ (x : Program). x.script) takes.program ∙ same_script p W.1)
-      (ap (λ (x : Program). x.client) takes.program ∙ same_client p W.1) fit_now)
+      (are_set cast.script 0 s.programs client p q cast.programs found (ap (λ x. x.script) takes.program ∙ same_script p W.1)
+      (ap (λ x. x.client) takes.program ∙ same_client p W.1) fit_now)
 
   ends_now : (f : Running) → s.state.frame ≡ Some f → Ends f p
   ends_now f runs = rw runs at (ends_running s client p cast first found)
@@ -142,7 +128,7 @@ module _ (s : Show) (client : ℕ) (p q : Program) (left_state : State) (t : Tur
   -- a program whose lines are the same stands where it stood
   module _ (lines : (took p W.1).lines ≡ p.lines) where
     q_lines : q.lines ≡ p.lines
-    q_lines = ap (λ (x : Program). x.lines) takes.program ∙ worked_lines (took p W.1) ∙ lines
+    q_lines = ap (λ x. x.lines) takes.program ∙ worked_lines (took p W.1) ∙ lines
       where
         worked_lines : (r : Program) → (worked r).lines ≡ r.lines
         worked_lines r = by_bool r.unpainted
@@ -152,24 +138,24 @@ module _ (s : Show) (client : ℕ) (p q : Program) (left_state : State) (t : Tur
             by_bool false = refl
 
     place_is : place_of q ≡ place_of p
-    place_is = ap (λ (ls : List (ℕ × Line)). place_of (record q { lines = ls })) q_lines
+    place_is = ap (λ ls. place_of (record q { lines = ls })) q_lines
 
     setup_is : in_setup q ≡ in_setup p
     setup_is =
-        ap (λ (ls : List (ℕ × Line)). in_setup (record q { lines = ls })) q_lines
-        ∙ ap (λ (x : PlainScript). in_setup (record p { script = x })) (ap (λ (x : Program). x.script) takes.program ∙ same_script p W.1)
+        ap (λ ls. in_setup (record q { lines = ls })) q_lines
+        ∙ ap (λ x. in_setup (record p { script = x })) (ap (λ x. x.script) takes.program ∙ same_script p W.1)
 
     nothing_handed : programs_now ≡ placed
     nothing_handed = not_handed s.programs placed (setup_set s.programs client p q found setup_is)
 
     same_places : map place_of programs_now ≡ map place_of s.programs
-    same_places = ap (λ (ps : List Program). map place_of ps) nothing_handed ∙ map_set place_of s.programs client p q found place_is
+    same_places = ap (λ ps. map place_of ps) nothing_handed ∙ map_set place_of s.programs client p q found place_is
 
     same_setup : is_setting_up programs_now ≡ is_setting_up s.programs
     same_setup = ap is_setting_up nothing_handed ∙ setup_set s.programs client p q found setup_is
 
     here_now : slice_get programs_now client ≡ Some q
-    here_now = ap (λ (ps : List Program). slice_get ps client) nothing_handed ∙ get_set s.programs client p q found
+    here_now = ap (λ ps. slice_get ps client) nothing_handed ∙ get_set s.programs client p q found
 
   -- behind the turn a running frame is the first client's to end
   pub again : IsSome left_state.frame → IsFirst programs_now client × (may_turn programs_now client ≡ true)
@@ -178,22 +164,22 @@ module _ (s : Show) (client : ℕ) (p q : Program) (left_state : State) (t : Tur
       of_frame : (o : Option Running) → s.state.frame ≡ o → IsFirst programs_now client × (may_turn programs_now client ≡ true)
       of_frame (Some f) was =
           let e = ended p s.state client (is_marked t) takes.wanted f was (ends_now f was) takes.asks in
-          absurd (let no : IsSome none_running = subst (λ (o : Option Running). IsSome o) (ap (λ (h : State). h.frame) takes.state ∙ e.free)
+          absurd (let no : IsSome none_running = subst (λ o. IsSome o) (ap (λ h. h.frame) takes.state ∙ e.free)
           runs in cc)
       of_frame None free = of_now W.0.frame refl (leaves free).ends
         where
           of_now : (o : Option Running) → W.0.frame ≡ o → IfSome o (λ f. Ends f (worked (took p W.1)) × ((took p W.1).lines ≡ p.lines))
               → IsFirst programs_now client × (may_turn programs_now client ≡ true)
           of_now None is own =
-              absurd (let no : IsSome none_running = subst (λ (o : Option Running). IsSome o) (ap (λ (h : State). h.frame) takes.state ∙ is)
+              absurd (let no : IsSome none_running = subst (λ o. IsSome o) (ap (λ h. h.frame) takes.state ∙ is)
               runs in cc)
           of_now (Some f) is own = (
-            subst (λ (ns : List (Option ℕ)). IsSomeAnd (first_client ns) (λ c. c.0 ≡ client)) (sym (same_places own.1)) first,
-            ap (λ (b : Bool). not (not (client == 0) && b)) (same_setup own.1) ∙ allowed,
+            subst (λ ns. IsSomeAnd (first_client ns) (λ c. c.0 ≡ client)) (sym (same_places own.1)) first,
+            ap (λ b. not (not (client == 0) && b)) (same_setup own.1) ∙ allowed,
           )
 
   alone_now : IfSome left_state.frame (FirstEnds programs_now)
-  alone_now = subst (λ (o : Option Running). IfSome o (FirstEnds programs_now)) (sym (ap (λ (h : State). h.frame) takes.state))
+  alone_now = subst (λ o. IfSome o (FirstEnds programs_now)) (sym (ap (λ h. h.frame) takes.state))
       (of_frame s.state.frame refl)
     where
       of_frame : (o : Option Running) → s.state.frame ≡ o → IfSome W.0.frame (FirstEnds programs_now)
@@ -214,7 +200,7 @@ module _ (s : Show) (client : ℕ) (p q : Program) (left_state : State) (t : Tur
               → IfSome o (FirstEnds programs_now)
           of_now None own = tt
           of_now (Some f) own =
-              subst (λ (ns : List (Option ℕ)). IfSome (first_client ns) (λ c. IfSome (slice_get programs_now c.0) (Ends f)))
+              subst (λ ns. IfSome (first_client ns) (λ c. IfSome (slice_get programs_now c.0) (Ends f)))
               (sym (same_places own.1))
               (of_first f own.1 (subst (Ends f) (sym takes.program) own.0) (first_client (map place_of s.programs)) refl first)
 
@@ -240,7 +226,7 @@ module _ (s : Show) (client : ℕ) (p q : Program) (left_state : State) (t : Tur
       omega (arith, left_handed s.programs placed, left_set s.programs client p q found, less, ap left takes.program)
 
   pub paintable : IsTrue painted → HoldsPaintable programs_now client
-  paintable is = handed_get (λ (r : Program). IsSomeAnd r.job IsPaintable) (λ clock r can. can) s.programs placed client q
+  paintable is = handed_get (λ r. IsSomeAnd r.job IsPaintable) (λ clock r can. can) s.programs placed client q
       (get_set s.programs client p q found) (takes.paintable is)
 
   pub begun : left_state.frame ≡ None → shown_by painted programs_now client ≡ []
@@ -248,14 +234,14 @@ module _ (s : Show) (client : ℕ) (p q : Program) (left_state : State) (t : Tur
     where
       of_frame : (o : Option Running) → s.state.frame ≡ o → frames_of (took p W.1) ≡ []
       of_frame (Some f) was = (ended p s.state client (is_marked t) takes.wanted f was (ends_now f was) takes.asks).shows
-      of_frame None free = (leaves free).shows (sym (ap (λ (h : State). h.frame) takes.state) ∙ free_now)
+      of_frame None free = (leaves free).shows (sym (ap (λ h. h.frame) takes.state) ∙ free_now)
 
   pub ended_shows : IsSome s.state.frame → shown_by painted programs_now client ≡ []
   ended_shows runs = sym frames_are ∙ of_frame s.state.frame refl
     where
       of_frame : (o : Option Running) → s.state.frame ≡ o → frames_of (took p W.1) ≡ []
       of_frame (Some f) was = (ended p s.state client (is_marked t) takes.wanted f was (ends_now f was) takes.asks).shows
-      of_frame None free = absurd (let no : IsSome none_running = subst (λ (o : Option Running). IsSome o) free runs in cc)
+      of_frame None free = absurd (let no : IsSome none_running = subst (λ o. IsSome o) free runs in cc)
 
 -- the program whose turn it is, if the client is one of the eight
 pub ready : (s : Show) (client : ℕ) → IsCast s → IsFirst s.programs client → client < 8
@@ -286,12 +272,12 @@ pub record HasTurn (s : Show) (client : ℕ) : Type 0 where
 pub has_turn : (s seen : Show) (client : ℕ) → s ≡ seen → IsCast (all_painted s) → ArePainted seen.programs → IsFirst seen.programs client
     → may_turn seen.programs client ≡ true → client < 8 → HasTurn s client
 has_turn s seen client is cast are first allowed within =
-    let here : ArePainted s.programs = subst (λ (v : Show). ArePainted v.programs) (sym is) are in
+    let here : ArePainted s.programs = subst (λ v. ArePainted v.programs) (sym is) are in
     record {
       are = here;
       cast = cast_painted s here cast;
-      first = subst (λ (v : Show). IsFirst v.programs client) (sym is) first;
-      allowed = subst (λ (v : Show). may_turn v.programs client ≡ true) (sym is) allowed;
+      first = subst (λ v. IsFirst v.programs client) (sym is) first;
+      allowed = subst (λ v. may_turn v.programs client ≡ true) (sym is) allowed;
       within = within;
     }
 
@@ -327,11 +313,11 @@ module _ (s : Show) (client : ℕ) (h : State) (placed : List Program) (t : Turn
   are_worked = handed_hold IsPainted s.programs client (worked taken.now) (worked_painted taken.now) has.are
 
   here : slice_get show_left.programs client ≡ Some taken.now
-  here = ap (λ (ps : List Program). slice_get (handed_on s.programs ps) client) taken.placed_is
+  here = ap (λ ps. slice_get (handed_on s.programs ps) client) taken.placed_is
       ∙ handed_here s.programs client taken.before taken.now taken.found
 
   painted_is : with_paint client show_left.programs ≡ worked_programs
-  painted_is = ap (λ (ps : List Program). with_paint client (handed_on s.programs ps)) taken.placed_is
+  painted_is = ap (λ ps. with_paint client (handed_on s.programs ps)) taken.placed_is
       ∙ handed_worked s.programs client taken.before taken.now taken.found
 
   pub are_after : ArePainted (with_paint client show_left.programs)
@@ -346,14 +332,14 @@ module _ (s : Show) (client : ℕ) (h : State) (placed : List Program) (t : Turn
   pub cast_after : IsCast (all_painted show_left)
   cast_after =
       let same : map worked show_left.programs ≡ worked_programs = sym (paint_all client show_left.programs)
-      ∙ ap (λ (ps : List Program). map worked ps) painted_is ∙ all_are worked_programs are_worked in
-      subst (λ (ps : List Program). IsCast (with_programs ps)) (sym same)
+      ∙ ap (λ ps. map worked ps) painted_is ∙ all_are worked_programs are_worked in
+      subst (λ ps. IsCast (with_programs ps)) (sym same)
       (cast_now s client taken.before (worked taken.now) h t (is_work taken.now) has.cast has.first has.allowed taken.found taken.turn_is)
 
   pub turned : Turned s client (with_programs (with_paint client show_left.programs)) t (has_work client show_left.programs)
   turned =
-      subst (λ (ps : List Program). Turned s client (with_programs ps) t (has_work client show_left.programs)) (sym painted_is)
-      (subst (λ (b : Bool). Turned s client (with_programs worked_programs) t b) (sym work_is) turned_worked)
+      subst (λ ps. Turned s client (with_programs ps) t (has_work client show_left.programs)) (sym painted_is)
+      (subst (λ b. Turned s client (with_programs worked_programs) t b) (sym work_is) turned_worked)
     where
       work_is : has_work client show_left.programs ≡ is_work taken.now
       work_is = rw here refl
@@ -383,11 +369,11 @@ module _ (s : Show) (client : ℕ) (h : State) (placed : List Program) (t : Turn
       let p = taken.before in
       let one = taken.turn_is in
       let reply = (step s.state client one.wanted.call (is_marked t)).1 in
-      let set_is : map worked placed ≡ set s.programs client (worked taken.now) = ap (λ (ps : List Program). map worked ps) taken.placed_is
+      let set_is : map worked placed ≡ set s.programs client (worked taken.now) = ap (λ ps. map worked ps) taken.placed_is
       ∙ worked_set s.programs client taken.now has.are in
-      subst (λ (ps : List Program). AreOf has.cast.script 0 ps) (sym set_is)
+      subst (λ ps. AreOf has.cast.script 0 ps) (sym set_is)
       (are_set has.cast.script 0 s.programs client p (worked taken.now) has.cast.programs taken.found
-      (ap (λ (x : Program). x.script) one.program ∙ same_script p reply) (ap (λ (x : Program). x.client) one.program
+      (ap (λ x. x.script) one.program ∙ same_script p reply) (ap (λ x. x.client) one.program
       ∙ same_client p reply)
       (subst IsFit (sym one.program) (fit_took p reply (of s client p has.cast has.first taken.found).fit)))
 
@@ -395,8 +381,8 @@ module _ (s : Show) (client : ℕ) (h : State) (placed : List Program) (t : Turn
 pub handed_is : (clock now : Program) (others behind : List Program) (was : Bool) (items : List Program) → was ≡ in_setup clock
     → items ≡ cond (was && not (in_setup now)) (map (taught now) behind) behind → now ∷ items ≡ handed_on (clock ∷ others) (now ∷ behind)
 handed_is clock now others behind was items was_is items_is =
-    ap (λ (ps : List Program). now ∷ ps) items_is
-    ∙ ap (λ (b : Bool). now ∷ cond (b && not (in_setup now)) (map (taught now) behind) behind) was_is
+    ap (λ ps. now ∷ ps) items_is
+    ∙ ap (λ b. now ∷ cond (b && not (in_setup now)) (map (taught now) behind) behind) was_is
     ∙ by_bool (in_setup clock && not (in_setup now))
   where
     by_bool : (b : Bool) → now ∷ cond b (map (taught now) behind) behind ≡ cond b (now ∷ map (taught now) behind) (now ∷ behind)
@@ -427,7 +413,7 @@ other_turned clock others client h left_state d q t apart is takes work =
       q,
       (
         other_set clock others client q apart,
-        subst (λ (x : Program). TakesTurn client h left_state x (worked q) t (is_work q)) (sym same) takes,
+        subst (λ x. TakesTurn client h left_state x (worked q) t (is_work q)) (sym same) takes,
         work,
       ),
     )
@@ -457,7 +443,7 @@ other_painted clock others client d apart is some = of_program (slice_get (clock
     of_program None none is_there = absurd cc
     of_program (Some p) found is_there =
         let same : p ≡ d = other_is clock others client d apart is (Some p) found in (
-          other_set clock others client (worked d) apart ∙ ap (λ (x : Program). set (clock ∷ others) client (worked x)) (sym same)
+          other_set clock others client (worked d) apart ∙ ap (λ x. set (clock ∷ others) client (worked x)) (sym same)
               ∙ rw found refl,
           ap is_work (sym same) ∙ rw found refl,
         )

@@ -1,21 +1,13 @@
 -- One line more that makes no event.
-use Rattle.std.proofs.Common.{◌≡◌, ◌∙◌, ℕ, zero, suc, ◌+◌, ◌<◌, ◌≤◌, ◌==◌, Bool, true, false, cond, List, [], ◌∷◌, ◌++◌, length, take, drop}
-use Rattle.std.proofs.Common.{get_or, Option, Some, None, refl, sym, ap, arith, append-nil, ◌&&◌}
-use Rattle.std.proofs.lemmas.Bool.{and_parts, eqb-true}
-use Rattle.std.proofs.lemmas.List.{drop_more}
+use Rattle.wf_turn.proofs.Common.{◌≡◌, ◌∙◌, ℕ, zero, suc, ◌+◌, ◌<◌, ◌≤◌, ◌==◌, Bool, true, false, cond, List, [], ◌∷◌, ◌++◌, length, take}
+use Rattle.wf_turn.proofs.Common.{drop, get_or, Option, Some, None, refl, sym, ap, arith, append-nil, ◌&&◌, and_parts, eqb-true, drop_more}
+use Rattle.wf_turn.proofs.Common.{slice_get, filter, option_to_list, enumerate_from, list_all, is_some, Canvas, Line, Verb, Name, IsPlace}
+use Rattle.wf_turn.proofs.Common.{is_event_of, bound_by, bound_name, bound_names, is_event, lines_from, silent, skipped}
 use Rattle.std.proofs.lemmas.Option.{slice_get_past}
-use Rattle.std.specs.Prelude.{slice_get, filter, option_to_list}
-use Rattle.std.specs.List.{enumerate_from, list_all}
-use Rattle.std.specs.Option.{is_some}
-use Rattle.wf_image.specs.declared.canvas.Canvas.{Canvas}
-use Rattle.wf_script.specs.declared.line.Line.{Line}
-use Rattle.wf_script.specs.declared.line.Verb.{Verb}
 use Rattle.wf_script.specs.declared.line.Verb.TheVariants as verb
-use Rattle.wf_script.specs.declared.name.Name.{Name}
 use Rattle.wf_script.specs.Script.{is_line}
-use Rattle.wf_turn.specs.Passing.{IsPlace, is_event_of, passed}
-use Rattle.wf_turn.specs.Names.{bound_by, bound_name, bound_names, is_creation}
-use Rattle.wf_turn.specs.Program.{is_event, lines_from, silent, skipped}
+use Rattle.wf_turn.specs.Passing.{passed}
+use Rattle.wf_turn.specs.Names.{is_creation}
 use Rattle.wf_turn.proofs.Values.{names_more}
 
 pub get_within : {A : Type 0} (xs : List A) (i : ℕ) (d : A) → i < length xs → slice_get xs i ≡ Some (get_or xs i d)
@@ -27,11 +19,11 @@ get_within (x ∷ xs) (suc i) d within = get_within xs i d (omega (arith, within
 pub lines_at : (client at : ℕ) (lines : List Line) (l : Line) → at < length lines → l ≡ get_or lines at l
     → lines_from client at lines ≡ cond (l.client == client) ((at, l) ∷ lines_from client (at + 1) lines) (lines_from client (at + 1) lines)
 lines_at client at lines l within is =
-    ap (λ (ls : List Line). filter (λ (m : ℕ × Line). m.1.client == client) (enumerate_from at ls)) (drop_more lines at l within
-    ∙ ap (λ (m : Line). m ∷ drop (at + 1) lines) (sym is))
+    ap (λ ls. filter (λ m. m.1.client == client) (enumerate_from at ls)) (drop_more lines at l within
+    ∙ ap (λ m. m ∷ drop (at + 1) lines) (sym is))
 
 pub lines_end : (client at : ℕ) (lines : List Line) → length lines ≤ at → lines_from client at lines ≡ []
-lines_end client at lines over = ap (λ (ls : List Line). filter (λ (m : ℕ × Line). m.1.client == client) (enumerate_from at ls))
+lines_end client at lines over = ap (λ ls. filter (λ m. m.1.client == client) (enumerate_from at ls))
     (none lines at over)
   where
     none : {A : Type 0} (xs : List A) (i : ℕ) → length xs ≤ i → drop i xs ≡ []
@@ -46,7 +38,7 @@ place_end client at lines within over = record { within = within; here = rw (sli
 pub place_here : (client at : ℕ) (lines : List Line) (l : Line) → at < length lines → l ≡ get_or lines at l → (l.client == client) ≡ true
     → IsPlace client at lines
 place_here client at lines l within is here =
-    let same : (get_or lines at l).client ≡ client = ap (λ (m : Line). m.client) (sym is) ∙ eqb-true l.client client here in
+    let same : (get_or lines at l).client ≡ client = ap (λ m. m.client) (sym is) ∙ eqb-true l.client client here in
     record { within = omega (arith, within); here = rw (get_within lines at l within) same }
 
 -- a line that makes no event binds no name
@@ -61,7 +53,7 @@ binds_none held _ silent = absurd cc
 nothing_bound : (client at : ℕ) (lines : List Line) (l : Line) → at < length lines → l ≡ get_or lines at l → bound_by client l ≡ None
     → bound_names client (take (at + 1) lines) ≡ bound_names client (take at lines)
 nothing_bound client at lines l within is none =
-    names_more client lines at l within is ∙ ap (λ (o : Option Name). bound_names client (take at lines) ++ option_to_list o) none
+    names_more client lines at l within is ∙ ap (λ o. bound_names client (take at lines) ++ option_to_list o) none
     ∙ append-nil (bound_names client (take at lines))
 
 -- at a line of the client that makes an event all is passed
@@ -70,11 +62,11 @@ stopped : (client at : ℕ) (lines : List Line) (l : Line) (canvas : Option Canv
     → skipped canvas (lines_from client at lines) ≡ (canvas, lines_from client at lines)
 stopped client at lines l canvas within is own event =
     let here : lines_from client at lines ≡ (at, l) ∷ lines_from client (at + 1) lines = lines_at client at lines l within is
-    ∙ ap (λ (b : Bool). cond b ((at, l) ∷ lines_from client (at + 1) lines) (lines_from client (at + 1) lines)) own in
+    ∙ ap (λ b. cond b ((at, l) ∷ lines_from client (at + 1) lines) (lines_from client (at + 1) lines)) own in
     ap (skipped canvas) here
-    ∙ ap (λ (b : Bool). cond b (canvas, (at, l) ∷ lines_from client (at + 1) lines)
+    ∙ ap (λ b. cond b (canvas, (at, l) ∷ lines_from client (at + 1) lines)
     (skipped (silent l.verb canvas) (lines_from client (at + 1) lines))) event
-    ∙ ap (λ (ls : List (ℕ × Line)). (canvas, ls)) (sym here)
+    ∙ ap (λ ls. (canvas, ls)) (sym here)
 
 -- what stands where there is no event of the client
 quiet_at : (client at : ℕ) (lines : List Line) (l : Line) (canvas : Option Canvas) → at < length lines → l ≡ get_or lines at l
@@ -83,15 +75,15 @@ quiet_at : (client at : ℕ) (lines : List Line) (l : Line) (canvas : Option Can
     × (bound_by client l ≡ None)
 quiet_at client at lines l canvas within is false event other makes quiet = (
   ap (skipped canvas) (lines_at client at lines l within is
-      ∙ ap (λ (b : Bool). cond b ((at, l) ∷ lines_from client (at + 1) lines) (lines_from client (at + 1) lines)) other),
-  ap (λ (b : Bool). cond b (bound_name l) None) other,
+      ∙ ap (λ b. cond b ((at, l) ∷ lines_from client (at + 1) lines) (lines_from client (at + 1) lines)) other),
+  ap (λ b. cond b (bound_name l) None) other,
 )
 quiet_at client at lines l canvas within is true event own makes quiet =
     let rest = lines_from client (at + 1) lines in
     let none = makes ∙ quiet in (
-      ap (skipped canvas) (lines_at client at lines l within is ∙ ap (λ (b : Bool). cond b ((at, l) ∷ rest) rest) own)
-          ∙ ap (λ (b : Bool). cond b (canvas, (at, l) ∷ rest) (skipped (silent l.verb canvas) rest)) none,
-      ap (λ (b : Bool). cond b (bound_name l) None) own ∙ ap (λ (b : Bool). cond b l.name None) (binds_none (is_some canvas) l.verb none),
+      ap (skipped canvas) (lines_at client at lines l within is ∙ ap (λ b. cond b ((at, l) ∷ rest) rest) own)
+          ∙ ap (λ b. cond b (canvas, (at, l) ∷ rest) (skipped (silent l.verb canvas) rest)) none,
+      ap (λ b. cond b (bound_name l) None) own ∙ ap (λ b. cond b l.name None) (binds_none (is_some canvas) l.verb none),
     )
 
 -- a line that makes no event of the client is passed

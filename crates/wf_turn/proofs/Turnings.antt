@@ -1,25 +1,11 @@
 -- One turn of a program.
-use Rattle.std.proofs.Common.{◌≡◌, ◌∙◌, ℕ, Bool, true, false, ◌==◌, ◌&&◌, List, [], ◌∷◌, Option, Some, None, refl, sym, ap, subst, IsTrue}
-use Rattle.std.specs.Option.{is_some, IfSome, IsSome, IsSomeAnd}
-use Rattle.wf_image.specs.Bitmap.{drawn}
-use Rattle.wf_calls.specs.declared.call.Job.{Job}
-use Rattle.wf_calls.specs.declared.order.Turn.{Turn}
-use Rattle.wf_calls.specs.declared.reply.Reply.{Reply}
-use Rattle.wf_calls.specs.declared.code.Code.{Code}
+use Rattle.wf_turn.proofs.Common.{◌≡◌, ◌∙◌, ℕ, Bool, true, false, ◌==◌, ◌&&◌, List, [], ◌∷◌, Option, Some, None, refl, sym, ap, subst}
+use Rattle.wf_turn.proofs.Common.{IsTrue, is_some, IfSome, IsSome, IsSomeAnd, drawn, Job, Turn, Reply, Code, entry, is_out_of_memory, Frame}
+use Rattle.wf_turn.proofs.Common.{IsPaintable, is_running, Running, State, step, Line, Wanted, is_marked, Answers, Ends, TakesTurn}
+use Rattle.wf_turn.proofs.Common.{frames_if, Program, first_line, handed, is_work, next, painted_job, place_of, took, worked, IsFit, IsWork}
+use Rattle.wf_turn.proofs.Common.{frames_of}
 use Rattle.wf_calls.specs.declared.code.Code.TheVariants as code
-use Rattle.wf_calls.specs.Codes.{code_number, entry, is_out_of_memory}
-use Rattle.wf_film.specs.Film.{Frame}
-use Rattle.wf_machine.specs.Object.{IsPaintable}
-use Rattle.wf_model.specs.Frames.{is_running}
-use Rattle.wf_model.specs.State.{Running, State}
-use Rattle.wf_model.specs.Step.{step}
-use Rattle.wf_script.specs.declared.line.Line.{Line}
-use Rattle.wf_turn.specs.declared.stage.Wanted.{Wanted}
-use Rattle.wf_turn.specs.Play.{is_marked}
-use Rattle.wf_turn.specs.Playing.{Answers, Ends, TakesTurn, frames_if}
-use Rattle.wf_turn.specs.Program.{Program, first_line, handed, is_work, next, painted_job, place_of, took, worked}
-use Rattle.wf_turn.specs.Ready.{IsFit, IsWork}
-use Rattle.wf_turn.specs.Turns.{frames_of}
+use Rattle.wf_calls.specs.Codes.{code_number}
 use Rattle.wf_turn.proofs.Answering.{IsSame, same_outcome, took_handed}
 use Rattle.wf_turn.proofs.Begins.{ended}
 use Rattle.wf_turn.proofs.Painting.{took_work}
@@ -95,10 +81,10 @@ turn_taken client h left p now w t fit alone asks answers = (takes, subst IsWork
     work = took_work p h client w reply fit.painted answers.may asks
 
     is_ready : (o : Option Running) → h.frame ≡ o → (w.wait && is_running h) ≡ false
-    is_ready None free = ap (λ (o : Option Running). w.wait && is_some o) free ∙ and_false w.wait
+    is_ready None free = ap (λ o. w.wait && is_some o) free ∙ and_false w.wait
     is_ready (Some f) runs =
         let e = ended p h client false w f runs (rw runs at alone) asks in
-        ap (λ (b : Bool). b && is_running h) e.plain_is
+        ap (λ b. b && is_running h) e.plain_is
 
     takes : TakesTurn client h left p (worked now) t (is_work now)
     takes =
@@ -113,18 +99,18 @@ turn_taken client h left p now w t fit alone asks answers = (takes, subst IsWork
           wanted = w;
           asks = asks;
           ready = is_ready h.frame refl;
-          state = answers.left_is ∙ ap (λ (m : Bool). (W m).0) (sym marks);
-          program = now_w ∙ ap (λ (x : Program × List Frame). x.0) both ∙ ap (λ (m : Bool). worked (took p (W m).1)) (sym marks);
+          state = answers.left_is ∙ ap (λ m. (W m).0) (sym marks);
+          program = now_w ∙ ap (λ x. x.0) both ∙ ap (λ m. worked (took p (W m).1)) (sym marks);
           entry_is =
               answers.entry_is
-              ∙ ap (λ (c : Code). record { client = client; code = code_number c; value = reply.value }) answers.may.code
-              ∙ ap (λ (v : ℕ). record { client = client; code = code_number wanted.code; value = v }) answers.may.value
-              ∙ ap (λ (m : Bool). entry client (W m).1) (sym marks);
+              ∙ ap (λ c. record { client = client; code = code_number c; value = reply.value }) answers.may.code
+              ∙ ap (λ v. record { client = client; code = code_number wanted.code; value = v }) answers.may.value
+              ∙ ap (λ m. entry client (W m).1) (sym marks);
           frames =
-              ap (λ (m : Bool). frames_of (took p (W m).1)) marks
-              ∙ sym (ap (λ (x : Program × List Frame). x.1) both)
+              ap (λ m. frames_of (took p (W m).1)) marks
+              ∙ sym (ap (λ x. x.1) both)
               ∙ work_frames q
-              ∙ ap (λ (b : Bool). frames_if b (worked q)) (sym work_is)
+              ∙ ap (λ b. frames_if b (worked q)) (sym work_is)
               ∙ ap (frames_if (is_work now)) (sym now_w);
-          paintable = λ is. subst (λ (x : Program). IsSomeAnd x.job IsPaintable) (sym now_w) (still_paintable q work (sym work_is ∙ is));
+          paintable = λ is. subst (λ x. IsSomeAnd x.job IsPaintable) (sym now_w) (still_paintable q work (sym work_is ∙ is));
         }

@@ -1,15 +1,9 @@
 -- Names with their values: how they are found, and how they are listed.
-use Rattle.std.proofs.Common.{◌≡◌, ◌∙◌, ℕ, zero, suc, ◌+◌, ◌<◌, ◌≤◌, true, false, cond, List, [], ◌∷◌, ◌++◌, length, take, get_or, Option}
-use Rattle.std.proofs.Common.{Some, None, refl, sym, ap, arith}
+use Rattle.wf_turn.proofs.Common.{◌≡◌, ◌∙◌, ℕ, zero, suc, ◌+◌, ◌<◌, ◌≤◌, true, false, cond, List, [], ◌∷◌, ◌++◌, length, take, get_or}
+use Rattle.wf_turn.proofs.Common.{Option, Some, None, refl, sym, ap, arith, filter_map-append, slice_get, zip, find, option_to_list}
+use Rattle.wf_turn.proofs.Common.{option_map, bytes_eq, Line, Name, next_place, place_in, bound_by, bound_names, value_of}
 use Rattle.std.proofs.lemmas.List.{take_more, length-take}
-use Rattle.std.proofs.lemmas.List.Elements.{filter_map-append}
-use Rattle.std.specs.Prelude.{slice_get, zip, find, filter_map, option_to_list}
-use Rattle.std.specs.Option.{option_map}
-use Rattle.std.specs.Str.{bytes_eq}
-use Rattle.wf_script.specs.declared.line.Line.{Line}
-use Rattle.wf_script.specs.declared.name.Name.{Name}
-use Rattle.wf_turn.specs.Index.{next_place, place_in}
-use Rattle.wf_turn.specs.Names.{bound_by, bound_names, value_of}
+use Rattle.std.specs.Prelude.{filter_map}
 
 abbrev pub value_at : List ℕ → Option ℕ → Option ℕ
 value_at values None = None
@@ -26,8 +20,8 @@ found_at name (n ∷ names) [] = nowhere (cond (bytes_eq n name) (Some zero) (ne
     nowhere (Some i) = refl
 found_at name (n ∷ names) (v ∷ values) =
     elim (bytes_eq n name) as (λ b. value_at (v ∷ values) (cond b (Some zero) (next_place (place_in name names)))
-    ≡ option_map (λ (row : Name × ℕ). row.1) (cond b (Some (n, v))
-    (find (λ (row : Name × ℕ). bytes_eq row.0 name) (zip names values)))) [
+    ≡ option_map (λ row. row.1) (cond b (Some (n, v))
+    (find (λ row. bytes_eq row.0 name) (zip names values)))) [
       | true ↦ refl
       | false ↦ next (place_in name names) ∙ found_at name names values
     ]
@@ -42,10 +36,10 @@ pub names_more : (client : ℕ) (lines : List Line) (i : ℕ) (l : Line) → i <
 names_more client lines i l within is =
     ap (bound_names client) (take_more lines i l within)
     ∙ filter_map-append (bound_by client) (take i lines) (get_or lines i l ∷ [])
-    ∙ ap (λ (names : List Name). bound_names client (take i lines) ++ names) (of_one (get_or lines i l)
-    ∙ ap (λ (m : Line). option_to_list (bound_by client m)) (sym is))
+    ∙ ap (λ names. bound_names client (take i lines) ++ names) (of_one (get_or lines i l)
+    ∙ ap (λ m. option_to_list (bound_by client m)) (sym is))
   where
-    one : (o : Option Name) → filter_map (λ (p : Option Name). p) (o ∷ []) ≡ option_to_list o
+    one : (o : Option Name) → filter_map (λ p. p) (o ∷ []) ≡ option_to_list o
     one None = refl
     one (Some n) = refl
 
@@ -71,5 +65,5 @@ pub names_step : (client : ℕ) (lines : List Line) (i : ℕ) (l : Line) (old ne
     → old ≡ bound_names client (take i lines) → o ≡ bound_by client l → i < length lines → l ≡ get_or lines i l
     → new ≡ bound_names client (take (i + 1) lines)
 names_step client lines i l old new o is was one within at =
-    is ∙ ap (λ (names : List Name). names ++ option_to_list o) was
-    ∙ ap (λ (p : Option Name). bound_names client (take i lines) ++ option_to_list p) one ∙ sym (names_more client lines i l within at)
+    is ∙ ap (λ names. names ++ option_to_list o) was
+    ∙ ap (λ p. bound_names client (take i lines) ++ option_to_list p) one ∙ sym (names_more client lines i l within at)

@@ -1,14 +1,9 @@
 -- The Job that a turn leaves, before it is painted and then.
-use Rattle.std.proofs.Common.{◌≡◌, ℕ, ◌+◌, zero, suc, Bool, true, false, ◌&&◌, not, cond, List, [], ◌∷◌, map, set, slice_get, option_map}
-use Rattle.std.proofs.Common.{Option, Some, None, refl, sym, ap, subst, ◌∙◌}
+use Rattle.wf_turn.proofs.Common.{◌≡◌, ℕ, ◌+◌, zero, suc, Bool, true, false, ◌&&◌, not, cond, List, [], ◌∷◌, map, set, Option, Some, None}
+use Rattle.wf_turn.proofs.Common.{refl, sym, ap, subst, ◌∙◌, All-cons, All-nil, PlainScript, ArePainted, IsCast, all_painted, with_paint}
+use Rattle.wf_turn.proofs.Common.{Program, in_setup, painted_job, taught, worked, AreOf, Show, handed_on, get_set}
+use Rattle.std.proofs.Common.{slice_get, option_map}
 use Rattle.std.specs.List.{All}
-use Rattle.std.proofs.lemmas.List.Elements.{All-cons, All-nil}
-use Rattle.wf_script.specs.Script.{PlainScript}
-use Rattle.wf_turn.specs.Playing.{ArePainted, IsCast, all_painted, with_paint}
-use Rattle.wf_turn.specs.Program.{Program, in_setup, painted_job, taught, worked}
-use Rattle.wf_turn.specs.Ready.{AreOf}
-use Rattle.wf_turn.specs.Turns.{Show, handed_on}
-use Rattle.wf_words.specs.Places.{get_set}
 use Rattle.wf_turn.proofs.Casts.{not_handed}
 
 -- a program by whether its Job is to be painted
@@ -31,16 +26,16 @@ worked_client p = elim p.unpainted as (λ b. (worked_if b p).client ≡ p.client
 -- where nothing is to be painted, painting changes nothing
 pub all_are : (ps : List Program) → ArePainted ps → map worked ps ≡ ps
 all_are [] painted = refl
-all_are (p ∷ ps) painted = ap (λ (q : Program). q ∷ map worked ps) (worked_none p painted.0)
-    ∙ ap (λ (qs : List Program). p ∷ qs) (all_are ps painted.1)
+all_are (p ∷ ps) painted = ap (λ q. q ∷ map worked ps) (worked_none p painted.0)
+    ∙ ap (λ qs. p ∷ qs) (all_are ps painted.1)
 
 -- one program that is not painted among painted ones
 pub worked_set : (ps : List Program) (i : ℕ) (q : Program) → ArePainted ps → map worked (set ps i q) ≡ set ps i (worked q)
 worked_set [] i q painted = refl
-worked_set (p ∷ ps) zero q painted = ap (λ (qs : List Program). worked q ∷ qs) (all_are ps painted.1)
+worked_set (p ∷ ps) zero q painted = ap (λ qs. worked q ∷ qs) (all_are ps painted.1)
 worked_set (p ∷ ps) (suc i) q painted =
-    ap (λ (r : Program). r ∷ map worked (set ps i q)) (worked_none p painted.0)
-    ∙ ap (λ (qs : List Program). p ∷ qs) (worked_set ps i q painted.1)
+    ap (λ r. r ∷ map worked (set ps i q)) (worked_none p painted.0)
+    ∙ ap (λ qs. p ∷ qs) (worked_set ps i q painted.1)
 
 -- a Job that is painted already stays as it is
 pub paint_all : (client : ℕ) (ps : List Program) → map worked (with_paint client ps) ≡ map worked ps
@@ -50,8 +45,8 @@ paint_all client ps = of_program (slice_get ps client) refl
     once_more [] i p found = absurd cc
     once_more (q ∷ qs) zero p found =
         let same : q ≡ p = cc in
-        ap (λ (r : Program). r ∷ map worked qs) (worked_none (worked p) (worked_painted p) ∙ ap worked (sym same))
-    once_more (q ∷ qs) (suc i) p found = ap (λ (rs : List Program). worked q ∷ rs) (once_more qs i p found)
+        ap (λ r. r ∷ map worked qs) (worked_none (worked p) (worked_painted p) ∙ ap worked (sym same))
+    once_more (q ∷ qs) (suc i) p found = ap (λ rs. worked q ∷ rs) (once_more qs i p found)
 
     of_program : (o : Option Program) → slice_get ps client ≡ o → map worked (with_paint client ps) ≡ map worked ps
     of_program None none = rw none refl
@@ -60,7 +55,7 @@ paint_all client ps = of_program (slice_get ps client) refl
 set_twice : (ps : List Program) (i : ℕ) (q r : Program) → set (set ps i q) i r ≡ set ps i r
 set_twice [] i q r = refl
 set_twice (p ∷ ps) zero q r = refl
-set_twice (p ∷ ps) (suc i) q r = ap (λ (rs : List Program). p ∷ rs) (set_twice ps i q r)
+set_twice (p ∷ ps) (suc i) q r = ap (λ rs. p ∷ rs) (set_twice ps i q r)
 
 -- a program in its place, where the setup's names are handed on
 pub handed_here : (ps : List Program) (client : ℕ) (p q : Program) → slice_get ps client ≡ Some p
@@ -70,7 +65,7 @@ handed_here (clock ∷ others) zero p q found =
     elim (in_setup clock && not (in_setup q))
     as (λ b. slice_get (cond b (q ∷ map (taught q) others) (q ∷ others)) 0 ≡ Some q) [ true ↦ refl | false ↦ refl ]
 handed_here (clock ∷ others) (suc k) p q found =
-    ap (λ (ps : List Program). slice_get ps (suc k)) (not_handed (clock ∷ others) (clock ∷ set others k q) refl)
+    ap (λ ps. slice_get ps (suc k)) (not_handed (clock ∷ others) (clock ∷ set others k q) refl)
     ∙ get_set others k p q found
 
 -- names that are handed on before a Job is painted are the same behind it
@@ -94,29 +89,29 @@ handed_worked ps client p q found = rw (handed_here ps client p q found) (of_lis
         of_setup r setup same =
             elim (in_setup clock && not (in_setup q))
             as (λ b. set (cond b (q ∷ map (taught q) others) (q ∷ others)) 0 r ≡ cond b (r ∷ map (taught r) others) (r ∷ others)) [
-              | true ↦ ap (λ (xs : List Program). r ∷ xs) (sym (taught_same others))
+              | true ↦ ap (λ xs. r ∷ xs) (sym (taught_same others))
               | false ↦ refl
-            ] ∙ ap (λ (b : Bool). cond (in_setup clock && not b) (r ∷ map (taught r) others) (r ∷ others)) (sym setup)
+            ] ∙ ap (λ b. cond (in_setup clock && not b) (r ∷ map (taught r) others) (r ∷ others)) (sym setup)
           where
             taught_same : (xs : List Program) → map (taught r) xs ≡ map (taught q) xs
             taught_same [] = refl
             taught_same (x ∷ xs) =
-                ap (λ (y : Program). y ∷ map (taught r) xs) (same x) ∙ ap (λ (ys : List Program). taught q x ∷ ys) (taught_same xs)
+                ap (λ y. y ∷ map (taught r) xs) (same x) ∙ ap (λ ys. taught q x ∷ ys) (taught_same xs)
     of_list (clock ∷ others) (suc k) found =
-        ap (λ (ps : List Program). set ps (suc k) (worked q)) (not_handed (clock ∷ others) (clock ∷ set others k q) refl)
-        ∙ ap (λ (ps : List Program). clock ∷ ps) (set_twice others k q (worked q))
+        ap (λ ps. set ps (suc k) (worked q)) (not_handed (clock ∷ others) (clock ∷ set others k q) refl)
+        ∙ ap (λ ps. clock ∷ ps) (set_twice others k q (worked q))
         ∙ sym (not_handed (clock ∷ others) (clock ∷ set others k (worked q)) refl)
 
 -- programs that are of one script once they are painted are of it before
 pub all_of_one : (script own : PlainScript) (k : ℕ) (ps : List Program) → own ≡ script → AreOf script k (map worked ps)
     → All (λ p. p.script ≡ own) ps
-all_of_one script own k [] same are = All-nil (λ (q : Program). q.script ≡ own)
-all_of_one script own k (p ∷ ps) same are = All-cons (λ (q : Program). q.script ≡ own) p ps (sym (worked_script p) ∙ are.0 ∙ sym same)
+all_of_one script own k [] same are = All-nil (λ q. q.script ≡ own)
+all_of_one script own k (p ∷ ps) same are = All-cons (λ q. q.script ≡ own) p ps (sym (worked_script p) ∙ are.0 ∙ sym same)
     (all_of_one script own (k + 1) ps same are.3)
 
 -- where nothing is to be painted, the programs are a cast as they stand
 pub cast_painted : (s : Show) → ArePainted s.programs → IsCast (all_painted s) → IsCast s
-cast_painted s are cast = subst (λ (ps : List Program). IsCast (record s { programs = ps })) (all_are s.programs are) cast
+cast_painted s are cast = subst (λ ps. IsCast (record s { programs = ps })) (all_are s.programs are) cast
 
 pub cast_still : (s : Show) → ArePainted s.programs → IsCast s → IsCast (all_painted s)
-cast_still s are cast = subst (λ (ps : List Program). IsCast (record s { programs = ps })) (sym (all_are s.programs are)) cast
+cast_still s are cast = subst (λ ps. IsCast (record s { programs = ps })) (sym (all_are s.programs are)) cast

@@ -183,7 +183,8 @@ impl<'a> Program<'a> {
 
     /// Asks for a stream's write buffer, unless one is held.
     fn acquire(&self, stream: &'a Option<Name>, wanted: &mut Wanted) -> bool
-        ensures { IsPut (if is_some self.now.canvas then None else Some (plain (Call.Acquire (handle self.now stream.now)))) wanted.new result }
+        ensures { IsPut (if is_some self.now.canvas then None else Some (plain (Call.Acquire (handle self.now stream.now))))
+            wanted.new result }
     {
         if self.canvas.is_some() {
             return false;

@@ -7,8 +7,8 @@ ghost use Rattle.wf_calls.specs.Replies.{bare};
 ghost use Rattle.wf_script.specs.Script.{is_line};
 ghost use Rattle.wf_turn.specs.Ready.{IsAnswered, IsAsking, IsWork};
 ghost use Rattle.wf_turn.specs.Names.{bound_name, bound_value};
-ghost use Rattle.wf_turn.specs.Program.{answered, asked_next, at_port, given_canvas, go_on, line_done, port_count, took, took_canvas, took_first};
-ghost use Rattle.wf_turn.specs.Program.{took_frame, took_job, took_leg, is_work, ticking, worked};
+ghost use Rattle.wf_turn.specs.Program.{answered, asked_next, at_port, given_canvas, go_on, line_done, port_count, took, took_canvas};
+ghost use Rattle.wf_turn.specs.Program.{took_first, took_frame, took_job, took_leg, is_work, ticking, worked};
 
 use crate::names::{Names, is_creation};
 use crate::program::Program;

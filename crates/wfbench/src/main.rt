@@ -1,6 +1,6 @@
 //! The program `wfbench`: with the word `paint` it prints how long filling a canvas of 1024 by 1024 pixels takes,
-//! beside std's fill of as many bytes; with the word `picture`, what a pixel of a picture takes. With any other words
-//! it prints nothing.
+//! beside std's fill of as many bytes; with the word `picture`, what a pixel of a picture takes; with the word `rows`, how
+//! much sooner a picture is painted by several threads. With any other words it prints nothing.
 #![tactic(auto)]
 
 mod pictures;
@@ -65,6 +65,7 @@ fn print_times(rt: &(impl Print + Clock + AllocGlobal)) -> io::Result<()> {
 enum Asked {
     Paints,
     Pictures,
+    Rows,
     Nothing,
 }
 
@@ -73,6 +74,7 @@ fn read_words(rt: &(impl Env + AllocGlobal)) -> io::Result<Asked> {
     Ok(match words.first() {
         Some(word) if word.as_str() == "paint" => Asked::Paints,
         Some(word) if word.as_str() == "picture" => Asked::Pictures,
+        Some(word) if word.as_str() == "rows" => Asked::Rows,
         _ => Asked::Nothing,
     })
 }
@@ -81,6 +83,7 @@ fn main(rt: HostRuntime) -> ExitCode {
     let printed = match read_words(&rt) {
         Ok(Asked::Paints) => print_times(&rt),
         Ok(Asked::Pictures) => pictures::print_times(&rt),
+        Ok(Asked::Rows) => pictures::print_rows(&rt),
         Ok(Asked::Nothing) => Ok(()),
         Err(error) => Err(error),
     };

@@ -8,9 +8,10 @@ use crate::scenes::{KINDS, Kind, layers_of};
 use std::alloc::Global;
 use std::io;
 use std::rt::Clock;
+use std::thread::Threads;
 use std::time::{Duration, Instant};
 use wf_image::{Contents, Image};
-use wf_kernel::picture;
+use wf_kernel::{picture, picture_rows};
 use wf_pixel::{Format, Rgba, Size};
 use wf_scene::Scene;
 
@@ -35,8 +36,65 @@ pub(crate) fn print_times(rt: &(impl Print + Clock + AllocGlobal)) -> io::Result
                 kind.name()
             )?;
         }
+        let size = Size { w, h };
+        let whole = picture_time(rt, rt.alloc(), Kind::Opaque, size)?.as_secs_f64();
+        let window = Size {
+            w: w * 3 / 4,
+            h: h * 3 / 4,
+        };
+        let part = picture_time(rt, rt.alloc(), Kind::Opaque, window)?.as_secs_f64();
+        let nanos = (whole + 15.0 * part) * 1e9 / f64::from(w * h);
+        println!(rt;
+            "the 16 windows, each whole and on a target of its own: {nanos:.3} ns a pixel"
+        )?;
     }
     Ok(())
+}
+
+/// Prints how much sooner pictures are painted by several threads than by one, by the clock.
+pub(crate) fn print_rows<R: Print + Clock + Threads + Sync + AllocGlobal>(
+    rt: &R,
+) -> io::Result<()> {
+    for (w, h) in [(64, 48), (320, 240), (1024, 1024)] {
+        for kind in [Kind::Opaque, Kind::Straight, Kind::Translucent] {
+            let size = Size { w, h };
+            let one = rows_time(rt, kind, size, 1)?.as_secs_f64();
+            for workers in [2, 4] {
+                let time = rows_time(rt, kind, size, workers)?.as_secs_f64();
+                println!(rt;
+                    "a picture of {w}x{h}, {}, by {workers} workers: {:.2} times as fast",
+                    kind.name(),
+                    one / time
+                )?;
+            }
+        }
+    }
+    Ok(())
+}
+
+/// The shortest time of a picture by so many workers.
+fn rows_time<R: Clock + Threads + Sync + AllocGlobal>(
+    rt: &R,
+    kind: Kind,
+    size: Size,
+    workers: u32,
+) -> io::Result<Duration>
+    requires w_low { 8 ≤ size.w }
+    requires w_high { size.w ≤ 1024 }
+    requires h_low { 8 ≤ size.h }
+    requires h_high { size.h ≤ 1024 }
+    requires some { 1 ≤ workers }
+    requires few { workers ≤ 16 }
+{
+    let (scene, contents) = scene_of(rt.alloc(), kind, size)?;
+    let mut target = noise(rt.alloc(), size, Format::Rgba8Pre)?;
+    let mut least = Duration::MAX;
+    for _ in 0..ROUNDS {
+        let start = Instant::now(rt)?;
+        picture_rows(rt, workers, &scene, &contents, &mut target);
+        least = least.min(start.elapsed(rt)?);
+    }
+    Ok(least)
 }
 
 /// The shortest time of a picture.

@@ -1,23 +1,33 @@
-use Rattle.std.proofs.Common.{◌≡◌, ℕ, ◌+◌, ◌-◌, ◌*◌, ◌++◌, List, take, drop, ap, ◌∙◌, arith}
+use Rattle.std.proofs.Common.{◌≡◌, ℕ, ◌+◌, ◌-◌, ◌*◌, ◌++◌, List, take, drop, ap, subst, ◌∙◌, arith}
 use Rattle.std.specs.Prelude.{Option}
 use Rattle.std.specs.Simd.Lanes.{chunk}
 use Rattle.std.proofs.lemmas.List.{drop-drop}
 use Rattle.wf_pixel.specs.declared.Rgba.{Rgba}
-use Rattle.wf_kernel.specs.Bound.{bound_texel}
-use Rattle.wf_kernel.specs.Laid.{laid}
+use Rattle.wf_kernel.specs.Bound.{Bound, bound_texel, layer_at}
+use Rattle.wf_kernel.specs.Laid.{laid, IsStretch, IsStretchIn}
+use Rattle.wf_kernel.proofs.Kept.{layer_is}
 use Rattle.wf_kernel.proofs.Laid.{laid_same, nothing_laid, part_laid}
 use Rattle.wf_kernel.proofs.laying.lay_row.Goals as goal
 
-pub returns-in_default : goal.returns-in_default
-returns-in_default c = nothing_laid c.args.width (λ x. bound_texel c.args.layer.now (c.args.first + x) c.args.y) c.args.row.now
+pub returns-in_default-clause-row : goal.returns-in_default-clause-row
+returns-in_default-clause-row c =
+    let same = layer_is c.args.layers.now c.args.i c.index-layers-i.result c.requires.layer c.index-layers-i.is in
+    nothing_laid c.args.width (λ x. bound_texel c.index-layers-i.result (c.args.first + x) c.args.y) c.args.row.now
     c.requires.count c.in_default.ensures.none
+    ∙ ap (λ (b : Bound). laid c.args.width (λ x. bound_texel b (c.args.first + x) c.args.y) c.args.row.now) same
 
-pub returns-in-Some : goal.returns-in-Some
-returns-in-Some c =
-    let b = c.args.layer.now in
+pub lay_stretch-requires-clause-stretch : goal.lay_stretch-requires-clause-stretch
+lay_stretch-requires-clause-stretch c =
+    let same = layer_is c.args.layers.now c.args.i c.index-layers-i.result c.requires.layer c.index-layers-i.is in
+    subst (λ (b : Bound). IsStretch b c.in-Some.stretch) same c.in-Some.ensures.some.stretch
+
+pub returns-in-Some-clause-row : goal.returns-in-Some-clause-row
+returns-in-Some-clause-row c =
+    let b : Bound = layer_at c.args.layers.now c.args.i in
+    let same = layer_is c.args.layers.now c.args.i c.index-layers-i.result c.requires.layer c.index-layers-i.is in
     let s = c.in-Some.stretch in
     let row : List ℕ = c.args.row.now in
-    let is = c.in-Some.ensures.some in
+    let is = subst (λ (b : Bound). IsStretchIn b c.args.first c.args.width c.args.y s) same c.in-Some.ensures.some in
     let start = is.start in
     let end = is.end in
     let a : ℕ = s.x - c.args.first in
@@ -26,7 +36,7 @@ returns-in-Some c =
     let count : 4 * a + 4 * s.len - 4 * a ≡ 4 * s.len = omega arith in
     let stop : 4 * a + 4 * s.len ≡ 4 * (a + s.len) = omega arith in
     let piece_is : piece ≡ laid s.len (λ i. texel (a + i)) (chunk (4 * a) (4 * s.len) row) =
-    c.lay_stretch.ensures
+    c.lay_stretch.ensures.part
     ∙ ap (λ (k : ℕ). laid s.len (λ i. bound_texel b (s.x + i) s.y) (chunk (4 * a) k row)) count
     ∙ laid_same s.len (λ i. bound_texel b (s.x + i) s.y) (λ i. texel (a + i)) (chunk (4 * a) (4 * s.len) row)
     (λ i low. let at : s.x + i ≡ c.args.first + (a + i) = omega arith in λ j. bound_texel b (at j) (is.row j)) in

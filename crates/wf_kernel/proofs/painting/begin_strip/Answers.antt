@@ -1,8 +1,7 @@
-use Rattle.std.proofs.Common.{ℕ, ◌+◌, ◌<◌, ◌≤◌, get_or, ap, subst, ◌∙◌}
+use Rattle.std.proofs.Common.{ℕ, ◌<◌, ◌≤◌, get_or, subst, ◌∙◌}
 use Rattle.std.specs.Prelude.{Option, IfSome}
-use Rattle.wf_kernel.specs.Bound.{Bound, bound_texel}
+use Rattle.wf_kernel.specs.Bound.{Bound, no_bound}
 use Rattle.wf_kernel.specs.Hiding.{IsCover}
-use Rattle.wf_kernel.specs.Laid.{laid}
 use Rattle.wf_kernel.proofs.Stacks.{laid_first}
 use Rattle.wf_kernel.proofs.Cuts.{low_in}
 use Rattle.wf_kernel.proofs.painting.begin_strip.Goals as goal
@@ -16,9 +15,7 @@ returns-in-Some-clause-colours c =
     let Covers : Option ℕ → Type 0 = λ o. IfSome o (λ j. (d : Bound) (y : ℕ) → s.from ≤ y → y < s.bottom
     → IsCover (get_or layers j d) s.first s.width y) in
     let base = c.in-Some.base in
-    let layer = c.index-layers-base.result in
-    c.lay_row.ensures
-    ∙ ap (λ (b : Bound). laid s.width (λ x. bound_texel b (s.first + x) y) c.args.row.now) c.index-layers-base.is
-    ∙ laid_first s.first s.width layers base layer c.args.background y c.args.row.now
+    c.lay_row.ensures.row
+    ∙ laid_first s.first s.width layers base no_bound c.args.background y c.args.row.now
     (low_in (subst InLayers c.in-Some.is c.requires.strip.base) c.requires.strip.top)
-    (subst Covers c.in-Some.is c.requires.strip.cover layer y c.requires.from c.requires.bottom)
+    (subst Covers c.in-Some.is c.requires.strip.cover no_bound y c.requires.from c.requires.bottom)

@@ -13,6 +13,7 @@ loop-i-init c =
     let none : 0 * (4 * c.args.width) ≡ 0 = omega arith in
     record {
       written = ap (λ (j : ℕ). drop j c.args.bytes.now) (sym none);
+      kept = c.nothing_kept-kept.ensures c.args.layers.now;
       strips = All-replicate (IsStrip c.args.layers.now c.args.width) 66 c.no_strip-strips.result
           (c.no_strip-strips.ensures c.args.layers.now c.args.width);
     }
@@ -30,6 +31,7 @@ loop-i-preserved c =
           c.loop-i.invariant.written
           (part_written c.loop-i.bytes c.paint_row.new.row at (at + stride - at) (at + stride) (omega arith)
           ∙ ap (λ (part : List ℕ). take at c.loop-i.bytes ++ part ++ drop (at + stride) c.loop-i.bytes) c.paint_row.ensures.row);
+      kept = c.paint_row.ensures.kept;
       strips = c.paint_row.ensures.strips;
     }
 

@@ -2,6 +2,7 @@ use Rattle.std.proofs.Common.{◌≡◌, ◌+◌, ◌*◌, ◌++◌, drop}
 use Rattle.std.specs.Prelude.{flat_map, All}
 use Rattle.std.specs.List.{range_with_len}
 use Rattle.wf_kernel.specs.Bound.{bound_row}
+use Rattle.wf_kernel.specs.Kept.{AreKept}
 use Rattle.wf_kernel.specs.Strips.{IsStrip}
 use Rattle.wf_kernel.proofs.painting.paint.Given as goal
 
@@ -13,5 +14,6 @@ invariant-loop-i l =
           l.bytes
           ≡ flat_map (λ i. bound_row l.width l.layers l.background (l.first + i)) (range_with_len 0 l.i)
           ++ drop (l.i * (4 * l.width)) l.fn.bytes;
+      kept : AreKept l.layers l.kept;
       strips : All (IsStrip l.layers l.width) l.strips;
     }

@@ -15,9 +15,10 @@ loop-first-preserved c =
     let first = c.strip_for-strip.ensures.first in
     let some = strip.some c.args.y c.strip_for-strip.ensures.from c.strip_for-strip.ensures.bottom in
     let within = strip.within in
-    let piece = c.paint_strip.ensures ∙ ap (λ (j : ℕ). drawn_row n Rgba8Pre (λ x. colour (j + x))) first in
+    let piece = c.paint_strip.ensures.row ∙ ap (λ (j : ℕ). drawn_row n Rgba8Pre (λ x. colour (j + x))) first in
     record {
       strips = c.strip_for-strip.ensures.strips;
+      kept = c.paint_strip.ensures.kept;
       few = omega arith;
       within = omega arith;
       written =

@@ -1,6 +1,5 @@
-use Rattle.std.proofs.Common.{◌≡◌, take}
-use Rattle.wf_turn.specs.Index.{IsIndex, names_of}
-use Rattle.wf_turn.specs.Names.{bound_names}
+use Rattle.wf_turn.proofs.Common.{◌≡◌, take, names_of, bound_names}
+use Rattle.wf_turn.specs.Index.{IsIndex}
 use Rattle.wf_turn.proofs.names.index_of.Given as goal
 
 -- the names of the lines so far

@@ -1,4 +1,4 @@
-use Rattle.std.proofs.Common.{arith}
+use Rattle.wf_turn.proofs.Common.{arith}
 use Rattle.wf_turn.proofs.Playings.{one_played, one_stopped}
 use Rattle.wf_turn.proofs.player.play_turns.Goals as goal
 

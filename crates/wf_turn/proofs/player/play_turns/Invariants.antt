@@ -1,5 +1,4 @@
-use Rattle.std.proofs.Common.{vec_capacity}
-use Rattle.wf_turn.specs.Quota.{all_left}
+use Rattle.wf_turn.proofs.Common.{vec_capacity, all_left}
 use Rattle.wf_turn.proofs.Playings.{IsPlaying}
 use Rattle.wf_turn.proofs.player.play_turns.Given as goal
 

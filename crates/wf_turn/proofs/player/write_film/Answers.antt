@@ -1,11 +1,6 @@
-use Rattle.std.proofs.Common.{◌∙◌, ◌≤◌, ◌*◌, ap, sym, subst, length, List, [], Ok, arith}
-use Rattle.wf_calls.specs.declared.order.Turn.{Turn}
-use Rattle.wf_film.specs.Film.{tail_bytes}
-use Rattle.wf_io.specs.Bytes.{Puts, PutsPart}
+use Rattle.wf_turn.proofs.Common.{◌∙◌, ◌≤◌, ◌*◌, ap, sym, subst, length, List, [], Ok, arith, Turn, tail_bytes, Puts, PutsPart, all_left}
+use Rattle.wf_turn.proofs.Common.{PlaysFilm, Show, opening_show}
 use Rattle.wf_turn.specs.Playing.{script_of}
-use Rattle.wf_turn.specs.Quota.{all_left}
-use Rattle.wf_turn.specs.Serial.{PlaysFilm}
-use Rattle.wf_turn.specs.Turns.{Show, opening_show}
 use Rattle.wf_turn.proofs.Films.{cut_frame, cut_journal, cut_magic, left_few, left_open, stop_is, stops_open, turns_open, whole}
 use Rattle.wf_turn.proofs.player.write_film.Goals as goal
 
@@ -29,7 +24,7 @@ pub play_turns-requires-clause-few : goal.play_turns-requires-clause-few
 play_turns-requires-clause-few c =
     λ c'.
     let most : all_left c'.args.show.now.programs ≤ 40 * 16384 =
-    omega (arith, left_few (script_of c'.args.show.now), ap (λ (v : Show). all_left v.programs) c'.requires.opened, c'.requires.few) in
+    omega (arith, left_few (script_of c'.args.show.now), ap (λ v. all_left v.programs) c'.requires.opened, c'.requires.few) in
     omega (arith, most, c'.in-Ok.ensures.written)
 
 pub returns-in-Err-play_turns-clause-plays : goal.returns-in-Err-play_turns-clause-plays
@@ -40,7 +35,7 @@ returns-in-Err-play_turns-clause-plays c =
     let written = c'.in-Err-play_turns.stop.written in
     let order = c'.play_turns.new.played.items in
     let many : length order ≤ all_left (opening_show script).programs =
-    omega (arith, c'.in-Err-play_turns.ensures.many, ap (λ (v : Show). all_left v.programs) c'.requires.opened) in
+    omega (arith, c'.in-Err-play_turns.ensures.many, ap (λ v. all_left v.programs) c'.requires.opened) in
     stop_is c.K.Sink.took script c'.args.k.now c'.play_turns.new.k c'.write_fault-in-Err-play_turns.result written
     c'.new-in-Err-play_turns.result order c'.write_fault-in-Err-play_turns.ensures c'.new-in-Err-play_turns.ensures
     (cut_frame c.K.Sink.took script c'.args.k.now c'.new.new.k c'.play_turns.new.k written c'.play_turns.new.show order c'.in-Ok.ensures.all
@@ -51,7 +46,7 @@ pub finish-requires-clause-turns : goal.finish-requires-clause-turns
 finish-requires-clause-turns c =
     λ c'.
     let most : all_left c'.args.show.now.programs ≤ 40 * 16384 =
-    omega (arith, left_few (script_of c'.args.show.now), ap (λ (v : Show). all_left v.programs) c'.requires.opened, c'.requires.few) in
+    omega (arith, left_few (script_of c'.args.show.now), ap (λ v. all_left v.programs) c'.requires.opened, c'.requires.few) in
     omega (arith, most, c'.in_default.ensures.many, ap length c'.new-order.ensures)
 
 pub returns-in-Ok-finish-clause-plays : goal.returns-in-Ok-finish-clause-plays
@@ -62,12 +57,12 @@ returns-in-Ok-finish-clause-plays c =
     let order = c'.play_turns.new.played.items in
     let same = c'.new-order.ensures in
     let many : length order ≤ all_left (opening_show script).programs =
-    omega (arith, c'.in_default.ensures.many, ap (λ (v : Show). all_left v.programs) c'.requires.opened) in
+    omega (arith, c'.in_default.ensures.many, ap (λ v. all_left v.programs) c'.requires.opened) in
     let tail : Puts c.K.Sink.took c'.play_turns.new.k c'.finish.new.k (tail_bytes order) =
-    subst (λ (o : List Turn). Puts c.K.Sink.took c'.play_turns.new.k c'.finish.new.k (tail_bytes o)) same c'.in-Ok-finish.ensures.all in
+    subst (λ o. Puts c.K.Sink.took c'.play_turns.new.k c'.finish.new.k (tail_bytes o)) same c'.in-Ok-finish.ensures.all in
     let plays = turns_open c.K.Sink.took script s c'.requires.opened c'.new.new.k c'.play_turns.new.k c'.in-Ok.writer
     c'.play_turns.new.writer c'.play_turns.new.show order c'.in-Ok.ensures.written c'.in_default.ensures.all in
-    subst (λ (o : List Turn). PlaysFilm c.K.Sink.took c'.args.k.now c'.finish.new.k script (Ok o)) (sym same)
+    subst (λ o. PlaysFilm c.K.Sink.took c'.args.k.now c'.finish.new.k script (Ok o)) (sym same)
     (whole c.K.Sink.took script c'.args.k.now c'.new.new.k c'.play_turns.new.k c'.finish.new.k c'.play_turns.new.writer
     c'.play_turns.new.show order c'.in-Ok.ensures.all plays c'.in_default.ensures.over many tail)
 
@@ -80,9 +75,9 @@ returns-in-Err-finish-clause-plays c =
     let same = c'.new-order.ensures in
     let written = c'.in-Err-finish.stop.written in
     let many : length order ≤ all_left (opening_show script).programs =
-    omega (arith, c'.in_default.ensures.many, ap (λ (v : Show). all_left v.programs) c'.requires.opened) in
+    omega (arith, c'.in_default.ensures.many, ap (λ v. all_left v.programs) c'.requires.opened) in
     let part : PutsPart c.K.Sink.took c'.play_turns.new.k c'.finish.new.k c'.play_turns.new.writer (tail_bytes order) written =
-    subst (λ (o : List Turn). PutsPart c.K.Sink.took c'.play_turns.new.k c'.finish.new.k c'.play_turns.new.writer (tail_bytes o)
+    subst (λ o. PutsPart c.K.Sink.took c'.play_turns.new.k c'.finish.new.k c'.play_turns.new.writer (tail_bytes o)
     written) same c'.in-Err-finish.ensures.part in
     let plays = turns_open c.K.Sink.took script s c'.requires.opened c'.new.new.k c'.play_turns.new.k c'.in-Ok.writer
     c'.play_turns.new.writer c'.play_turns.new.show order c'.in-Ok.ensures.written c'.in_default.ensures.all in

@@ -1,5 +1,4 @@
-use Rattle.std.proofs.Common.{arith}
-use Rattle.wf_turn.specs.Quota.{quota}
+use Rattle.wf_turn.proofs.Common.{arith, quota}
 use Rattle.wf_turn.proofs.QuotaSums.{total_more}
 use Rattle.wf_turn.proofs.quotas.most_turns.Goals as goal
 

@@ -1,7 +1,4 @@
-use Rattle.std.proofs.Common.{◌≡◌, ◌*◌, ◌≤◌}
-use Rattle.std.specs.Prelude.{sum_by}
-use Rattle.std.specs.List.{range_with_len}
-use Rattle.wf_turn.specs.Quota.{quota}
+use Rattle.wf_turn.proofs.Common.{◌≡◌, ◌*◌, ◌≤◌, sum_by, range_with_len, quota}
 use Rattle.wf_turn.proofs.quotas.most_turns.Given as goal
 
 -- the sum of the clients so far

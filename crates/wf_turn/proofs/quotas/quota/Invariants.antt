@@ -1,6 +1,4 @@
-use Rattle.std.proofs.Common.{◌≡◌, ◌*◌, ◌≤◌, take}
-use Rattle.std.specs.Prelude.{sum_by}
-use Rattle.wf_turn.specs.Quota.{quota_of}
+use Rattle.wf_turn.proofs.Common.{◌≡◌, ◌*◌, ◌≤◌, take, sum_by, quota_of}
 use Rattle.wf_turn.proofs.quotas.quota.Given as goal
 
 -- the sum of the lines so far

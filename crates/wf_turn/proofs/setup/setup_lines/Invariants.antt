@@ -1,5 +1,4 @@
-use Rattle.std.proofs.Common.{◌≡◌, ◌+◌, ◌-◌, ◌≤◌, length, drop}
-use Rattle.wf_turn.specs.Program.{setup_lines}
+use Rattle.wf_turn.proofs.Common.{◌≡◌, ◌+◌, ◌-◌, ◌≤◌, length, drop, setup_lines}
 use Rattle.wf_turn.proofs.setup.setup_lines.Given as goal
 
 -- the lines so far are client 0's

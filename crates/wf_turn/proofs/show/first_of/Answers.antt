@@ -1,14 +1,11 @@
-use Rattle.std.proofs.Common.{sym, subst, ◌∙◌, ◌∷◌, Option, None, ℕ, ap}
-use Rattle.std.specs.Option.{IfSome}
-use Rattle.wf_turn.specs.Play.{earlier}
-use Rattle.wf_turn.specs.Playing.{StandsOwn}
+use Rattle.wf_turn.proofs.Common.{sym, subst, ◌∙◌, ◌∷◌, Option, None, ℕ, ap, IfSome, earlier, StandsOwn}
 use Rattle.wf_turn.proofs.Clients.{all_passed, one_passed, own_clock, own_passed}
 use Rattle.wf_turn.proofs.show.first_of.Goals as goal
 
 pub loop-behind-init : goal.loop-behind-init
 loop-behind-init c = (
-  c.earlier-best.ensures ∙ ap (λ (o : Option ℕ). earlier None (0, o)) c.place.ensures.place,
-  subst (λ (b : Option (ℕ × ℕ)). IfSome b (StandsOwn (c.args.clock.now ∷ c.args.others.now))) (sym c.earlier-best.ensures)
+  c.earlier-best.ensures ∙ ap (λ o. earlier None (0, o)) c.place.ensures.place,
+  subst (λ b. IfSome b (StandsOwn (c.args.clock.now ∷ c.args.others.now))) (sym c.earlier-best.ensures)
       (own_clock c.args.clock.now c.args.others.now c.place.result c.place.ensures.own),
 )
 
@@ -21,7 +18,7 @@ loop-behind-preserved c =
     let place = c.place-in-loop-behind in (
       c.earlier-best-in-loop-behind.ensures ∙ one_passed clock ps i c.loop-behind.best p place.result c.loop-behind-test.true
           c.index-others-behind.is place.ensures.place c.loop-behind.invariant.0,
-      subst (λ (b : Option (ℕ × ℕ)). IfSome b (StandsOwn (clock ∷ ps))) (sym c.earlier-best-in-loop-behind.ensures)
+      subst (λ b. IfSome b (StandsOwn (clock ∷ ps))) (sym c.earlier-best-in-loop-behind.ensures)
           (own_passed clock ps i c.loop-behind.best p place.result c.loop-behind-test.true c.index-others-behind.is place.ensures.own
           c.loop-behind.invariant.1),
     )

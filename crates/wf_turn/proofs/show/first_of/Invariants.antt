@@ -1,7 +1,4 @@
-use Rattle.std.proofs.Common.{◌≡◌, ◌∷◌, map, take}
-use Rattle.std.specs.Option.{IfSome}
-use Rattle.wf_turn.specs.Playing.{StandsOwn}
-use Rattle.wf_turn.specs.Program.{place_of}
+use Rattle.wf_turn.proofs.Common.{◌≡◌, ◌∷◌, map, take, IfSome, StandsOwn, place_of}
 use Rattle.wf_turn.proofs.Clients.{clock_first, first_from}
 use Rattle.wf_turn.proofs.show.first_of.Given as goal
 

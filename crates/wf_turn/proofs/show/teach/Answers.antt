@@ -1,5 +1,4 @@
-use Rattle.std.proofs.Common.{◌∙◌, ap, sym, get_or, List}
-use Rattle.wf_turn.specs.Program.{Program, taught}
+use Rattle.wf_turn.proofs.Common.{◌∙◌, ap, sym, get_or, List, Program, taught}
 use Rattle.wf_words.specs.Places.{map_all, map_step, next_is}
 use Rattle.wf_turn.proofs.Teaching.{script_at}
 use Rattle.wf_turn.proofs.show.teach.Goals as goal
@@ -7,7 +6,7 @@ use Rattle.wf_turn.proofs.show.teach.Goals as goal
 pub learn-requires-clause-script : goal.learn-requires-clause-script
 learn-requires-clause-script c =
     sym
-    (ap (λ (p : Program). p.script) (ap (λ (ps : List Program). get_or ps c.loop-program.program-index c.program-item.result)
+    (ap (λ p. p.script) (ap (λ ps. get_or ps c.loop-program.program-index c.program-item.result)
     c.loop-program.invariant ∙ next_is (taught c.args.clock.now) c.args.others.now c.loop-program.program-index c.program-item.result
     c.loop-program-test.true)
     ∙ script_at c.args.clock.now.script c.args.others.now c.loop-program.program-index c.program-item.result c.loop-program-test.true

@@ -1,5 +1,4 @@
-use Rattle.std.proofs.Common.{◌≡◌, ◌++◌, map, take, drop}
-use Rattle.wf_turn.specs.Program.{taught}
+use Rattle.wf_turn.proofs.Common.{◌≡◌, ◌++◌, map, take, drop, taught}
 use Rattle.wf_turn.proofs.show.teach.Given as goal
 
 abbrev pub invariant-loop-program : goal.invariant-loop-program

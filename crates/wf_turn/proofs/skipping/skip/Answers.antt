@@ -1,7 +1,4 @@
-use Rattle.std.proofs.Common.{◌∙◌, ◌+◌, Option, ap, sym, arith}
-use Rattle.wf_image.specs.declared.canvas.Canvas.{Canvas}
-use Rattle.wf_turn.specs.Passing.{is_event_of}
-use Rattle.wf_turn.specs.Program.{lines_from, skipped}
+use Rattle.wf_turn.proofs.Common.{◌∙◌, ◌+◌, Option, ap, sym, arith, Canvas, is_event_of, lines_from, skipped}
 use Rattle.wf_turn.proofs.Skips.{passes, place_end}
 use Rattle.wf_turn.proofs.skipping.skip.Goals as goal
 
@@ -16,7 +13,7 @@ loop-at-preserved c =
     record {
       within = omega (arith, c.loop-at-test.true);
       later = omega (arith, was.later);
-      same = was.same ∙ step.0 ∙ ap (λ (canvas : Option Canvas). skipped canvas (lines_from c.args.client (c.loop-at.at + 1) lines))
+      same = was.same ∙ step.0 ∙ ap (λ canvas. skipped canvas (lines_from c.args.client (c.loop-at.at + 1) lines))
           (sym c.pass.ensures);
       names = step.1 ∙ was.names;
     }

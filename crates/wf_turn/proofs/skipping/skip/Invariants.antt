@@ -1,6 +1,4 @@
-use Rattle.std.proofs.Common.{◌≡◌, ◌-◌, ◌≤◌, length, take}
-use Rattle.wf_turn.specs.Names.{bound_names}
-use Rattle.wf_turn.specs.Program.{lines_from, skipped}
+use Rattle.wf_turn.proofs.Common.{◌≡◌, ◌-◌, ◌≤◌, length, take, bound_names, lines_from, skipped}
 use Rattle.wf_turn.proofs.skipping.skip.Given as goal
 
 -- what was passed binds no name, and what is left comes to the same

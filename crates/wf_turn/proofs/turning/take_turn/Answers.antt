@@ -1,9 +1,5 @@
-use Rattle.std.proofs.Common.{◌≡◌, Some}
-use Rattle.wf_calls.specs.Replies.{bare}
+use Rattle.wf_turn.proofs.Common.{◌≡◌, Some, bare, Answers, TakesTurn, is_work, next, worked, IsWork}
 use Rattle.wf_turn.specs.Calls.{put_some}
-use Rattle.wf_turn.specs.Playing.{Answers, TakesTurn}
-use Rattle.wf_turn.specs.Program.{is_work, next, worked}
-use Rattle.wf_turn.specs.Ready.{IsWork}
 use Rattle.wf_turn.proofs.Turnings.{turn_taken}
 use Rattle.wf_turn.proofs.turning.take_turn.Goals as goal
 

@@ -1,10 +1,7 @@
-use Rattle.std.proofs.Common.{◌≡◌, ◌∙◌, ◌++◌, ◌∷◌, [], Bor, true, false, Some, length, cond, sym, ap, subst, ℕ, arith}
-use Rattle.std.proofs.lemmas.List.{length-map}
+use Rattle.wf_turn.proofs.Common.{◌≡◌, ◌∙◌, ◌++◌, ◌∷◌, [], Bor, true, false, Some, length, cond, sym, ap, subst, ℕ, arith, length-map}
+use Rattle.wf_turn.proofs.Common.{is_some, bytes_eq, Name, names_of, place_in}
 use Rattle.std.proofs.lemmas.Map.Text.{btree_map_updates_str}
-use Rattle.std.specs.Option.{is_some}
-use Rattle.std.specs.Str.{bytes_eq}
-use Rattle.wf_script.specs.declared.name.Name.{Name}
-use Rattle.wf_turn.specs.Index.{names_of, place_in, told}
+use Rattle.wf_turn.specs.Index.{told}
 use Rattle.wf_turn.proofs.Places.{copied_some, told_again, told_new}
 use Rattle.wf_turn.proofs.index.Index.note.Goals as goal
 
@@ -14,7 +11,7 @@ returns-then-is_some-clause-places c =
     let text = c.as_str-text.result.now in
     let is : is_some (told self text) ≡ true = sym (ap is_some c.get.ensures.value) ∙ sym (copied_some c.get.result) ∙ sym c.is_some.ensures
     ∙ c.if-is_some.true in
-    subst (λ (n : Name). (q : Name) → told self q ≡ place_in q (names_of self ++ n ∷ [])) c.as_str-text.ensures
+    subst (λ n. (q : Name) → told self q ≡ place_in q (names_of self ++ n ∷ [])) c.as_str-text.ensures
     (told_again (told self) text (names_of self) c.requires.index is)
 
 pub returns-clause-places : goal.returns-clause-places
@@ -24,9 +21,9 @@ returns-clause-places c =
     let is : is_some (told self text) ≡ false = sym (ap is_some c.get.ensures.value) ∙ sym (copied_some c.get.result)
     ∙ sym c.is_some.ensures ∙ c.if-is_some.false in
     let place : c.len.result ≡ length (names_of self) =
-    omega (arith, c.len.ensures, length-map self.names.items (λ (n : Bor Name). n.now)) in
-    subst (λ (n : Name). (q : Name) → told (record self { places = c.insert.new.self }) q ≡ place_in q (names_of self ++ n ∷ []))
+    omega (arith, c.len.ensures, length-map self.names.items (λ n. n.now)) in
+    subst (λ n. (q : Name) → told (record self { places = c.insert.new.self }) q ≡ place_in q (names_of self ++ n ∷ []))
     c.as_str-text.ensures
     (told_new (told self) (told (record self { places = c.insert.new.self })) text (names_of self) c.requires.index is
     (λ q. btree_map_updates_str text self.places c.insert.new.self (Some c.len.result) c.in_ok-insert.ensures.updates q
-    ∙ ap (λ (k : ℕ). cond (bytes_eq text q) (Some k) (told self q)) place))
+    ∙ ap (λ k. cond (bytes_eq text q) (Some k) (told self q)) place))

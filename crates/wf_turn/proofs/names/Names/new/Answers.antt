@@ -1,5 +1,4 @@
-use Rattle.std.proofs.Common.{ap, arith, length}
-use Rattle.std.proofs.lemmas.List.{length-map}
+use Rattle.wf_turn.proofs.Common.{ap, arith, length, length-map}
 use Rattle.wf_turn.proofs.Values.{few_names}
 use Rattle.wf_turn.proofs.names.Names.new.Goals as goal
 

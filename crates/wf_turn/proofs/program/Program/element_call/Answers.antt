@@ -1,11 +1,9 @@
-use Rattle.std.proofs.Common.{◌≡◌, Option, subst, arith}
-use Rattle.std.proofs.lemmas.Grind.{common_steps}
-use Rattle.wf_calls.specs.declared.call.Call.{Call}
-use Rattle.wf_turn.specs.Calls.{IsPut, element_call, source_call}
-use Rattle.wf_turn.specs.Program.{handle}
+use Rattle.wf_turn.proofs.Common.{◌≡◌, Option, subst, arith, common_steps, Call, IsPut, element_call, handle}
+use Rattle.wf_turn.specs.Calls.{source_call}
 use Rattle.wf_turn.proofs.program.Program.element_call.Goals as goal
 
 pub returns-in_default : goal.returns-in_default
 returns-in_default c =
-    let is : source_call (handle c.args.self.now) c.args.verb.now ≡ element_call (handle c.args.self.now) c.args.verb.now = grind (arith, common_steps) in
-    subst (λ (o : Option Call). IsPut o c.source_call.new.call c.source_call.result) is c.source_call.ensures
+    let is : source_call (handle c.args.self.now) c.args.verb.now ≡ element_call (handle c.args.self.now) c.args.verb.now =
+    grind (arith, common_steps) in
+    subst (λ o. IsPut o c.source_call.new.call c.source_call.result) is c.source_call.ensures

@@ -1,4 +1,4 @@
-use Rattle.std.proofs.Common.{refl}
+use Rattle.wf_turn.proofs.Common.{refl}
 use Rattle.wf_turn.proofs.Finishes.{finished, has_room, leaves_done}
 use Rattle.wf_turn.proofs.program.Program.finish.Goals as goal
 

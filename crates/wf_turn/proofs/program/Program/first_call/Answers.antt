@@ -1,11 +1,6 @@
-use Rattle.std.proofs.Common.{◌≡◌, Option, ap, subst, refl}
-use Rattle.std.specs.Option.{option_map}
-use Rattle.wf_image.specs.declared.canvas.Canvas.{Canvas}
-use Rattle.wf_script.specs.declared.line.Verb.{Verb}
+use Rattle.wf_turn.proofs.Common.{◌≡◌, Option, ap, subst, refl, option_map, Canvas, Verb, IsPut, plain_call, Wanted, Program, first_call}
+use Rattle.wf_turn.proofs.Common.{handle, kept_first, plain}
 use Rattle.wf_script.specs.declared.line.Verb.TheVariants as verb
-use Rattle.wf_turn.specs.Calls.{IsPut, plain_call}
-use Rattle.wf_turn.specs.declared.stage.Wanted.{Wanted}
-use Rattle.wf_turn.specs.Program.{Program, first_call, handle, kept_first, plain}
 use Rattle.wf_turn.proofs.program.Program.first_call.Goals as goal
 
 -- a line of one call
@@ -24,8 +19,9 @@ module _ (c : goal.After-one_call) where
   of_verb _ is = (refl, refl)
 
 pub returns-in_default-clause-wanted : goal.returns-in_default-clause-wanted
-returns-in_default-clause-wanted c = subst (λ (o : Option Wanted). IsPut o c.one_call.new.wanted c.one_call.result) (of_verb c c.args.verb.now refl).0 c.one_call.ensures
+returns-in_default-clause-wanted c = subst (λ o. IsPut o c.one_call.new.wanted c.one_call.result)
+    (of_verb c c.args.verb.now refl).0 c.one_call.ensures
 
 pub returns-in_default-clause-handed : goal.returns-in_default-clause-handed
-returns-in_default-clause-handed c = ap (λ (canvas : Option Canvas). record c.args.self.now { canvas = canvas })
+returns-in_default-clause-handed c = ap (λ canvas. record c.args.self.now { canvas = canvas })
     (of_verb c c.args.verb.now refl).1

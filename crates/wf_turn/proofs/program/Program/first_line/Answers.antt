@@ -1,5 +1,4 @@
-use Rattle.std.proofs.Common.{◌∙◌, ap}
-use Rattle.wf_turn.specs.Program.{first_line}
+use Rattle.wf_turn.proofs.Common.{◌∙◌, ap, first_line}
 use Rattle.wf_turn.proofs.Firsts.{first_at}
 use Rattle.wf_turn.proofs.program.Program.first_line.Goals as goal
 

@@ -1,5 +1,4 @@
-use Rattle.std.proofs.Common.{ap}
-use Rattle.wf_turn.specs.Names.{Table}
+use Rattle.wf_turn.proofs.Common.{ap, Table}
 use Rattle.wf_turn.proofs.Firsts.{learns}
 use Rattle.wf_turn.proofs.program.Program.learn.Goals as goal
 
@@ -7,4 +6,4 @@ pub returns : goal.returns
 returns c =
     learns c.self.inside c.clock.inside c.args.self.now c.args.clock.now c.learn.new.self.names c.learn.new.self.values c.self.invariant
     c.clock.invariant c.self.view_is c.clock.view_is c.requires.script c.requires.clock
-    (ap (λ (t : Table). t.names) c.learn.ensures) (ap (λ (t : Table). t.values) c.learn.ensures)
+    (ap (λ t. t.names) c.learn.ensures) (ap (λ t. t.values) c.learn.ensures)

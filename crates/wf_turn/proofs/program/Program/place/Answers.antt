@@ -1,5 +1,4 @@
-use Rattle.std.proofs.Common.{◌∙◌, ap, sym}
-use Rattle.std.specs.Option.{option_copied}
+use Rattle.wf_turn.proofs.Common.{◌∙◌, ap, sym, option_copied}
 use Rattle.wf_turn.proofs.Firsts.{own_at, place_at}
 use Rattle.wf_turn.proofs.program.Program.place.Goals as goal
 

@@ -1,13 +1,10 @@
-use Rattle.std.proofs.Common.{◌≡◌, Option, subst, refl}
-use Rattle.wf_calls.specs.declared.call.Call.{Call}
-use Rattle.wf_script.specs.declared.line.Verb.{Verb}
+use Rattle.wf_turn.proofs.Common.{◌≡◌, Option, subst, refl, Call, Verb, IsPut, context_call, plain_call, handle}
 use Rattle.wf_script.specs.declared.line.Verb.TheVariants as verb
-use Rattle.wf_turn.specs.Calls.{IsPut, context_call, plain_call}
-use Rattle.wf_turn.specs.Program.{handle}
 use Rattle.wf_turn.proofs.program.Program.plain_call.Goals as goal
 
 pub returns-in_default : goal.returns-in_default
-returns-in_default c = subst (λ (o : Option Call). IsPut o c.context_call.new.call c.context_call.result) (of_verb c.args.verb.now refl) c.context_call.ensures
+returns-in_default c = subst (λ o. IsPut o c.context_call.new.call c.context_call.result)
+    (of_verb c.args.verb.now refl) c.context_call.ensures
   where
     of_verb : (v : Verb) → c.args.verb.now ≡ v → context_call (handle c.args.self.now) v ≡ plain_call (handle c.args.self.now) v
     of_verb (verb.StreamNew width height f b) is = absurd (c.in_default.not-StreamNew width height f b is)

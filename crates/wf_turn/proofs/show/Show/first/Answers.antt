@@ -1,11 +1,7 @@
 use Rattle.wf_turn.proofs.Works.{cast_painted}
-use Rattle.wf_turn.specs.Playing.{ArePainted}
-use Rattle.std.proofs.Common.{◌≡◌, ◌<◌, ◌∷◌, sym, subst, Some, List, ℕ, map}
+use Rattle.wf_turn.proofs.Common.{ArePainted, ◌≡◌, ◌<◌, ◌∷◌, sym, subst, Some, List, ℕ, map, first_client, StandsOwn, may_turn, show_of}
+use Rattle.wf_turn.proofs.Common.{Program, place_of, Show}
 use Rattle.std.specs.Bool.{IsTrue}
-use Rattle.wf_turn.specs.Play.{first_client}
-use Rattle.wf_turn.specs.Playing.{StandsOwn, may_turn, show_of}
-use Rattle.wf_turn.specs.Program.{Program, place_of}
-use Rattle.wf_turn.specs.Turns.{Show}
 use Rattle.wf_turn.proofs.Clients.{found_may}
 use Rattle.wf_turn.proofs.show.Show.first.Goals as goal
 
@@ -16,13 +12,13 @@ module _ (c : goal.In-Some) where
   known : (c.in-Some.client < 8) × IsTrue (may_turn (show_of c.self.inside).programs c.in-Some.client)
   known =
       found_may (show_of c.self.inside) (cast_painted (show_of c.self.inside)
-      (subst (λ (v : Show). ArePainted v.programs) (sym c.self.view_is) c.requires.painted) c.self.invariant) client
-      (sym (subst (λ (ps : List Program). Some client ≡ first_client (map place_of (c.self.inside.clock ∷ ps))) c.deref.ensures.value
+      (subst (λ v. ArePainted v.programs) (sym c.self.view_is) c.requires.painted) c.self.invariant) client
+      (sym (subst (λ ps. Some client ≡ first_client (map place_of (c.self.inside.clock ∷ ps))) c.deref.ensures.value
       c.in-Some.ensures.first))
-      (subst (λ (ps : List Program). StandsOwn (c.self.inside.clock ∷ ps) client) c.deref.ensures.value c.in-Some.ensures.own)
+      (subst (λ ps. StandsOwn (c.self.inside.clock ∷ ps) client) c.deref.ensures.value c.in-Some.ensures.own)
 
 pub returns-in-Some-clause-allowed : goal.returns-in-Some-clause-allowed
-returns-in-Some-clause-allowed c = subst (λ (s : Show). IsTrue (may_turn s.programs c.in-Some.client)) c.self.view_is (known c).1
+returns-in-Some-clause-allowed c = subst (λ s. IsTrue (may_turn s.programs c.in-Some.client)) c.self.view_is (known c).1
 
 pub returns-in-Some-clause-within : goal.returns-in-Some-clause-within
 returns-in-Some-clause-within c = (known c).0

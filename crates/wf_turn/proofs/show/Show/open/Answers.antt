@@ -1,16 +1,11 @@
-use Rattle.wf_turn.specs.Playing.{all_painted}
+use Rattle.wf_turn.proofs.Common.{all_painted, ◌≡◌, ◌∙◌, ◌++◌, ◌∷◌, [], ◌+◌, ap, sym, subst, List, ℕ, map, arith, range_with_len}
+use Rattle.wf_turn.proofs.Common.{may_declare, State, IsCast, Program, program, Show, opening_show}
 use Rattle.wf_turn.proofs.Works.{cast_still}
 use Rattle.wf_turn.proofs.Openings.{opening_painted}
-use Rattle.std.proofs.Common.{◌≡◌, ◌∙◌, ◌++◌, ◌∷◌, [], ◌+◌, ap, sym, subst, List, ℕ, map, arith}
-use Rattle.std.specs.List.{range_with_len}
 use Rattle.std.proofs.lemmas.List.{map-append}
 use Rattle.wf_calls.specs.declared.ports.Ports.{Ports}
-use Rattle.wf_calls.specs.PortRules.{may_declare}
 use Rattle.std.specs.Bool.{IsTrue}
-use Rattle.wf_model.specs.State.{State, opening}
-use Rattle.wf_turn.specs.Playing.{IsCast}
-use Rattle.wf_turn.specs.Program.{Program, program}
-use Rattle.wf_turn.specs.Turns.{Show, opening_show}
+use Rattle.wf_model.specs.State.{opening}
 use Rattle.wf_turn.proofs.Openings.{opening_cast, range_more}
 use Rattle.wf_turn.proofs.show.Show.open.Goals as goal
 
@@ -19,10 +14,10 @@ loop-behind-preserved c =
     let made = program c.args.script.now in
     let n = c.loop-behind.behind in (
       c.push_reserved.ensures.items
-          ∙ ap (λ (ps : List Program). ps ++ c.in_ok-new.field-0 ∷ []) c.loop-behind.invariant.0
-          ∙ ap (λ (p : Program). map made (range_with_len 1 n) ++ p ∷ []) c.in_ok-new.ensures
+          ∙ ap (λ ps. ps ++ c.in_ok-new.field-0 ∷ []) c.loop-behind.invariant.0
+          ∙ ap (λ p. map made (range_with_len 1 n) ++ p ∷ []) c.in_ok-new.ensures
           ∙ sym (map-append made (range_with_len 1 n) ((n + 1) ∷ []))
-          ∙ ap (λ (ns : List ℕ). map made ns) (sym (range_more n)),
+          ∙ ap (λ ns. map made ns) (sym (range_more n)),
       omega (arith, c.push_reserved.ensures.capacity, c.loop-behind.invariant.1),
       omega (arith, c.push_reserved.ensures.len, c.loop-behind.invariant.2),
     )
@@ -36,16 +31,16 @@ module _ (c : goal.After-unasked) where
   show_is =
       let show : State → List Program → Show = λ h ps. record { state = h; programs = ps; frames = [] } in
       let made = program c.args.script.now in
-      ap (λ (h : State). show h (c.in_ok-clock.clock ∷ c.loop-behind.others.items)) (c.in_ok-machine.ensures
+      ap (λ h. show h (c.in_ok-clock.clock ∷ c.loop-behind.others.items)) (c.in_ok-machine.ensures
       ∙ ap opening c.ports.ensures.ports)
-      ∙ ap (λ (p : Program). show (opening c.args.script.now.ports) (p ∷ c.loop-behind.others.items)) c.in_ok-clock.ensures
-      ∙ ap (λ (ps : List Program). show (opening c.args.script.now.ports) (made 0 ∷ ps)) (c.loop-behind.invariant.0
-      ∙ ap (λ (n : ℕ). map made (range_with_len 1 n)) seven)
+      ∙ ap (λ p. show (opening c.args.script.now.ports) (p ∷ c.loop-behind.others.items)) c.in_ok-clock.ensures
+      ∙ ap (λ ps. show (opening c.args.script.now.ports) (made 0 ∷ ps)) (c.loop-behind.invariant.0
+      ∙ ap (λ n. map made (range_with_len 1 n)) seven)
 
 pub invariant_of-result : goal.invariant_of-result
-invariant_of-result c = subst (λ (v : Show). IsCast (all_painted v)) (sym (show_is c))
+invariant_of-result c = subst (λ v. IsCast (all_painted v)) (sym (show_is c))
     (cast_still (opening_show c.args.script.now) (opening_painted c.args.script.now)
-    (opening_cast c.args.script.now (subst (λ (ports : Ports). IsTrue (may_declare ports)) c.ports.ensures.ports
+    (opening_cast c.args.script.now (subst (λ ports. IsTrue (may_declare ports)) c.ports.ensures.ports
     c.ports.ensures.declared)))
 
 pub returns : goal.returns

@@ -1,6 +1,5 @@
-use Rattle.std.proofs.Common.{◌≡◌, ◌≤◌, map, vec_capacity, vec_len}
-use Rattle.std.specs.List.{range_with_len}
-use Rattle.wf_turn.specs.Program.{program}
+use Rattle.wf_turn.proofs.Common.{◌≡◌, ◌≤◌, map, vec_capacity, range_with_len, program}
+use Rattle.std.proofs.Common.{vec_len}
 use Rattle.wf_turn.proofs.show.Show.open.Given as goal
 
 abbrev pub invariant-loop-behind : goal.invariant-loop-behind

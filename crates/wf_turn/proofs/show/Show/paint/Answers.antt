@@ -1,7 +1,5 @@
-use Rattle.std.proofs.Common.{◌≡◌, ◌∷◌, ◌∙◌, ◌-◌, ap, sym, subst, List, map, set}
-use Rattle.wf_turn.specs.Playing.{IsCast, has_work, show_of, with_paint}
-use Rattle.wf_turn.specs.Program.{Program, worked}
-use Rattle.wf_turn.specs.Turns.{Show}
+use Rattle.wf_turn.proofs.Common.{◌≡◌, ◌∷◌, ◌∙◌, ◌-◌, ap, sym, subst, List, map, set, IsCast, has_work, show_of, with_paint, Program}
+use Rattle.wf_turn.proofs.Common.{worked, Show}
 use Rattle.wf_turn.proofs.Shows.{eight_at, other_painted}
 use Rattle.wf_turn.proofs.Works.{paint_all}
 use Rattle.wf_turn.proofs.show.Show.paint.Goals as goal
@@ -18,7 +16,7 @@ module _ (c : goal.After-self-1) where
       let both = other_painted c.self.inside.clock c.self.inside.others.items c.args.client d c.if-client-eq0.false
       c.index_mut.ensures.value
       (eight_at s c.self.invariant c.args.client c.requires.within) in (
-        ap (λ (q : Program). c.self.inside.clock ∷ set c.self.inside.others.items (c.args.client - 1) q)
+        ap (λ q. c.self.inside.clock ∷ set c.self.inside.others.items (c.args.client - 1) q)
             c.paint-else-client-eq0.ensures.painted
             ∙ both.0,
         c.paint-else-client-eq0.ensures.was ∙ both.1,
@@ -26,14 +24,14 @@ module _ (c : goal.After-self-1) where
 
 pub invariant_of-self-else-client-eq0 : goal.invariant_of-self-else-client-eq0
 invariant_of-self-else-client-eq0 c =
-    subst (λ (ps : List Program). IsCast (record (s c) { programs = ps }))
-    (sym (ap (λ (ps : List Program). map worked ps) (done c).0 ∙ paint_all c.args.client (s c).programs)) c.self.invariant
+    subst (λ ps. IsCast (record (s c) { programs = ps }))
+    (sym (ap (λ ps. map worked ps) (done c).0 ∙ paint_all c.args.client (s c).programs)) c.self.invariant
 
 pub returns-else-client-eq0-clause-painted : goal.returns-else-client-eq0-clause-painted
 returns-else-client-eq0-clause-painted c =
-    ap (λ (ps : List Program). record (s c) { programs = ps }) (done c).0
-    ∙ ap (λ (v : Show). record v { programs = with_paint c.args.client v.programs }) c.self.view_is
+    ap (λ ps. record (s c) { programs = ps }) (done c).0
+    ∙ ap (λ v. record v { programs = with_paint c.args.client v.programs }) c.self.view_is
 
 pub returns-else-client-eq0-clause-was : goal.returns-else-client-eq0-clause-was
 returns-else-client-eq0-clause-was c =
-    (done c).1 ∙ ap (λ (v : Show). has_work c.args.client v.programs) c.self.view_is
+    (done c).1 ∙ ap (λ v. has_work c.args.client v.programs) c.self.view_is

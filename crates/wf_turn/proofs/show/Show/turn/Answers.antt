@@ -1,10 +1,6 @@
-use Rattle.std.proofs.Common.{◌≡◌, ◌∷◌, ◌∙◌, ap, sym, subst, List, [], map}
-use Rattle.std.specs.Option.{IfSome}
+use Rattle.wf_turn.proofs.Common.{◌≡◌, ◌∷◌, ◌∙◌, ap, sym, subst, List, [], map, IfSome, ArePainted, IsCast, Turned, all_painted, has_work}
+use Rattle.wf_turn.proofs.Common.{show_of, with_paint, Program, worked, AreOf, IsWork, Show, handed_on}
 use Rattle.std.specs.List.{slice_get}
-use Rattle.wf_turn.specs.Playing.{ArePainted, IsCast, Turned, all_painted, has_work, show_of, with_paint}
-use Rattle.wf_turn.specs.Program.{Program, worked}
-use Rattle.wf_turn.specs.Ready.{AreOf, IsWork}
-use Rattle.wf_turn.specs.Turns.{Show, handed_on}
 use Rattle.wf_turn.proofs.Shows.{HasTurn, are_after, cast_after, handed_is, has_turn, of_script, ready, turned, work_after}
 use Rattle.wf_turn.proofs.Works.{all_of_one, worked_client, worked_script}
 use Rattle.wf_turn.proofs.show.Show.turn.Goals as goal
@@ -60,7 +56,7 @@ module _ (c : goal.After-hand_on) where
 
 pub invariant_of-self : goal.invariant_of-self
 invariant_of-self c =
-    subst (λ (v : Show). IsCast (all_painted v)) (sym (now_is c))
+    subst (λ v. IsCast (all_painted v)) (sym (now_is c))
     (cast_after (s c) c.args.client c.take_turn_of-turn.new.machine (placed c) c.take_turn_of-turn.result (has c)
     c.take_turn_of-turn.ensures)
 
@@ -69,18 +65,18 @@ returns-clause-turned c =
     let client = c.args.client in
     let At : Show → Show → Type 0 = λ seen v. Turned seen client (record v { programs = with_paint client v.programs })
     c.take_turn_of-turn.result (has_work client v.programs) in
-    subst (λ (v : Show). At v (with_programs c (c.take_turn_of-turn.new.clock ∷ c.hand_on.new.others.items))) c.self.view_is
+    subst (λ v. At v (with_programs c (c.take_turn_of-turn.new.clock ∷ c.hand_on.new.others.items))) c.self.view_is
     (subst (At (s c)) (sym (now_is c)) (turned (s c) client c.take_turn_of-turn.new.machine (placed c) c.take_turn_of-turn.result (has c)
     c.take_turn_of-turn.ensures))
 
 pub returns-clause-painted : goal.returns-clause-painted
 returns-clause-painted c =
-    subst (λ (v : Show). ArePainted (with_paint c.args.client v.programs)) (sym (now_is c))
+    subst (λ v. ArePainted (with_paint c.args.client v.programs)) (sym (now_is c))
     (are_after (s c) c.args.client c.take_turn_of-turn.new.machine (placed c) c.take_turn_of-turn.result (has c)
     c.take_turn_of-turn.ensures)
 
 pub returns-clause-work : goal.returns-clause-work
 returns-clause-work c =
-    subst (λ (v : Show). IfSome (slice_get v.programs c.args.client) IsWork) (sym (now_is c))
+    subst (λ v. IfSome (slice_get v.programs c.args.client) IsWork) (sym (now_is c))
     (work_after (s c) c.args.client c.take_turn_of-turn.new.machine (placed c) c.take_turn_of-turn.result (has c)
     c.take_turn_of-turn.ensures)

@@ -1,7 +1,7 @@
 use Rattle.std.proofs.Common.{take}
 use Rattle.std.specs.Prelude.{All}
 use Rattle.wf_model.specs.Picture.{LayerFits}
-use Rattle.wf_kernel.proofs.fitting.fits.Given as goal
+use Rattle.wfpictures.proofs.fitting.fits.Given as goal
 
 -- the layers so far fit
 abbrev pub invariant-loop-layer : goal.invariant-loop-layer

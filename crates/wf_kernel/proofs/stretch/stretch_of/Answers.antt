@@ -1,7 +1,7 @@
 use Rattle.std.proofs.Common.{refl, arith}
 use Rattle.wf_kernel.proofs.Stretches.{columns_empty, rows_before, rows_behind, stretch_is}
 use Rattle.wf_kernel.specs.Prepared.{prepared_as}
-use Rattle.wf_kernel.proofs.laying.stretch_of.Goals as goal
+use Rattle.wf_kernel.proofs.stretch.stretch_of.Goals as goal
 
 pub returns-then-end-start-clause-none : goal.returns-then-end-start-clause-none
 returns-then-end-start-clause-none c =

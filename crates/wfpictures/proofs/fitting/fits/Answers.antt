@@ -2,7 +2,7 @@ use Rattle.std.proofs.Common.{arith, refl, ◌≤◌, length, take, sym, ◌∙�
 use Rattle.std.proofs.lemmas.List.{take_all}
 use Rattle.std.proofs.lemmas.List.Elements.{All-more, All-same}
 use Rattle.wf_model.specs.Picture.{LayerFits}
-use Rattle.wf_kernel.proofs.fitting.fits.Goals as goal
+use Rattle.wfpictures.proofs.fitting.fits.Goals as goal
 
 pub loop-layer-preserved : goal.loop-layer-preserved
 loop-layer-preserved c =
