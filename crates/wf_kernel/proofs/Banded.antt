@@ -3,7 +3,7 @@ use Rattle.std.proofs.Common.{◌≡◌, ℕ, ◌+◌, ◌-◌, ◌*◌, ◌/◌
 use Rattle.std.proofs.Common.{inr, zero-add, add-zero}
 use Rattle.std.specs.Prelude.{flat_map, IsTrue}
 use Rattle.std.specs.List.{range_with_len}
-use Rattle.std.proofs.lemmas.Nat.{div-add-mod', div-mul-add}
+use Rattle.std.proofs.lemmas.Nat.{div-add-mod', div-mul-add, mul-le}
 use Rattle.std.proofs.Math.Nat.{le_of_mul-le-mul_right, mul-le-mul_right, mul-sub, mul_comm}
 use Rattle.std.proofs.lemmas.Bool.{cases_lt}
 use Rattle.std.proofs.lemmas.Bool.Decides.{nat_tests}
@@ -19,6 +19,13 @@ side_low size sides = grind (arith, nat_tests)
 
 pub side_high : (size : Size) → IsTrue (has_sides size) → size.h ≤ 1024
 side_high size sides = grind (arith, nat_tests)
+
+-- so a target has at most so many pixels
+pub few_pixels : (size : Size) → IsTrue (has_sides size) → size.w * size.h ≤ 1048576
+few_pixels size sides =
+    let wide : size.w ≤ 1024 = grind (arith, nat_tests) in
+    let most : size.w * size.h ≤ 1024 * 1024 = mul-le size.w size.h 1024 1024 wide (side_high size sides) in
+    most
 
 -- a band begins with a row
 pub start_is : (start rows s : ℕ) → start % (rows * s) ≡ 0 → start ≡ start / (rows * s) * rows * s

@@ -16,8 +16,9 @@ use wf_image::{Contents, Image};
 use wf_pixel::{Rgba, Size};
 use wf_scene::Scene;
 
-/// How many pixels a band has at least: a thread costs more than painting fewer.
-const FEWEST: u32 = 16384;
+/// How many pixels a band has at least, where there are several: to make a thread costs as much as to paint some ten
+/// thousands of pixels.
+const FEWEST: u32 = 65536;
 
 /// Writes the same as `picture`, by bands of rows in at most so many threads, from 1 to 16, and a small picture in fewer. It takes no
 /// memory and refuses nothing: where no thread can be made, the calling thread paints the band.
@@ -142,7 +143,8 @@ fn paint_each<R: Threads + Sync>(
     ensures { (i : ℕ) → i < length bytes.old → slice_index bytes.new i ≡ slice_index (bound_rows size.w layers.now background 0 size.h) i }
 {
     let stride = 4 * size.w as usize;
-    let rows = size.h.div_ceil(workers).max(FEWEST / size.w + 1) as usize;
+    let bands = workers.min(size.w * size.h / FEWEST).max(1);
+    let rows = size.h.div_ceil(bands).max(1) as usize;
     thread::for_each_chunk_mut(
         rt,
         bytes,
