@@ -1,7 +1,7 @@
 -- One line more that makes no event.
 use Rattle.wf_turn.proofs.Common.{◌≡◌, ◌∙◌, ℕ, zero, suc, ◌+◌, ◌<◌, ◌≤◌, ◌==◌, Bool, true, false, cond, List, [], ◌∷◌, ◌++◌, length, take}
 use Rattle.wf_turn.proofs.Common.{drop, get_or, Option, Some, None, refl, sym, ap, arith, append-nil, ◌&&◌, and_parts, eqb-true, drop_more}
-use Rattle.wf_turn.proofs.Common.{slice_get, filter, option_to_list, enumerate_from, list_all, is_some, Canvas, Line, Verb, Name, IsPlace}
+use Rattle.wf_turn.proofs.Common.{slice_get, filter, option_to_list, enumerate_from, list_all, is_some, Canvas, Line, Verb, IsPlace}
 use Rattle.wf_turn.proofs.Common.{is_event_of, bound_by, bound_name, bound_names, is_event, lines_from, silent, skipped}
 use Rattle.std.proofs.lemmas.Option.{slice_get_past}
 use Rattle.wf_script.specs.declared.line.Verb.TheVariants as verb

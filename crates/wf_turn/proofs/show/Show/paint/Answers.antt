@@ -1,4 +1,4 @@
-use Rattle.wf_turn.proofs.Common.{◌≡◌, ◌∷◌, ◌∙◌, ◌-◌, ap, sym, subst, List, map, set, IsCast, has_work, show_of, with_paint, Program}
+use Rattle.wf_turn.proofs.Common.{◌≡◌, ◌∷◌, ◌∙◌, ◌-◌, ap, sym, subst, map, set, IsCast, has_work, show_of, with_paint}
 use Rattle.wf_turn.proofs.Common.{worked, Show}
 use Rattle.wf_turn.proofs.Shows.{eight_at, other_painted}
 use Rattle.wf_turn.proofs.Works.{paint_all}
