@@ -102,10 +102,3 @@ pub stops : (client at : ℕ) (lines : List Line) (l : Line) (canvas : Option Ca
 stops client at lines l canvas within is event =
     let each = and_parts (l.client == client) (is_event (is_some canvas) l.verb) event in
     (stopped client at lines l canvas within is each.0 each.1, place_here client at lines l within is each.0)
-
--- a line of a script is sound
-pub sound_at : (lines : List Line) (i : ℕ) (d : Line) → i < length lines → list_all is_line lines ≡ true → is_line (get_or lines i d) ≡ true
-sound_at [] i d within sound = absurd (omega (arith, within))
-sound_at (l ∷ lines) zero d within sound = (and_parts (is_line l) (list_all is_line lines) sound).0
-sound_at (l ∷ lines) (suc i) d within sound = sound_at lines i d (omega (arith, within))
-    (and_parts (is_line l) (list_all is_line lines) sound).1
