@@ -86,7 +86,8 @@ fours_read src out rows column stride i j are low place =
     let to : 4 * (column + get_or rows i 0 * stride) + (4 * j + k) ≡ from + k = omega arith in
     ap (λ (n : ℕ). get_or out n 0) at ∙ are i (4 * j + k) low (omega arith) ∙ ap (λ (n : ℕ). get_or src n 0) to in
     let first : get_or out (16 * i + 4 * j) 0 ≡ get_or src from 0 =
-    ap (λ (n : ℕ). get_or out n 0) (sym (add-zero (16 * i + 4 * j))) ∙ byte 0 (omega arith) ∙ ap (λ (n : ℕ). get_or src n 0) (add-zero from) in
+    ap (λ (n : ℕ). get_or out n 0) (sym (add-zero (16 * i + 4 * j))) ∙ byte 0 (omega arith)
+    ∙ ap (λ (n : ℕ). get_or src n 0) (add-zero from) in
     λ k. record { r = first k; g = byte 1 (omega arith) k; b = byte 2 (omega arith) k; a = byte 3 (omega arith) k }
 
 -- four columns that were gathered
@@ -147,7 +148,8 @@ pub line_kept : (b : Bound) (image : Bitmap) (n a d : ℕ) (bytes part rest : Li
     → (i e : ℕ) → i < n → down b.turn b.layer e ≡ down b.turn b.layer d
     → read_at Rgba8Pre bytes (4 * i) ≡ source_colour b image (a + i) e
 line_kept b image n a d bytes part rest part_is bytes_is i e less same =
-    let len : length part ≡ 4 * n = ap length part_is ∙ length-pieces (λ i. stored Rgba8Pre (source_colour b image (a + i) d)) 4 0 n (λ x. refl) in
+    let len : length part ≡ 4 * n = ap length part_is
+    ∙ length-pieces (λ i. stored Rgba8Pre (source_colour b image (a + i) d)) 4 0 n (λ x. refl) in
     ap (λ (l : List ℕ). read_at Rgba8Pre l (4 * i)) bytes_is
     ∙ read_front part rest (4 * i) (omega arith)
     ∙ ap (λ (l : List ℕ). read_at Rgba8Pre l (4 * i)) part_is

@@ -34,7 +34,8 @@ gather_fours-requires-clause-within c = λ k d less.
     let low : k < whole.len = omega arith in
     let places : List ℕ = chunk whole.x (whole.x + whole.len - whole.x) c.layer.inside.table.now in
     let place : get_or places k d ≡ across r.turn r.layer (whole.across + k) =
-    get_or_default places k d 0 less ∙ places_are r c.layer.inside.table.now whole (whole.x + whole.len - whole.x) table stretch count k low in
+    get_or_default places k d 0 less
+    ∙ places_are r c.layer.inside.table.now whole (whole.x + whole.len - whole.x) table stretch count k low in
     let inner = crossed_low r image (whole.across + k) whole.down prepared.showable source (omega arith) stretch.below crossed in
     let width : c.size-width.result.w ≡ image.size.w = ap (λ (size : Size). size.w) c.size-width.ensures.size in
     let bytes = ap (λ (l : List ℕ). length l) c.bytes.ensures.value in
@@ -60,7 +61,8 @@ returns c =
     let long = table.long in
     let count : whole.x + whole.len - whole.x ≡ whole.len = omega arith in
     let places : List ℕ = chunk whole.x (whole.x + whole.len - whole.x) c.layer.inside.table.now in
-    let len : length places ≡ whole.len = length-chunk whole.x (whole.x + whole.len - whole.x) c.layer.inside.table.now (omega arith) ∙ count in
+    let len : length places ≡ whole.len =
+    length-chunk whole.x (whole.x + whole.len - whole.x) c.layer.inside.table.now (omega arith) ∙ count in
     let width : c.size-width.result.w ≡ c.args.image.now.size.w = ap (λ (size : Size). size.w) c.size-width.ensures.size in
     let fours = subst (λ (n : ℕ). AreFours c.args.image.now.bytes c.min-first.result n places c.gather_fours.new.out) width
     (subst (λ (l : List ℕ). AreFours l c.min-first.result c.size-width.result.w places c.gather_fours.new.out) c.bytes.ensures.value
