@@ -21,6 +21,14 @@ impl<'a> Program<'a> {
         self.finish(0);
     }
 
+    /// Goes on without a canvas: none came.
+    pub(crate) fn without_canvas(&mut self)
+        ensures { self.new ≡ took_canvas self.old Payload.Nothing }
+    {
+        self.canvas = None;
+        self.finish(0);
+    }
+
     /// Paints the canvas that came, to post it next.
     fn paint_canvas(&mut self, paint: &Paint, mut canvas: Canvas)
         requires { IsTrue (is_paint paint.now) }

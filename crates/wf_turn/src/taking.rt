@@ -6,7 +6,7 @@ ghost use Rattle.wf_calls.specs.Replies.{bare};
 ghost use Rattle.wf_script.specs.Script.{is_line};
 ghost use Rattle.wf_turn.specs.Ready.{IsAnswered, IsAsking, IsWork};
 ghost use Rattle.wf_turn.specs.Names.{bound_name, bound_value};
-ghost use Rattle.wf_turn.specs.Program.{answered, asked_next, at_port, go_on, is_work, line_done, port_count, ticking, took, took_canvas};
+ghost use Rattle.wf_turn.specs.Program.{answered, asked_next, at_port, go_on, is_work, line_done, port_count, ticking, took};
 ghost use Rattle.wf_turn.specs.Program.{took_first, worked};
 
 use crate::names::{Names, is_creation};
@@ -101,14 +101,6 @@ impl<'a> Program<'a> {
             },
             Leg::Ports { port } => Leg::Ports { port: port + 1 },
         }
-    }
-
-    /// Goes on without a canvas: none came.
-    pub(crate) fn without_canvas(&mut self)
-        ensures { self.new ≡ took_canvas self.old Payload.Nothing }
-    {
-        self.canvas = None;
-        self.finish(0);
     }
 
     /// Goes on after the end of a frame.
