@@ -1,9 +1,17 @@
-"""Writes pictures as PNG and as animated PNG."""
+"""Writes pictures as PNG and as animated PNG, and reads small ones."""
 
 import struct
 import zlib
 
 MAGIC = b"\x89PNG\r\n\x1a\n"
+# The kinds of pictures: how many channels a pixel has in the file, and how many bits a channel may have.
+GREY, COLOUR, INDEXED, GREY_ALPHA, COLOUR_ALPHA = 0, 2, 3, 4, 6
+CHANNELS = {GREY: 1, COLOUR: 3, INDEXED: 1, GREY_ALPHA: 2, COLOUR_ALPHA: 4}
+BITS = {GREY: (1, 2, 4, 8, 16), COLOUR: (8, 16), INDEXED: (1, 2, 4, 8), GREY_ALPHA: (8, 16), COLOUR_ALPHA: (8, 16)}
+
+
+class NoPng(Exception):
+    """A file is no PNG picture, or one that is not read, and why."""
 
 
 def chunk(kind, data):
@@ -68,3 +76,104 @@ class Animation:
         self.sink.write(chunk(b"IEND", b""))
         self.sink.seek(self.count_at)
         self.sink.write(self.count())
+
+
+def chunks_of(data):
+    """The chunks of a file as kind and data."""
+    if data[: len(MAGIC)] != MAGIC:
+        raise NoPng("it does not begin as a PNG file does")
+    at, kind = len(MAGIC), b""
+    while kind != b"IEND":
+        if len(data) < at + 12:
+            raise NoPng("it ends too early")
+        length, kind = struct.unpack_from(">I4s", data, at)
+        body, tail = data[at + 8 : at + 8 + length], data[at + 8 + length : at + 12 + length]
+        if tail != struct.pack(">I", zlib.crc32(kind + body)):
+            raise NoPng(f"a part of it is cut off or damaged: {kind.decode('latin-1')}")
+        yield kind, body
+        at += 12 + length
+
+
+def paeth(left, above, corner):
+    """The neighbour that is nearest to left + above - corner."""
+    wanted = left + above - corner
+    return min((left, above, corner), key=lambda near: abs(wanted - near))
+
+
+def unfiltered(data, height, stride, step):
+    """The rows of a picture, of `stride` bytes each with `step` bytes from a pixel to the next, out of what was filtered."""
+    if len(data) != height * (stride + 1):
+        raise NoPng("its pixels are cut off or damaged")
+    above = bytes(stride)
+    for start in range(0, len(data), stride + 1):
+        kind, row = data[start], bytearray(data[start + 1 : start + 1 + stride])
+        if kind > 4:
+            raise NoPng("its pixels are damaged")
+        for x in range(stride if kind else 0):
+            left, corner = (row[x - step], above[x - step]) if x >= step else (0, 0)
+            predicted = (0, left, above[x], (left + above[x]) // 2, paeth(left, above[x], corner))[kind]
+            row[x] = (row[x] + predicted) % 256
+        yield row
+        above = row
+
+
+def samples(row, bits, count):
+    """The samples of a row of so many bits each, and of those of 16 bits the upper 8."""
+    if bits >= 8:
+        return row[: count * bits // 8 : bits // 8]
+    each, most = 8 // bits, (1 << bits) - 1
+    return [row[x // each] >> (8 - bits - bits * (x % each)) & most for x in range(count)]
+
+
+def key_of(kind, bits, transparency):
+    """The samples of the one colour that a picture without alpha says is not seen, or nothing."""
+    if kind not in (GREY, COLOUR) or len(transparency) < 2 * CHANNELS[kind]:
+        return None
+    said = struct.unpack_from(f">{CHANNELS[kind]}H", transparency)
+    return [sample >> 8 if bits == 16 else sample for sample in said]
+
+
+def pixel_of(kind, bits, sample, palette, transparency, key):
+    """A pixel of a kind, as red, green, blue and alpha, by its samples."""
+    if kind == INDEXED:
+        at = sample[0]
+        if len(palette) < 3 * at + 3:
+            raise NoPng("a pixel has a colour that is not in its palette")
+        return palette[3 * at : 3 * at + 3] + (transparency[at : at + 1] or b"\xff")
+    whole = [each * 255 // ((1 << min(bits, 8)) - 1) for each in sample]
+    alpha = 0 if list(sample) == key else 255
+    if kind in (GREY_ALPHA, COLOUR_ALPHA):
+        alpha = whole.pop()
+    return bytes((whole * 3)[:3] + [alpha])
+
+
+def read(data, most):
+    """The sides of a PNG file and its pixels, which are red, green, blue and alpha in rows from the top. Sides are at most so
+    long. Of 16 bits a channel the upper 8 are taken; colours are taken as they stand, whatever their profile."""
+    parts = {}
+    for part, body in chunks_of(data):
+        parts[part] = parts.get(part, b"") + body
+    if len(parts.get(b"IHDR", b"")) != 13 or b"IDAT" not in parts:
+        raise NoPng("it has no picture")
+    width, height, bits, kind, packing, filtering, interlaced = struct.unpack(">IIBBBBB", parts[b"IHDR"])
+    if bits not in BITS.get(kind, ()) or packing or filtering or interlaced > 1:
+        raise NoPng("it is of a kind that there is not")
+    if interlaced:
+        raise NoPng("it is interlaced; save it without that")
+    if not (1 <= width <= most and 1 <= height <= most):
+        raise NoPng(f"it has {width} by {height} pixels, and a side is from 1 to {most}")
+    count = width * CHANNELS[kind]
+    stride = (count * bits + 7) // 8
+    unpacker = zlib.decompressobj()
+    try:
+        rows = unpacker.decompress(parts[b"IDAT"], height * (stride + 1) + 1)
+    except zlib.error:
+        raise NoPng("its pixels are damaged") from None
+    palette, transparency = parts.get(b"PLTE", b""), parts.get(b"tRNS", b"")
+    key = key_of(kind, bits, transparency)
+    pixels = bytearray()
+    for row in unfiltered(rows, height, stride, max(1, CHANNELS[kind] * bits // 8)):
+        told = samples(row, bits, count)
+        for x in range(0, count, CHANNELS[kind]):
+            pixels += pixel_of(kind, bits, told[x : x + CHANNELS[kind]], palette, transparency, key)
+    return width, height, bytes(pixels)
