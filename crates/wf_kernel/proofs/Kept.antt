@@ -148,8 +148,8 @@ pub line_kept : (b : Bound) (image : Bitmap) (n a d : ℕ) (bytes part rest : Li
     → (i e : ℕ) → i < n → down b.turn b.layer e ≡ down b.turn b.layer d
     → read_at Rgba8Pre bytes (4 * i) ≡ source_colour b image (a + i) e
 line_kept b image n a d bytes part rest part_is bytes_is i e less same =
-    let len : length part ≡ 4 * n =
-    ap length part_is ∙ length-pieces (λ i. stored Rgba8Pre (source_colour b image (a + i) d)) 4 0 n (λ x. refl) in
+    let len : length part ≡ 4 * n = ap length part_is
+    ∙ length-pieces (λ i. stored Rgba8Pre (source_colour b image (a + i) d)) 4 0 n (λ x. refl) in
     ap (λ (l : List ℕ). read_at Rgba8Pre l (4 * i)) bytes_is
     ∙ read_front part rest (4 * i) (omega arith)
     ∙ ap (λ (l : List ℕ). read_at Rgba8Pre l (4 * i)) part_is

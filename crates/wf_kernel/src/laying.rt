@@ -92,8 +92,8 @@ fn lay_gathered(
     requires source { (layer_at layers.now i).source ≡ Some image.now }
     requires stretch { IsStretch (layer_at layers.now i) stretch }
     requires kept { AreKept layers.now kept.old }
-    ensures part { part.new
-        ≡ laid stretch.len (λ j. placed_texel (layer_at layers.now i) image.now (stretch.across + j) stretch.down) part.old }
+    ensures part { part.new ≡ laid stretch.len
+        (λ j. placed_texel (layer_at layers.now i) image.now (stretch.across + j) stretch.down) part.old }
     ensures kept { AreKept layers.now kept.new }
 {
     let layer = &layers[i];
@@ -119,8 +119,8 @@ fn lay_rows(
     requires source { (layer_at layers.now i).source ≡ Some image.now }
     requires stretch { IsStretch (layer_at layers.now i) stretch }
     requires kept { AreKept layers.now kept.old }
-    ensures part { part.new
-        ≡ laid stretch.len (λ j. placed_texel (layer_at layers.now i) image.now (stretch.across + j) stretch.down) part.old }
+    ensures part { part.new ≡ laid stretch.len
+        (λ j. placed_texel (layer_at layers.now i) image.now (stretch.across + j) stretch.down) part.old }
     ensures kept { AreKept layers.now kept.new }
 {
     let layer = &layers[i];
@@ -154,8 +154,8 @@ fn lay_columns(
     requires crossed { is_crossed (layer_at layers.now i).turn (layer_at layers.now i).layer ≡ true }
     requires stretch { IsStretch (layer_at layers.now i) stretch }
     requires kept { AreKept layers.now kept.old }
-    ensures part { part.new
-        ≡ laid stretch.len (λ j. placed_texel (layer_at layers.now i) image.now (stretch.across + j) stretch.down) part.old }
+    ensures part { part.new ≡ laid stretch.len
+        (λ j. placed_texel (layer_at layers.now i) image.now (stretch.across + j) stretch.down) part.old }
     ensures kept { AreKept layers.now kept.new }
 {
     let layer = &layers[i];

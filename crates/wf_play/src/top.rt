@@ -74,7 +74,8 @@ fn refusal_of(fault: ScriptFault) -> Status
     }
 }
 
-/// The script that the input's bytes stand for.
+/// The script that the input's bytes stand for. Its pieces are off the stack when it returns.
+#[inline(never)]
 fn read_script<I: Source>(alloc: Global, input: &mut I) -> Result<Script, Status>
     ensures reads { IfSome (I.left input.old) (λ bytes. ReadsScript bytes result) }
     ensures stop { IfErr result (IsReadStop (I.faults input.old) (I.faults input.new)) }

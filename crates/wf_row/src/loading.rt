@@ -48,6 +48,16 @@ pub(crate) fn padded_four(bytes: &[u8]) -> u8x16
     u8x16::from_array(all)
 }
 
+/// The four bytes from a place on.
+#[inline(always)]
+pub(crate) fn load_pixel(bytes: &[u8], at: usize) -> u8x4
+    requires { at + 4 ≤ length bytes.now }
+    ensures value { result ≡ chunk at 4 bytes.now }
+    ensures bytes { AreBytes 4 result }
+{
+    u8x4::from_slice(&bytes[at..])
+}
+
 /// The eight bytes from a place on.
 #[inline(always)]
 pub(crate) fn load_mask(bytes: &[u8], at: usize) -> u8x8

@@ -52,13 +52,31 @@ forms =
 
 -- the forms whose line makes something that a name then stands for
 abbrev pub creates : Form → Bool
-creates form.Stream = true
+creates (form.Alone zero.Post) = false
+creates (form.Alone zero.Discard) = false
+creates (form.Alone zero.Tick) = false
 creates (form.Alone zero.Device) = true
-creates form.Screen = true
+creates (form.One x) = false
 creates (form.Two two.Element) = true
+creates (form.Two two.Remove) = false
+creates (form.Two two.Above) = false
+creates (form.Two two.Below) = false
+creates (form.Two two.Commit) = false
+creates (form.Two two.Activate) = false
+creates (form.Two two.Deactivate) = false
+creates (form.Two (two.Destroy x)) = false
 creates (form.Three three.Source) = true
 creates (form.Three three.Mask) = true
-creates _ = false
+creates (form.Three three.Insert) = false
+creates form.Stream = true
+creates form.Stat = false
+creates form.Paint = false
+creates form.Frame = false
+creates form.Screen = true
+creates form.Set = false
+creates form.Get = false
+creates form.ContextSet = false
+creates form.ContextGet = false
 
 -- the words of each form
 abbrev pub arguments : Form → List Word → Given

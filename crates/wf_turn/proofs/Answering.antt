@@ -1,5 +1,5 @@
 -- The answer of the machine and that of the plain machine come to the same, once the Job is painted.
-use Rattle.wf_turn.proofs.Common.{◌≡◌, ◌∙◌, ℕ, ◌+◌, Bool, true, false, List, Option, Some, None, refl, ap, Canvas, Bitmap, Format, Scene}
+use Rattle.wf_turn.proofs.Common.{◌≡◌, ◌∙◌, ℕ, ◌+◌, Bool, true, false, List, Option, Some, None, refl, ap, Format, Scene}
 use Rattle.wf_turn.proofs.Common.{Job, JobKind, Payload, Reply, is_ok_code, Frame, SamePayload, Images, Line, Verb, Leg, Stage, Program}
 use Rattle.wf_turn.proofs.Common.{first_line, given_canvas, handed, kept_first, painted_job, line_done, ticking, took, took_at, took_canvas}
 use Rattle.wf_turn.proofs.Common.{took_first, took_frame, took_job, took_leg, worked, frames_of, shown}

@@ -2,7 +2,7 @@
 use Rattle.wf_turn.proofs.Common.{◌≡◌, ◌∙◌, ℕ, zero, suc, ◌+◌, ◌<◌, ◌≤◌, ◌==◌, Bool, true, false, not, cond, ◌&&◌, ◌⊎◌, inl, inr, List, []}
 use Rattle.wf_turn.proofs.Common.{◌∷◌, map, length, take, get_or, Option, Some, None, refl, sym, ap, subst, arith, slice_get, nat_lt}
 use Rattle.wf_turn.proofs.Common.{enumerate_from, list_all, IfSome, IsSomeAnd, ltb-true, length-map, nat_tests, Line, earlier, first_client}
-use Rattle.wf_turn.proofs.Common.{PlainScript, IsCast, StandsOwn, may_turn, Program, place_of, setup_lines, Show}
+use Rattle.wf_turn.proofs.Common.{IsCast, StandsOwn, may_turn, Program, place_of, setup_lines, Show}
 use Rattle.std.proofs.Common.{add-one}
 use Rattle.std.specs.Prelude.{fold}
 use Rattle.std.specs.Option.{is_none}

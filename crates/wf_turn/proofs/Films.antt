@@ -1,5 +1,5 @@
 -- The film that serial play puts, whole or cut.
-use Rattle.wf_turn.proofs.Common.{◌≡◌, ◌∙◌, ℕ, ◌+◌, ◌*◌, ◌≤◌, ◌==◌, Bool, true, false, cond, List, [], ◌∷◌, ◌++◌, map, length, None, Ok}
+use Rattle.wf_turn.proofs.Common.{◌≡◌, ◌∙◌, ℕ, ◌+◌, ◌*◌, ◌≤◌, ◌==◌, true, false, cond, List, [], ◌∷◌, ◌++◌, map, length, None, Ok}
 use Rattle.wf_turn.proofs.Common.{inl, inr, refl, sym, ap, subst, arith, append_assoc, append-nil, flat_map, filter, sum_by, enumerate_from}
 use Rattle.wf_turn.proofs.Common.{range_with_len, length-append, sum_by-cons, Turn, Frame, frame_bytes, tail_bytes, Puts, PutsPart}
 use Rattle.wf_turn.proofs.Common.{puts_both, stops_late, Line, PlainScript, first_client, frames_after, replay, PlaysTurns, StopsTurns}

@@ -1,5 +1,5 @@
 -- A program whose first line is through.
-use Rattle.wf_turn.proofs.Common.{◌≡◌, ◌∙◌, ℕ, ◌+◌, ◌<◌, ◌≤◌, ◌==◌, Bool, true, cond, List, [], ◌∷◌, ◌++◌, length, take, drop, get_or}
+use Rattle.wf_turn.proofs.Common.{◌≡◌, ◌∙◌, ℕ, ◌+◌, ◌<◌, ◌≤◌, ◌==◌, true, cond, List, [], ◌∷◌, ◌++◌, length, take, drop, get_or}
 use Rattle.wf_turn.proofs.Common.{Option, Some, None, refl, sym, ap, subst, arith, append-nil, IsTrue, eq-eqb, drop_more, length-append}
 use Rattle.wf_turn.proofs.Common.{take-append-drop, filter_map-append, zip, option_to_list, is_some, Canvas, Line, Name, Inside, Stage}
 use Rattle.wf_turn.proofs.Common.{IsProgram, program_of, Table, bound_by, bound_name, bound_names, known, IsPlace, Program, bound}

@@ -1,7 +1,7 @@
 -- The first line of a program, and what the setup hands on.
-use Rattle.wf_turn.proofs.Common.{◌≡◌, ◌∙◌, ℕ, zero, suc, ◌+◌, ◌<◌, ◌≤◌, Bool, cond, List, [], ◌∷◌, ◌++◌, length, take, drop, get_or}
+use Rattle.wf_turn.proofs.Common.{◌≡◌, ◌∙◌, ℕ, zero, suc, ◌+◌, ◌<◌, ◌≤◌, cond, List, [], ◌∷◌, ◌++◌, length, take, drop, get_or}
 use Rattle.wf_turn.proofs.Common.{Option, Some, None, refl, sym, ap, subst, arith, eq-eqb, filter_map-append, take-append-drop, slice_get}
-use Rattle.wf_turn.proofs.Common.{zip, IfSome, IsSomeAnd, Line, Name, PlainScript, Inside, IsProgram, program_of, bound_by, bound_names}
+use Rattle.wf_turn.proofs.Common.{zip, IfSome, IsSomeAnd, Line, Name, Inside, IsProgram, program_of, bound_by, bound_names}
 use Rattle.wf_turn.proofs.Common.{IsPlace, Program, first_line, first_of, lines_from, place_of, setup_lines, taught}
 use Rattle.wf_turn.specs.Program.{setup_names}
 use Rattle.wf_turn.proofs.Skips.{get_within, lines_at, lines_end}

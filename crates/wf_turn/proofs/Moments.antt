@@ -1,6 +1,6 @@
 -- Each frame of an order is what a port shows at a moment of it.
-use Rattle.wf_turn.proofs.Common.{◌≡◌, ℕ, Bool, false, List, [], ◌++◌, Option, Some, None, refl, sym, subst, get_or, Ok, ap, pos, All}
-use Rattle.wf_turn.proofs.Common.{All-cons, All-nil, Call, JobKind, Reply, Turn, entry, Frame, frame_of, job_of, Beginning, begin_call}
+use Rattle.wf_turn.proofs.Common.{◌≡◌, ℕ, Bool, false, List, [], ◌++◌, Some, None, refl, sym, subst, get_or, Ok, ap, pos, All}
+use Rattle.wf_turn.proofs.Common.{All-cons, All-nil, Call, Reply, Turn, entry, Frame, frame_of, job_of, Beginning, begin_call}
 use Rattle.wf_turn.proofs.Common.{start, State, step, PlainScript, Leg, Wanted, Begins, IsOfMoment, frames_after, is_marked, replay}
 use Rattle.wf_turn.proofs.Common.{given_canvas, go_on, line_done, next, painted_job, Program, took, took_canvas, took_frame, took_job}
 use Rattle.wf_turn.proofs.Common.{worked, plain, asked_for, Show, frames_of, shown, turn, program_at, each_at, Stage, by_begin, next_is}

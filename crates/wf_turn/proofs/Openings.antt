@@ -1,5 +1,5 @@
 -- The show before the first turn.
-use Rattle.wf_turn.proofs.Common.{◌≡◌, ◌∙◌, ℕ, zero, suc, ◌+◌, ◌≤◌, true, false, ◌&&◌, List, [], ◌∷◌, ◌++◌, map, length, None, refl, ap}
+use Rattle.wf_turn.proofs.Common.{◌≡◌, ◌∙◌, ℕ, zero, suc, ◌+◌, ◌≤◌, true, false, ◌&&◌, [], ◌∷◌, ◌++◌, map, length, None, refl, ap}
 use Rattle.wf_turn.proofs.Common.{arith, nat_le, list_all, range_with_len, and_parts, length-map, may_declare, PlainScript, IsCast, Program}
 use Rattle.wf_turn.proofs.Common.{lines_from, program, AreOf, opening_show, ArePainted}
 use Rattle.std.proofs.lemmas.Bool.{leb-true}

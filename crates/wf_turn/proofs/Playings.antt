@@ -25,15 +25,6 @@ module _ {K : Type 0} (took : K → List ℕ → Type 0) where
   flat_one : (frames more : List Frame) → flat_map frame_bytes (frames ++ more) ≡ flat_map frame_bytes frames ++ flat_map frame_bytes more
   flat_one frames more = flat_map-append frame_bytes frames more
 
-  -- before the first turn
-  pub none_played : (k : K) (was : ℕ) (start : Show) → PlaysTurns took k k was was start start []
-  none_played k was start = record {
-    frames = [];
-    run = refl;
-    put = λ before t. subst (took k) (sym (append-nil before)) t;
-    written_is = omega arith;
-  }
-
   -- one turn more
   pub one_played : (a b c : K) (was middle written : ℕ) (start last now : Show) (played after : List Turn)
       → PlaysTurns took a b was middle start last played → PlaysTurn took b c middle written last now played after

@@ -1,7 +1,7 @@
 -- One turn of a show that is played serially.
 use Rattle.wf_turn.proofs.Common.{◌≡◌, ◌∙◌, ℕ, zero, suc, ◌+◌, ◌-◌, ◌<◌, ◌≤◌, ◌==◌, Bool, true, false, not, cond, ◌&&◌, List, [], ◌∷◌, map}
 use Rattle.wf_turn.proofs.Common.{length, Option, Some, None, refl, sym, ap, subst, arith, set, get_or, IsTrue, slice_get, IfSome, IsSome}
-use Rattle.wf_turn.proofs.Common.{IsSomeAnd, Turn, Reply, entry, Frame, IsPaintable, Running, State, step, Line, PlainScript, first_client}
+use Rattle.wf_turn.proofs.Common.{IsSomeAnd, Turn, Reply, entry, Frame, IsPaintable, Running, State, step, first_client}
 use Rattle.wf_turn.proofs.Common.{is_marked, ArePainted, Ends, IsCast, TakesTurn, Turned, TurnsTo, all_painted, has_work, may_turn}
 use Rattle.wf_turn.proofs.Common.{shown_by, with_frames, with_paint, Program, in_setup, is_work, place_of, taught, took, worked, all_left}
 use Rattle.wf_turn.proofs.Common.{left, length-map, AreOf, IsFit, IsWork, Show, answered, frames_of, handed_on, is_setting_up, turn}

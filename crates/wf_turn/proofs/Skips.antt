@@ -1,7 +1,7 @@
 -- One line more that makes no event.
 use Rattle.wf_turn.proofs.Common.{◌≡◌, ◌∙◌, ℕ, zero, suc, ◌+◌, ◌<◌, ◌≤◌, ◌==◌, Bool, true, false, cond, List, [], ◌∷◌, ◌++◌, length, take}
 use Rattle.wf_turn.proofs.Common.{drop, get_or, Option, Some, None, refl, sym, ap, arith, append-nil, ◌&&◌, and_parts, eqb-true, drop_more}
-use Rattle.wf_turn.proofs.Common.{slice_get, filter, option_to_list, enumerate_from, list_all, is_some, Canvas, Line, Verb, Name, IsPlace}
+use Rattle.wf_turn.proofs.Common.{slice_get, filter, option_to_list, enumerate_from, list_all, is_some, Canvas, Line, Verb, IsPlace}
 use Rattle.wf_turn.proofs.Common.{is_event_of, bound_by, bound_name, bound_names, is_event, lines_from, silent, skipped}
 use Rattle.std.proofs.lemmas.Option.{slice_get_past}
 use Rattle.wf_script.specs.declared.line.Verb.TheVariants as verb
@@ -102,10 +102,3 @@ pub stops : (client at : ℕ) (lines : List Line) (l : Line) (canvas : Option Ca
 stops client at lines l canvas within is event =
     let each = and_parts (l.client == client) (is_event (is_some canvas) l.verb) event in
     (stopped client at lines l canvas within is each.0 each.1, place_here client at lines l within is each.0)
-
--- a line of a script is sound
-pub sound_at : (lines : List Line) (i : ℕ) (d : Line) → i < length lines → list_all is_line lines ≡ true → is_line (get_or lines i d) ≡ true
-sound_at [] i d within sound = absurd (omega (arith, within))
-sound_at (l ∷ lines) zero d within sound = (and_parts (is_line l) (list_all is_line lines) sound).0
-sound_at (l ∷ lines) (suc i) d within sound = sound_at lines i d (omega (arith, within))
-    (and_parts (is_line l) (list_all is_line lines) sound).1

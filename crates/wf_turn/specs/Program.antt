@@ -8,6 +8,7 @@ use Rattle.wf_image.specs.Paints.{painted}
 use Rattle.wf_calls.specs.declared.call.Call.{Call}
 use Rattle.wf_calls.specs.declared.call.Call.TheVariants as call
 use Rattle.wf_calls.specs.declared.call.Job.{Job}
+use Rattle.wf_calls.specs.declared.reply.Answer.{Answer}
 use Rattle.wf_calls.specs.declared.reply.Payload.{Payload}
 use Rattle.wf_calls.specs.declared.reply.Payload.TheVariants as payload
 use Rattle.wf_calls.specs.declared.reply.Reply.{Reply}
@@ -192,6 +193,10 @@ took_job p _ l = go_on p l
 abbrev pub given_canvas : Payload → Option Canvas
 given_canvas (payload.Canvas canvas) = Some canvas
 given_canvas _ = None
+
+-- an answer with what comes with it
+abbrev pub replied : Answer → Payload → Reply
+replied a given = record { code = a.code; value = a.value; payload = given }
 
 -- the line is through, with the canvas that came
 abbrev pub took_canvas : Program → Payload → Program

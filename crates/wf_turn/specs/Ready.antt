@@ -39,7 +39,3 @@ pub record IsFit (p : Program) : Type 0 where
 abbrev pub AreOf : PlainScript → ℕ → List Program → Type 0
 AreOf script client [] = Unit {0}
 AreOf script client (p ∷ ps) = (p.script ≡ script) × (p.client ≡ client) × IsFit p × AreOf script (client + 1) ps
-
--- they are the programs of the clients of one script
-abbrev pub AreOfOne : List Program → Type 0
-AreOfOne programs = (script : PlainScript) × AreOf script 0 programs

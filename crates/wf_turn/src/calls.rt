@@ -10,7 +10,7 @@ use wf_script::{Value, Verb};
 
 /// Puts a call where another one stood.
 #[inline(always)]
-fn put(place: &mut Call, call: Call) -> bool
+pub(crate) fn put(place: &mut Call, call: Call) -> bool
     ensures given { result ≡ true }
     ensures put { place.new ≡ call }
 {

@@ -1,6 +1,7 @@
 //! The clients of a script: their programs, their turns, and the film of an order.
 #![tactic(auto)]
 
+mod bringing;
 mod calls;
 mod index;
 mod laws;

@@ -44,11 +44,14 @@ pub fn serial<K: Sink>(alloc: Global, script: &Script, k: &mut K) -> Result<Orde
     ensures plays { PlaysFilm K.took k.old k.new script.now result }
     ensures caused { IsCaused (K.faults k.old) (K.faults k.new) result }
 {
-    let mut show = Show::open(alloc, script)?;
-    let Ok(played) = Vec::with_capacity(alloc, most_turns(script)) else {
-        return Err(PlayStop::NoMemory);
-    };
-    write_film(&mut show, k, played)
+    // The show stays where it was opened: it is large.
+    match &mut Show::open(alloc, script) {
+        Ok(show) => match Vec::with_capacity(alloc, most_turns(script)) {
+            Ok(played) => write_film(show, k, played),
+            Err(_) => Err(PlayStop::NoMemory),
+        },
+        Err(_) => Err(PlayStop::NoMemory),
+    }
 }
 
 /// Writes the film of a show that is open, into an order that has room for all turns.

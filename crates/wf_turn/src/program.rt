@@ -7,8 +7,9 @@ ghost use Rattle.std.specs.Option.{option_copied};
 ghost use Rattle.wf_script.specs.Script.{is_line};
 ghost use Rattle.wf_turn.specs.Calls.{IsPut, plain_call};
 ghost use Rattle.wf_turn.specs.Program.{asked_for, first_call, first_line, handed, handle, in_setup, kept_first, next, plain, place_of};
-ghost use Rattle.wf_turn.specs.Program.{program, taught, waiting};
+ghost use Rattle.wf_turn.specs.Program.{program, taught};
 
+use crate::calls::put;
 use crate::names::Names;
 use crate::setup::setup_lines;
 use crate::skipping::skip;
@@ -49,20 +50,6 @@ impl<'a> Model for Program<'a> {
     ghost invariant = { IsProgram };
 }
 
-/// A call that waits for nothing.
-fn plain(call: Call) -> Wanted
-    ensures { result ≡ plain call }
-{
-    Wanted { call, wait: false }
-}
-
-/// A call that waits until no frame runs.
-fn waiting(call: Call) -> Wanted
-    ensures { result ≡ waiting call }
-{
-    Wanted { call, wait: true }
-}
-
 /// Where a call is put that a program asks for: any call.
 #[inline(always)]
 pub(crate) fn unasked() -> Wanted {
@@ -72,24 +59,14 @@ pub(crate) fn unasked() -> Wanted {
     }
 }
 
-/// Puts what is asked for where something else stood.
+/// Asks for a call that waits for nothing.
 #[inline(always)]
-fn ask(place: &mut Wanted, asked: Wanted) -> bool
+fn ask(place: &mut Wanted, call: Call) -> bool
     ensures given { result ≡ true }
-    ensures put { place.new ≡ asked }
+    ensures put { place.new ≡ plain call }
 {
-    *place = asked;
-    true
-}
-
-/// What a tick asks for.
-fn asked_for(leg: Leg) -> Wanted
-    ensures { result ≡ asked_for leg }
-{
-    match leg {
-        Leg::Contexts { last, .. } => waiting(Call::BeginNext { after: last }),
-        Leg::Ports { port } => waiting(Call::BeginPort { port: port.into() }),
-    }
+    place.wait = false;
+    put(&mut place.call, call)
 }
 
 /// The line at a place, if there is one.
@@ -101,13 +78,17 @@ fn line_at(lines: &[Line], at: usize) -> Option<&Line>
     lines.get(at)
 }
 
-/// Puts what a tick asks for where something else stood.
+/// Asks for what a tick asks for.
 #[inline(never)]
 fn ask_leg(place: &mut Wanted, leg: Leg) -> bool
     ensures given { result ≡ true }
     ensures put { place.new ≡ asked_for leg }
 {
-    ask(place, asked_for(leg))
+    place.wait = true;
+    match leg {
+        Leg::Contexts { last, .. } => put(&mut place.call, Call::BeginNext { after: last }),
+        Leg::Ports { port } => put(&mut place.call, Call::BeginPort { port: port.into() }),
+    }
 }
 
 impl<'a> Program<'a> {
@@ -168,7 +149,7 @@ impl<'a> Program<'a> {
             Verb::Post => self.post(wanted),
             Verb::Discard => self.discard(wanted),
             Verb::Paint(_) => false,
-            Verb::Tick => ask(wanted, waiting(Call::BeginNext { after: 0 })),
+            Verb::Tick => ask_leg(wanted, Leg::Contexts { asked: 0, last: 0 }),
             _ => self.one_call(verb, wanted),
         }
     }
@@ -191,9 +172,9 @@ impl<'a> Program<'a> {
         }
         ask(
             wanted,
-            plain(Call::Acquire {
+            Call::Acquire {
                 stream: self.handle(stream),
-            }),
+            },
         )
     }
 
@@ -204,7 +185,7 @@ impl<'a> Program<'a> {
         ensures handed { self.new ≡ record self.old { canvas = None } }
     {
         match self.canvas.take() {
-            Some(canvas) => ask(wanted, plain(Call::Post(canvas))),
+            Some(canvas) => ask(wanted, Call::Post(canvas)),
             None => false,
         }
     }
@@ -216,7 +197,7 @@ impl<'a> Program<'a> {
         ensures handed { self.new ≡ record self.old { canvas = None } }
     {
         match self.canvas.take() {
-            Some(canvas) => ask(wanted, plain(Call::Discard(canvas))),
+            Some(canvas) => ask(wanted, Call::Discard(canvas)),
             None => false,
         }
     }
@@ -228,7 +209,7 @@ impl<'a> Program<'a> {
         ensures handed { self.new ≡ record self.old { job = None } }
     {
         match self.job.take() {
-            Some(job) => ask(wanted, plain(Call::End(job))),
+            Some(job) => ask(wanted, Call::End(job)),
             None => false,
         }
     }

@@ -127,7 +127,8 @@ fn take_turn_of(
 }
 
 impl<'a> Show<'a> {
-    /// The machine before the first call, and the programs before theirs.
+    /// The machine before the first call, and the programs before theirs. What it moves is off the stack when it returns.
+    #[inline(never)]
     pub(crate) fn open(alloc: Global, script: &'a Script) -> Result<Show<'a>, NoMemory>
         ensures { IfOk result (λ show. show ≡ opening_show script.now) }
     {

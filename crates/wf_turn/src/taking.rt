@@ -1,21 +1,19 @@
-//! The answers that a program takes.
+//! The answers that a program takes: how it goes on, and the answers with which nothing comes.
 
 ghost use Rattle.std.specs.Prelude.{◌≡◌, ◌<◌, ◌≤◌, ◌+◌, ◌-◌, ◌^◌, ◌++◌, length, is_some, IsTrue, None, false};
 ghost use Rattle.std.specs.Option.{option_copied};
-ghost use Rattle.wf_image.specs.Paints.{is_paint};
 ghost use Rattle.wf_calls.specs.Replies.{bare};
 ghost use Rattle.wf_script.specs.Script.{is_line};
 ghost use Rattle.wf_turn.specs.Ready.{IsAnswered, IsAsking, IsWork};
 ghost use Rattle.wf_turn.specs.Names.{bound_name, bound_value};
-ghost use Rattle.wf_turn.specs.Program.{answered, asked_next, at_port, given_canvas, go_on, line_done, port_count, took, took_canvas};
-ghost use Rattle.wf_turn.specs.Program.{took_first, took_frame, took_job, took_leg, is_work, ticking, worked};
+ghost use Rattle.wf_turn.specs.Program.{answered, asked_next, at_port, go_on, is_work, line_done, port_count, ticking, took};
+ghost use Rattle.wf_turn.specs.Program.{took_first, worked};
 
 use crate::names::{Names, is_creation};
 use crate::program::Program;
 use crate::skipping::skip;
 use crate::stage::{Leg, Stage};
-use wf_calls::{Answer, Job, Payload, Reply};
-use wf_image::{Canvas, Paint};
+use wf_calls::{Answer, Job};
 use wf_kernel::picture;
 use wf_script::{Line, Verb};
 
@@ -32,19 +30,9 @@ fn bind_line(own: &mut Names, line: &Line, value: u32)
     }
 }
 
-/// The canvas that comes with an answer.
-fn given_canvas(payload: Payload) -> Option<Canvas>
-    ensures { result ≡ given_canvas payload }
-{
-    match payload {
-        Payload::Canvas(canvas) => Some(canvas),
-        _ => None,
-    }
-}
-
 impl<'a> Program<'a> {
     /// The first line is through; the name that it binds, if there is one, has this value.
-    fn finish(&mut self, value: u32)
+    pub(crate) fn finish(&mut self, value: u32)
         ensures { self.new ≡ line_done self.old value }
     {
         let lines = self.script.lines();
@@ -80,7 +68,7 @@ impl<'a> Program<'a> {
     }
 
     /// A tick goes on.
-    fn go_on(&mut self, leg: Leg)
+    pub(crate) fn go_on(&mut self, leg: Leg)
         requires { IsAnswered (port_count self.old) leg }
         ensures { self.new ≡ go_on self.old leg }
     {
@@ -90,46 +78,8 @@ impl<'a> Program<'a> {
         }
     }
 
-    /// Takes the Job of a frame, or goes on without one.
-    fn took_job(&mut self, payload: Payload, leg: Leg)
-        requires { IsAnswered (port_count self.old) leg }
-        ensures { self.new ≡ took_job self.old payload leg }
-    {
-        match payload {
-            Payload::Job(job) => {
-                self.job = Some(job);
-                self.unpainted = true;
-                self.stage = Stage::Ending(leg);
-            }
-            _ => self.go_on(leg),
-        }
-    }
-
-    /// The first line is through, with the canvas that came.
-    fn took_canvas(&mut self, payload: Payload)
-        ensures { self.new ≡ took_canvas self.old payload }
-    {
-        self.canvas = given_canvas(payload);
-        self.finish(0);
-    }
-
-    /// Paints what came, to post it next.
-    fn took_frame(&mut self, paint: &Paint, payload: Payload)
-        requires paint { IsTrue (is_paint paint.now) }
-        ensures { self.new ≡ took_frame self.old paint.now (given_canvas payload) }
-    {
-        match given_canvas(payload) {
-            Some(mut canvas) => {
-                canvas.paint(paint);
-                self.canvas = Some(canvas);
-                self.stage = Stage::Posting;
-            }
-            None => self.finish(0),
-        }
-    }
-
     /// A tick begins.
-    fn start_tick(&mut self)
+    pub(crate) fn start_tick(&mut self)
         requires { self.old.stage ≡ Stage.Fresh }
         ensures { self.new ≡ ticking self.old }
     {
@@ -137,31 +87,8 @@ impl<'a> Program<'a> {
         self.stage = Stage::Ticking(Leg::Contexts { asked: 0, last: 0 });
     }
 
-    /// Takes the answer to the first call of a line.
-    fn took_first(&mut self, line: &Line, reply: Reply)
-        requires line { IsTrue (is_line line.now) }
-        requires fresh { self.old.stage ≡ Stage.Fresh }
-        ensures { self.new ≡ took_first self.old line.now reply }
-    {
-        match &line.verb {
-            Verb::Acquire { .. } | Verb::Post | Verb::Discard => self.took_canvas(reply.payload),
-            Verb::Frame { paint, .. } => self.took_frame(paint, reply.payload),
-            Verb::Tick => {
-                self.start_tick();
-                self.took_job(
-                    reply.payload,
-                    Leg::Contexts {
-                        asked: 1,
-                        last: reply.value,
-                    },
-                );
-            }
-            _ => self.finish(reply.value),
-        }
-    }
-
     /// Where a tick goes on after the answer to a question.
-    fn answered(&self, leg: Leg, value: u32) -> Leg
+    pub(crate) fn answered(&self, leg: Leg, value: u32) -> Leg
         requires asking { IsAsking (port_count self.now) leg }
         requires ports { port_count self.now ≤ 4 }
         ensures leg { result ≡ answered leg value }
@@ -176,27 +103,9 @@ impl<'a> Program<'a> {
         }
     }
 
-    /// Takes the answer to a tick's question.
-    fn took_leg(&mut self, leg: Leg, reply: Reply)
-        requires asking { IsAsking (port_count self.old) leg }
-        requires ports { port_count self.old ≤ 4 }
-        ensures { self.new ≡ took_leg self.old reply leg }
-    {
-        let next = self.answered(leg, reply.value);
-        self.took_job(reply.payload, next);
-    }
-
-    /// Goes on without a canvas: none came.
-    fn without_canvas(&mut self)
-        ensures { self.new ≡ took_canvas self.old Payload.Nothing }
-    {
-        self.canvas = None;
-        self.finish(0);
-    }
-
     /// Goes on after the end of a frame.
     #[inline(never)]
-    fn ended(&mut self, leg: Leg)
+    pub(crate) fn ended(&mut self, leg: Leg)
         requires { IsAnswered (port_count self.old) leg }
         ensures { self.new ≡ go_on (record self.old { job = None; unpainted = false }) leg }
     {
@@ -206,7 +115,7 @@ impl<'a> Program<'a> {
     }
 
     /// Takes the answer to the first call of a line, with which nothing comes.
-    fn took_first_answer(&mut self, line: &Line, answer: Answer)
+    pub(crate) fn took_first_answer(&mut self, line: &Line, answer: Answer)
         requires line { IsTrue (is_line line.now) }
         requires fresh { self.old.stage ≡ Stage.Fresh }
         ensures { self.new ≡ took_first self.old line.now (bare answer) }
@@ -237,39 +146,6 @@ impl<'a> Program<'a> {
             Stage::Posting => self.without_canvas(),
             Stage::Ticking(leg) => self.go_on(self.answered(leg, answer.value)),
             Stage::Ending(leg) => self.ended(leg),
-        }
-    }
-
-    /// Takes an answer with which something comes.
-    #[inline(never)]
-    fn took_payload(&mut self, reply: Reply)
-        ensures { self.new ≡ took self.old reply }
-    {
-        let Some(line) = self.first_line() else {
-            return;
-        };
-        match self.stage {
-            Stage::Fresh => self.took_first(line, reply),
-            Stage::Posting => self.took_canvas(reply.payload),
-            Stage::Ticking(leg) => self.took_leg(leg, reply),
-            Stage::Ending(leg) => self.ended(leg),
-        }
-    }
-
-    /// Takes the answer to the last call that was handed out.
-    pub fn took(&mut self, reply: Reply)
-        ensures { self.new ≡ took self.old reply }
-    {
-        match reply.payload {
-            Payload::Nothing => self.took_answer(Answer {
-                code: reply.code,
-                value: reply.value,
-            }),
-            payload => self.took_payload(Reply {
-                code: reply.code,
-                value: reply.value,
-                payload,
-            }),
         }
     }
 

@@ -55,8 +55,8 @@ lay_column-requires-clause-block c = λ i low.
     let start = has.start refl in
     let end = has.end refl in
     let few = kept.block_len in
-    let Is : ℕ → Type 0 =
-    λ k. (layer_at layers k).source ≡ Some c.args.image.now → IsBlock (layer_at layers k) c.args.image.now tag block in
+    let Is : ℕ → Type 0 = λ k. (layer_at layers k).source ≡ Some c.args.image.now
+    → IsBlock (layer_at layers k) c.args.image.now tag block in
     let is : IsBlock b c.args.image.now tag block = subst Is (has.layer refl) (kept.block c.args.image.now) c.requires.source in
     let back : tag.other + (c.down-other.result - tag.other) ≡ c.down-other.result = omega arith in
     let other : tag.other + (c.down-other.result - tag.other) ≡ down b.turn b.layer s.down =

@@ -14,8 +14,8 @@ returns-in_default-clause-part c =
     let s = c.args.stretch in
     let b : Bound = layer_at c.args.layers.now c.args.i in
     let same = layer_is c.args.layers.now c.args.i c.index-layers-i.result c.requires.layer c.index-layers-i.is in
-    let none =
-    ap (λ (b : Bound). b.source) (sym same) ∙ ap (λ (b : Bound). b.source) (sym c.layer.view_is) ∙ ap option_copied c.in_default.is in
+    let none = ap (λ (b : Bound). b.source) (sym same) ∙ ap (λ (b : Bound). b.source) (sym c.layer.view_is)
+    ∙ ap option_copied c.in_default.is in
     nothing_laid s.len (λ i. bound_texel b (s.x + i) s.y) c.args.part.now c.requires.count (λ i low. bound_nothing b (s.x + i) s.y none)
 
 pub returns-in-Forward-clause-part : goal.returns-in-Forward-clause-part

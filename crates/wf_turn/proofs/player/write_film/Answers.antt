@@ -1,5 +1,5 @@
-use Rattle.wf_turn.proofs.Common.{◌∙◌, ◌≤◌, ◌*◌, ap, sym, subst, length, List, [], Ok, arith, Turn, tail_bytes, Puts, PutsPart, all_left}
-use Rattle.wf_turn.proofs.Common.{PlaysFilm, Show, opening_show}
+use Rattle.wf_turn.proofs.Common.{◌∙◌, ◌≤◌, ◌*◌, ap, sym, subst, length, [], Ok, arith, tail_bytes, Puts, PutsPart, all_left}
+use Rattle.wf_turn.proofs.Common.{PlaysFilm, opening_show}
 use Rattle.wf_turn.specs.Playing.{script_of}
 use Rattle.wf_turn.proofs.Films.{cut_frame, cut_journal, cut_magic, left_few, left_open, stop_is, stops_open, turns_open, whole}
 use Rattle.wf_turn.proofs.player.write_film.Goals as goal

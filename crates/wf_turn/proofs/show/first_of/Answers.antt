@@ -1,4 +1,4 @@
-use Rattle.wf_turn.proofs.Common.{sym, subst, ◌∙◌, ◌∷◌, Option, None, ℕ, ap, IfSome, earlier, StandsOwn}
+use Rattle.wf_turn.proofs.Common.{sym, subst, ◌∙◌, ◌∷◌, None, ap, IfSome, earlier, StandsOwn}
 use Rattle.wf_turn.proofs.Clients.{all_passed, one_passed, own_clock, own_passed}
 use Rattle.wf_turn.proofs.show.first_of.Goals as goal
 

@@ -1,4 +1,4 @@
-use Rattle.wf_turn.proofs.Common.{◌∙◌, ap, sym, get_or, List, Program, taught}
+use Rattle.wf_turn.proofs.Common.{◌∙◌, ap, sym, get_or, taught}
 use Rattle.wf_words.specs.Places.{map_all, map_step, next_is}
 use Rattle.wf_turn.proofs.Teaching.{script_at}
 use Rattle.wf_turn.proofs.show.teach.Goals as goal

@@ -1,4 +1,4 @@
-use Rattle.wf_turn.proofs.Common.{◌∙◌, ◌+◌, Option, ap, sym, arith, Canvas, is_event_of, lines_from, skipped}
+use Rattle.wf_turn.proofs.Common.{◌∙◌, ◌+◌, ap, sym, arith, is_event_of, lines_from, skipped}
 use Rattle.wf_turn.proofs.Skips.{passes, place_end}
 use Rattle.wf_turn.proofs.skipping.skip.Goals as goal
 

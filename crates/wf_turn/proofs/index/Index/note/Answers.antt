@@ -1,4 +1,4 @@
-use Rattle.wf_turn.proofs.Common.{◌≡◌, ◌∙◌, ◌++◌, ◌∷◌, [], Bor, true, false, Some, length, cond, sym, ap, subst, ℕ, arith, length-map}
+use Rattle.wf_turn.proofs.Common.{◌≡◌, ◌∙◌, ◌++◌, ◌∷◌, [], true, false, Some, length, cond, sym, ap, subst, arith, length-map}
 use Rattle.wf_turn.proofs.Common.{is_some, bytes_eq, Name, names_of, place_in}
 use Rattle.std.proofs.lemmas.Map.Text.{btree_map_updates_str}
 use Rattle.wf_turn.specs.Index.{told}

@@ -1,4 +1,4 @@
-use Rattle.wf_turn.proofs.Common.{◌∙◌, List, ℕ, ap, sym, slice_get, names_of, Table, known, value_of}
+use Rattle.wf_turn.proofs.Common.{◌∙◌, ap, sym, slice_get, names_of, known, value_of}
 use Rattle.wf_turn.proofs.Values.{found_at, value_at}
 use Rattle.wf_turn.proofs.names.Names.value.Goals as goal
 

@@ -1,4 +1,4 @@
-use Rattle.wf_turn.proofs.Common.{◌≡◌, Option, subst, arith, common_steps, Call, IsPut, context_call, element_call, handle}
+use Rattle.wf_turn.proofs.Common.{◌≡◌, subst, arith, common_steps, IsPut, context_call, element_call, handle}
 use Rattle.wf_turn.proofs.program.Program.context_call.Goals as goal
 
 pub returns-in_default : goal.returns-in_default

@@ -1,4 +1,4 @@
-use Rattle.wf_turn.proofs.Common.{◌≡◌, Option, subst, arith, common_steps, Call, IsPut, element_call, handle}
+use Rattle.wf_turn.proofs.Common.{◌≡◌, subst, arith, common_steps, IsPut, element_call, handle}
 use Rattle.wf_turn.specs.Calls.{source_call}
 use Rattle.wf_turn.proofs.program.Program.element_call.Goals as goal
 

@@ -1,4 +1,4 @@
-use Rattle.wf_turn.proofs.Common.{◌≡◌, Option, ap, subst, refl, option_map, Canvas, Verb, IsPut, plain_call, Wanted, Program, first_call}
+use Rattle.wf_turn.proofs.Common.{◌≡◌, ap, subst, refl, option_map, Verb, IsPut, plain_call, Program, first_call}
 use Rattle.wf_turn.proofs.Common.{handle, kept_first, plain}
 use Rattle.wf_script.specs.declared.line.Verb.TheVariants as verb
 use Rattle.wf_turn.proofs.program.Program.first_call.Goals as goal

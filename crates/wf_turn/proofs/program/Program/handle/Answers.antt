@@ -1,4 +1,4 @@
-use Rattle.wf_turn.proofs.Common.{◌∙◌, Option, Some, ap, sym, unwrap_or, Name, program_of, Program, handle}
+use Rattle.wf_turn.proofs.Common.{◌∙◌, Some, ap, sym, unwrap_or, program_of, handle}
 use Rattle.wf_turn.proofs.Handles.{learned_handle, own_handle}
 use Rattle.wf_turn.proofs.program.Program.handle.Goals as goal
 

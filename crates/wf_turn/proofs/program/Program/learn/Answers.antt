@@ -1,4 +1,4 @@
-use Rattle.wf_turn.proofs.Common.{ap, Table}
+use Rattle.wf_turn.proofs.Common.{ap}
 use Rattle.wf_turn.proofs.Firsts.{learns}
 use Rattle.wf_turn.proofs.program.Program.learn.Goals as goal
 

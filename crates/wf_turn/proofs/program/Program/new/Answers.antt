@@ -1,4 +1,4 @@
-use Rattle.wf_turn.proofs.Common.{ap, Table, known}
+use Rattle.wf_turn.proofs.Common.{ap, known}
 use Rattle.wf_turn.proofs.Handles.{known_none, opened}
 use Rattle.wf_turn.proofs.program.Program.new.Goals as goal
 

@@ -1,4 +1,4 @@
-use Rattle.wf_turn.proofs.Common.{◌≡◌, Option, subst, refl, Call, Verb, IsPut, context_call, plain_call, handle}
+use Rattle.wf_turn.proofs.Common.{◌≡◌, subst, refl, Verb, IsPut, context_call, plain_call, handle}
 use Rattle.wf_script.specs.declared.line.Verb.TheVariants as verb
 use Rattle.wf_turn.proofs.program.Program.plain_call.Goals as goal
 

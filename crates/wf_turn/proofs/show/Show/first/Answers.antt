@@ -1,6 +1,6 @@
 use Rattle.wf_turn.proofs.Works.{cast_painted}
-use Rattle.wf_turn.proofs.Common.{ArePainted, ◌≡◌, ◌<◌, ◌∷◌, sym, subst, Some, List, ℕ, map, first_client, StandsOwn, may_turn, show_of}
-use Rattle.wf_turn.proofs.Common.{Program, place_of, Show}
+use Rattle.wf_turn.proofs.Common.{ArePainted, ◌≡◌, ◌<◌, ◌∷◌, sym, subst, Some, ℕ, map, first_client, StandsOwn, may_turn, show_of}
+use Rattle.wf_turn.proofs.Common.{place_of}
 use Rattle.std.specs.Bool.{IsTrue}
 use Rattle.wf_turn.proofs.Clients.{found_may}
 use Rattle.wf_turn.proofs.show.Show.first.Goals as goal

@@ -1,9 +1,8 @@
-use Rattle.wf_turn.proofs.Common.{all_painted, ◌≡◌, ◌∙◌, ◌++◌, ◌∷◌, [], ◌+◌, ap, sym, subst, List, ℕ, map, arith, range_with_len}
+use Rattle.wf_turn.proofs.Common.{all_painted, ◌≡◌, ◌∙◌, ◌++◌, ◌∷◌, [], ◌+◌, ap, sym, subst, List, map, arith, range_with_len}
 use Rattle.wf_turn.proofs.Common.{may_declare, State, IsCast, Program, program, Show, opening_show}
 use Rattle.wf_turn.proofs.Works.{cast_still}
 use Rattle.wf_turn.proofs.Openings.{opening_painted}
 use Rattle.std.proofs.lemmas.List.{map-append}
-use Rattle.wf_calls.specs.declared.ports.Ports.{Ports}
 use Rattle.std.specs.Bool.{IsTrue}
 use Rattle.wf_model.specs.State.{opening}
 use Rattle.wf_turn.proofs.Openings.{opening_cast, range_more}

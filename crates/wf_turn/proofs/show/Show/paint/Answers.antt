@@ -1,4 +1,4 @@
-use Rattle.wf_turn.proofs.Common.{◌≡◌, ◌∷◌, ◌∙◌, ◌-◌, ap, sym, subst, List, map, set, IsCast, has_work, show_of, with_paint, Program}
+use Rattle.wf_turn.proofs.Common.{◌≡◌, ◌∷◌, ◌∙◌, ◌-◌, ap, sym, subst, map, set, IsCast, has_work, show_of, with_paint}
 use Rattle.wf_turn.proofs.Common.{worked, Show}
 use Rattle.wf_turn.proofs.Shows.{eight_at, other_painted}
 use Rattle.wf_turn.proofs.Works.{paint_all}
@@ -30,7 +30,7 @@ invariant_of-self-else-client-eq0 c =
 pub returns-else-client-eq0-clause-painted : goal.returns-else-client-eq0-clause-painted
 returns-else-client-eq0-clause-painted c =
     ap (λ ps. record (s c) { programs = ps }) (done c).0
-    ∙ ap (λ v. record v { programs = with_paint c.args.client v.programs }) c.self.view_is
+    ∙ ap (λ (v : Show). record v { programs = with_paint c.args.client v.programs }) c.self.view_is
 
 pub returns-else-client-eq0-clause-was : goal.returns-else-client-eq0-clause-was
 returns-else-client-eq0-clause-was c =
