@@ -72,9 +72,6 @@ left_of start end x lt = grind (arith, nat_tests)
 right_of : (start end x : ℕ) → end ≤ x → (nat_le start x && nat_lt x end) ≡ false
 right_of start end x le = grind (arith, nat_tests)
 
-pub in_span : (start end x : ℕ) → start ≤ x → x < end → (nat_le start x && nat_lt x end) ≡ true
-in_span start end x low high = grind (arith, nat_tests)
-
 module _ (size : Size) (format : Format) (row : List ℕ) (paint : Paint) (y : ℕ) (count : length row ≡ size.w * pixel_bytes format) where
   -- before the span nothing changes
   pub starts : (start end : ℕ) → start ≤ end → end ≤ size.w → IsSpan size paint y start end

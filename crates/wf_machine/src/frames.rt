@@ -60,6 +60,7 @@ fn deliver(store: &mut Store, ports: &mut Vec<Port>, kind: JobKind, image: Image
 
 impl Parts {
     /// Begins a frame of the next active context, if there is one.
+    #[inline(never)]
     pub(crate) fn begin_next(&mut self, after: u32) -> Reply
         ensures left { self.new ≡ (started self.old (begin_next after self.old)).0 }
         ensures answer { IsAnswer (started self.old (begin_next after self.old)).1 result }
@@ -129,6 +130,7 @@ impl Parts {
     }
 
     /// Begins a frame of a port, which is counted from 1.
+    #[inline(never)]
     pub(crate) fn begin_port(&mut self, port: i64) -> Reply
         ensures left { self.new ≡ (started self.old (begin_port port self.old)).0 }
         ensures answer { IsAnswer (started self.old (begin_port port self.old)).1 result }

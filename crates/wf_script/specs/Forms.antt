@@ -1,7 +1,15 @@
 -- The forms of event lines: for each verb its word, whether its line binds a name, and the words behind it.
-use Rattle.std.specs.Prelude.{Bool, true, false, List, [], ◌∷◌, codes}
+use Rattle.std.specs.Prelude.{Bool, List, [], ◌∷◌, codes, None, pos}
+use Rattle.wf_pixel.specs.Choice.{black}
+use Rattle.wf_pixel.specs.declared.Format.TheVariants.{A8}
+use Rattle.wf_image.specs.declared.paint.Paint.TheVariants.{Fill}
+use Rattle.wf_scene.specs.declared.attributes.ContextAttr.TheVariants as context
+use Rattle.wf_scene.specs.declared.attributes.ElementAttr.TheVariants as element
+use Rattle.wf_calls.specs.declared.call.StatWord.TheVariants.{Streams}
 use Rattle.wf_script.specs.declared.form.Form.{Form}
 use Rattle.wf_script.specs.declared.form.Form.TheVariants as form
+use Rattle.wf_script.specs.declared.line.Value.TheVariants.{Handle}
+use Rattle.wf_script.specs.declared.line.Verb.TheVariants as verb
 use Rattle.wf_script.specs.declared.verbs.NoHandle.TheVariants as zero
 use Rattle.wf_script.specs.declared.verbs.OneHandle.TheVariants as one
 use Rattle.wf_script.specs.declared.verbs.TwoHandles.TheVariants as two
@@ -11,7 +19,7 @@ use Rattle.wf_script.specs.Attributes.{context_get_words, context_set_words, get
 use Rattle.wf_script.specs.Composition.{no_words, one_handle, screen_words, three_handles, two_handles}
 use Rattle.wf_script.specs.Given.{Given}
 use Rattle.wf_script.specs.Streams.{frame_words, paint_words, stat_words_of, stream_words}
-use Rattle.wf_script.specs.Verbs.{of_none, of_one, of_three, of_two}
+use Rattle.wf_script.specs.Verbs.{creates, of_none, of_one, of_three, of_two}
 use Rattle.wf_script.specs.Words.{Word}
 
 -- the verbs
@@ -50,33 +58,22 @@ forms =
     ∷ (codes "del_mask", form.Two (two.Destroy destroyed.Mask))
     ∷ []
 
--- the forms whose line makes something that a name then stands for
-abbrev pub creates : Form → Bool
-creates (form.Alone zero.Post) = false
-creates (form.Alone zero.Discard) = false
-creates (form.Alone zero.Tick) = false
-creates (form.Alone zero.Device) = true
-creates (form.One x) = false
-creates (form.Two two.Element) = true
-creates (form.Two two.Remove) = false
-creates (form.Two two.Above) = false
-creates (form.Two two.Below) = false
-creates (form.Two two.Commit) = false
-creates (form.Two two.Activate) = false
-creates (form.Two two.Deactivate) = false
-creates (form.Two (two.Destroy x)) = false
-creates (form.Three three.Source) = true
-creates (form.Three three.Mask) = true
-creates (form.Three three.Insert) = false
-creates form.Stream = true
-creates form.Stat = false
-creates form.Paint = false
-creates form.Frame = false
-creates form.Screen = true
-creates form.Set = false
-creates form.Get = false
-creates form.ContextSet = false
-creates form.ContextGet = false
+-- the forms whose line makes something that a name then stands for: a verb makes it whatever its words are, so each form is
+-- told by a verb of its own
+abbrev pub binds : Form → Bool
+binds (form.Alone v) = creates (of_none v)
+binds (form.One v) = creates (of_one v None)
+binds (form.Two v) = creates (of_two v None None)
+binds (form.Three v) = creates (of_three v None None None)
+binds form.Stream = creates (verb.StreamNew (pos 0) (pos 0) A8 (pos 0))
+binds form.Stat = creates (verb.Stat Streams)
+binds form.Paint = creates (verb.Paint (Fill black))
+binds form.Frame = creates (verb.Frame None (Fill black))
+binds form.Screen = creates (verb.ScreenContext None (pos 0))
+binds form.Set = creates (verb.ElementSet None None element.Dest (Handle None))
+binds form.Get = creates (verb.ElementGet None None element.Dest (pos 0))
+binds form.ContextSet = creates (verb.ContextSet None None context.Width (Handle None))
+binds form.ContextGet = creates (verb.ContextGet None None context.Width (pos 0))
 
 -- the words of each form
 abbrev pub arguments : Form → List Word → Given

@@ -15,7 +15,7 @@ use Rattle.wf_script.specs.declared.name.Name.{Name}
 use Rattle.wf_script.specs.declared.rule.Rule.{Rule}
 use Rattle.wf_script.specs.declared.rule.Rule.TheVariants as rule
 use Rattle.wf_script.specs.declared.verbs.NoHandle.TheVariants as zero
-use Rattle.wf_script.specs.Forms.{arguments, creates, forms}
+use Rattle.wf_script.specs.Forms.{arguments, binds, forms}
 use Rattle.wf_script.specs.Rules.{rule_number}
 use Rattle.wf_script.specs.Script.{PlainScript}
 use Rattle.wf_script.specs.Visible.{is_visible}
@@ -109,8 +109,8 @@ parts_of (v ∷ w ∷ ws) = if bytes_eq w (codes "=") then named v ws else Ok (r
 
 -- a verb that makes something has a name in front, and no other has
 abbrev pub has_its_name : Form → Option Word → Bool
-has_its_name form None = not (creates form)
-has_its_name form (Some name) = creates form
+has_its_name form None = not (binds form)
+has_its_name form (Some name) = binds form
 
 -- the clock is client 0's
 abbrev pub is_its_client : Form → ℕ → Bool

@@ -1,5 +1,5 @@
--- The verbs that take nothing but handles.
-use Rattle.std.specs.Prelude.{Option}
+-- Which verbs make something, and the verbs that take nothing but handles.
+use Rattle.std.specs.Prelude.{Bool, true, false, Option}
 use Rattle.wf_script.specs.declared.line.Verb.{Verb}
 use Rattle.wf_script.specs.declared.line.Verb.TheVariants as verb
 use Rattle.wf_script.specs.declared.name.Name.{Name}
@@ -13,6 +13,40 @@ use Rattle.wf_script.specs.declared.verbs.ThreeHandles.{ThreeHandles}
 use Rattle.wf_script.specs.declared.verbs.ThreeHandles.TheVariants as three
 use Rattle.wf_script.specs.declared.verbs.Destroyed.{Destroyed}
 use Rattle.wf_script.specs.declared.verbs.Destroyed.TheVariants as destroyed
+
+-- the verbs that make something: their lines have a name, under which the answer's value is kept
+abbrev pub creates : Verb → Bool
+creates (verb.StreamNew width height format buffers) = true
+creates (verb.Acquire stream) = false
+creates verb.Post = false
+creates verb.Discard = false
+creates (verb.Stat what) = false
+creates (verb.Paint paint) = false
+creates (verb.Frame stream paint) = false
+creates verb.Tick = false
+creates verb.DeviceNew = true
+creates (verb.GetError device) = false
+creates (verb.ScreenContext device port) = true
+creates (verb.ElementNew device context) = true
+creates (verb.SourceNew device context stream) = true
+creates (verb.MaskNew device context stream) = true
+creates (verb.ElementSet device element attr value) = false
+creates (verb.ElementGet device element attr index) = false
+creates (verb.ElementInsert device element below) = false
+creates (verb.ElementRemove device element) = false
+creates (verb.ElementAbove device element) = false
+creates (verb.ElementBelow device element) = false
+creates (verb.ContextSet device context attr value) = false
+creates (verb.ContextGet device context attr index) = false
+creates (verb.Commit device context) = false
+creates (verb.Activate device context) = false
+creates (verb.Deactivate device context) = false
+creates (verb.StreamDestroy stream) = false
+creates (verb.DeviceDestroy device) = false
+creates (verb.ContextDestroy device context) = false
+creates (verb.ElementDestroy device element) = false
+creates (verb.SourceDestroy device source) = false
+creates (verb.MaskDestroy device mask) = false
 
 -- no handle
 abbrev pub of_none : NoHandle → Verb

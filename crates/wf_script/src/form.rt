@@ -1,7 +1,7 @@
 //! The forms of event lines.
 
 ghost use Rattle.std.specs.Prelude.{◌≡◌};
-ghost use Rattle.wf_script.specs.Forms.{creates, forms};
+ghost use Rattle.wf_script.specs.Forms.{binds, forms};
 ghost use Rattle.wf_script.specs.Words.{look_up};
 
 use crate::table::look_up;
@@ -78,15 +78,22 @@ impl Form {
     }
 
     /// Whether its line makes something that a name then stands for.
-    pub(crate) fn creates(self) -> bool
-        ensures { result ≡ creates self }
+    pub(crate) fn binds(self) -> bool
+        ensures { result ≡ binds self }
     {
         match self {
+            Form::Alone(verb) => verb.verb().creates(),
+            Form::One(verb) => verb.verb(None).creates(),
+            Form::Two(verb) => verb.verb(None, None).creates(),
+            Form::Three(verb) => verb.verb(None, None, None).creates(),
             Form::Stream | Form::Screen => true,
-            Form::Alone(verb) => matches!(verb, NoHandle::Device),
-            Form::Two(verb) => matches!(verb, TwoHandles::Element),
-            Form::Three(verb) => matches!(verb, ThreeHandles::Source | ThreeHandles::Mask),
-            _ => false,
+            Form::Stat
+            | Form::Paint
+            | Form::Frame
+            | Form::Set
+            | Form::Get
+            | Form::ContextSet
+            | Form::ContextGet => false,
         }
     }
 }

@@ -1,5 +1,8 @@
 //! Event lines.
 
+ghost use Rattle.std.specs.Prelude.{◌≡◌};
+ghost use Rattle.wf_script.specs.Verbs.{creates};
+
 use crate::name::Name;
 use wf_calls::StatWord;
 use wf_image::Paint;
@@ -166,6 +169,23 @@ pub enum Verb {
         device: Option<Name>,
         mask: Option<Name>,
     },
+}
+
+impl Verb {
+    /// Whether the verb makes something: its line has a name, under which the answer's value is kept.
+    pub fn creates(&self) -> bool
+        ensures { result ≡ creates self.now }
+    {
+        matches!(
+            self,
+            Verb::StreamNew { .. }
+                | Verb::DeviceNew
+                | Verb::ScreenContext { .. }
+                | Verb::ElementNew { .. }
+                | Verb::SourceNew { .. }
+                | Verb::MaskNew { .. }
+        )
+    }
 }
 
 /// An event line: a client, what it asks for, and the name under which the answer's value is kept.

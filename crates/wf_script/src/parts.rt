@@ -54,8 +54,8 @@ pub(crate) fn has_its_name(form: Form, name: Option<&[u8]>) -> bool
     ensures { result ≡ has_its_name form (option_map (λ w. w.now) name.entry) }
 {
     match name {
-        Some(_) => form.creates(),
-        None => !form.creates(),
+        Some(_) => form.binds(),
+        None => !form.binds(),
     }
 }
 

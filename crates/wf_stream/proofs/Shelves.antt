@@ -30,11 +30,6 @@ pub numbered_room : (low high : ℕ) (streams : List KeptStream) → IsNumbered 
 numbered_room low high [] rising = omega arith
 numbered_room low high (s ∷ streams) rising = omega (arith, numbered_room s.number high streams rising.1)
 
--- and rise up to any higher bound, from any lower one
-pub numbered_more : (low high top : ℕ) (streams : List KeptStream) → IsNumbered low streams high → high ≤ top → IsNumbered low streams top
-numbered_more low high top [] rising up = omega arith
-numbered_more low high top (s ∷ streams) rising up = (rising.0, numbered_more s.number high top streams rising.1 up)
-
 numbered_lower : (low least high : ℕ) (streams : List KeptStream) → IsNumbered low streams high → least ≤ low
     → IsNumbered least streams high
 numbered_lower low least high [] rising under = omega arith

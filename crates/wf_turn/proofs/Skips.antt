@@ -1,13 +1,12 @@
 -- One line more that makes no event.
 use Rattle.wf_turn.proofs.Common.{◌≡◌, ◌∙◌, ℕ, zero, suc, ◌+◌, ◌<◌, ◌≤◌, ◌==◌, Bool, true, false, cond, List, [], ◌∷◌, ◌++◌, length, take}
 use Rattle.wf_turn.proofs.Common.{drop, get_or, Option, Some, None, refl, sym, ap, arith, append-nil, ◌&&◌, and_parts, eqb-true, drop_more}
-use Rattle.wf_turn.proofs.Common.{slice_get, filter, option_to_list, enumerate_from, list_all, is_some, Canvas, Line, Verb, IsPlace}
+use Rattle.wf_turn.proofs.Common.{slice_get, filter, option_to_list, enumerate_from, is_some, Canvas, Line, Verb, IsPlace}
 use Rattle.wf_turn.proofs.Common.{is_event_of, bound_by, bound_name, bound_names, is_event, lines_from, silent, skipped}
 use Rattle.std.proofs.lemmas.Option.{slice_get_past}
 use Rattle.wf_script.specs.declared.line.Verb.TheVariants as verb
-use Rattle.wf_script.specs.Script.{is_line}
+use Rattle.wf_script.specs.Verbs.{creates}
 use Rattle.wf_turn.specs.Passing.{passed}
-use Rattle.wf_turn.specs.Names.{is_creation}
 use Rattle.wf_turn.proofs.Values.{names_more}
 
 pub get_within : {A : Type 0} (xs : List A) (i : ℕ) (d : A) → i < length xs → slice_get xs i ≡ Some (get_or xs i d)
@@ -42,7 +41,7 @@ place_here client at lines l within is here =
     record { within = omega (arith, within); here = rw (get_within lines at l within) same }
 
 -- a line that makes no event binds no name
-binds_none : (held : Bool) (v : Verb) → is_event held v ≡ false → is_creation v ≡ false
+binds_none : (held : Bool) (v : Verb) → is_event held v ≡ false → creates v ≡ false
 binds_none held (verb.Acquire s) silent = refl
 binds_none held verb.Post silent = refl
 binds_none held verb.Discard silent = refl

@@ -4,34 +4,19 @@ ghost use Rattle.std.specs.Prelude.{◌≡◌, ◌++◌, ◌∷◌, ◌<◌, ◌
 ghost use Rattle.std.specs.Prelude.{option_to_list};
 ghost use Rattle.std.specs.Option.{option_copied};
 ghost use Rattle.wf_turn.specs.Index.{IsIndex, names_of};
-ghost use Rattle.wf_turn.specs.Names.{bound_by, bound_names, is_creation, known, value_of};
+ghost use Rattle.wf_turn.specs.Names.{bound_by, bound_names, known, value_of};
 
 use crate::index::Index;
 use std::alloc::Global;
 use std::marker::Model;
-use wf_script::{Line, Name, Verb};
+use wf_script::{Line, Name};
 use wf_words::NoMemory;
-
-/// Whether a verb makes something: its answer's value is kept under the line's name.
-pub(crate) fn is_creation(verb: &Verb) -> bool
-    ensures { result ≡ is_creation verb.now }
-{
-    matches!(
-        verb,
-        Verb::StreamNew { .. }
-            | Verb::DeviceNew
-            | Verb::ScreenContext { .. }
-            | Verb::ElementNew { .. }
-            | Verb::SourceNew { .. }
-            | Verb::MaskNew { .. }
-    )
-}
 
 /// The name that a line binds, if it is a client's.
 fn bound_by(client: u8, line: &Line) -> Option<&Name>
     ensures { option_copied result ≡ bound_by client line.now }
 {
-    if line.client == client && is_creation(&line.verb) {
+    if line.client == client && line.verb.creates() {
         line.name.as_ref()
     } else {
         None

@@ -9,7 +9,7 @@ ghost use Rattle.wf_turn.specs.Names.{bound_name, bound_value};
 ghost use Rattle.wf_turn.specs.Program.{answered, asked_next, at_port, go_on, is_work, line_done, port_count, ticking, took};
 ghost use Rattle.wf_turn.specs.Program.{took_first, worked};
 
-use crate::names::{Names, is_creation};
+use crate::names::Names;
 use crate::program::Program;
 use crate::skipping::skip;
 use crate::stage::{Leg, Stage};
@@ -25,7 +25,7 @@ fn bind_line(own: &mut Names, line: &Line, value: u32)
     requires { IsTrue (is_some (bound_name line.now)) → length own.old.values < length own.old.names }
     ensures { own.new ≡ record own.old { values = own.old.values ++ bound_value (bound_name line.now) value } }
 {
-    if is_creation(&line.verb) && line.name.is_some() {
+    if line.verb.creates() && line.name.is_some() {
         own.bind(value);
     }
 }

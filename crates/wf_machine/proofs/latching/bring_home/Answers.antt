@@ -6,15 +6,15 @@ use Rattle.wf_machine.proofs.latching.bring_home.Goals as goal
 pub loop-number-init : goal.loop-number-init
 loop-number-init c =
     let store = c.args.store.now in
-    ([], sym (append-nil c.args.contents), ap (λ streams. record store { streams = streams }) (none_home store.streams))
+    ([], sym (append-nil _), ap (λ streams. record store { streams = streams }) (none_home store.streams))
 
 pub bring_image_home-requires : goal.bring_image_home-requires
 bring_image_home-requires c =
     let streams = c.args.store.now.streams in
     let home = c.loop-number.invariant.0 in
     let pair : ℕ × Bitmap = (c.in-Some.number, c.in-Some.image) in
-    let is = next_home c.args.contents c.loop-number.contents c.pop.new.self home pair c.loop-number.invariant.1 c.in-Some.ensures.last in
-    let awaited = next_awaited streams c.args.contents c.pop.new.self home pair is c.requires.awaited in
+    let is = next_home _ c.loop-number.contents _ home pair c.loop-number.invariant.1 c.in-Some.ensures.last in
+    let awaited = next_awaited streams _ _ home pair is c.requires.awaited in
     subst (λ store. Awaits store.streams pair) (sym c.loop-number.invariant.2)
     (still_awaits pair home streams awaited.1 awaited.0)
 
@@ -23,8 +23,8 @@ loop-number-preserved c =
     let before = c.args.store.now in
     let home = c.loop-number.invariant.0 in
     let pair : ℕ × Bitmap = (c.in-Some.number, c.in-Some.image) in
-    let is = next_home c.args.contents c.loop-number.contents c.pop.new.self home pair c.loop-number.invariant.1 c.in-Some.ensures.last in
-    let awaited = next_awaited before.streams c.args.contents c.pop.new.self home pair is c.requires.awaited in (
+    let is = next_home _ c.loop-number.contents _ home pair c.loop-number.invariant.1 c.in-Some.ensures.last in
+    let awaited = next_awaited before.streams _ _ home pair is c.requires.awaited in (
       pair ∷ home,
       is,
       c.bring_image_home.ensures

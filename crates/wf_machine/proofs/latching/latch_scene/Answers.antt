@@ -4,35 +4,35 @@ use Rattle.wf_machine.proofs.latching.latch_scene.Goals as goal
 
 pub loop-layer-init : goal.loop-layer-init
 loop-layer-init c = record {
-  so_far = nothing_taken c.args.store.now c.new-images.result c.new-images.ensures;
+  so_far = nothing_taken _ _ c.new-images.ensures;
   few = omega (arith, ap length c.new-images.ensures);
 }
 
 pub take-requires-clause-home : goal.take-requires-clause-home
-take-requires-clause-home c = take_home c.args.store.now c.loop-layer.store _ _ c.loop-layer.images c.requires.home
+take-requires-clause-home c = take_home _ c.loop-layer.store _ _ c.loop-layer.images c.requires.home
     c.loop-layer.invariant.so_far
 
 pub take-requires-in-loop-layer-clause-home : goal.take-requires-in-loop-layer-clause-home
 take-requires-in-loop-layer-clause-home c =
-    let first = take_step c.args.store.now c.loop-layer.store c.take.new.store _ _ c.args.store.now.numbered c.loop-layer.images
+    let first = take_step _ c.loop-layer.store _ _ _ _ c.loop-layer.images
     c.take.new.self c.requires.numbered c.loop-layer.invariant.so_far c.take.ensures.contents c.take.ensures.store
     c.take.ensures.shaped in
-    take_home c.args.store.now c.take.new.store _ _ c.take.new.self c.requires.home first
+    take_home _ _ _ _ _ c.requires.home first
 
 pub loop-layer-preserved : goal.loop-layer-preserved
 loop-layer-preserved c =
-    let first = take_step c.args.store.now c.loop-layer.store c.take.new.store _ _ c.args.store.now.numbered c.loop-layer.images
+    let first = take_step _ c.loop-layer.store _ _ _ _ c.loop-layer.images
     c.take.new.self c.requires.numbered c.loop-layer.invariant.so_far c.take.ensures.contents c.take.ensures.store
     c.take.ensures.shaped in
     let t = c.take-in-loop-layer in
-    let second = take_step c.args.store.now c.take.new.store t.new.store _ _ c.args.store.now.numbered c.take.new.self t.new.self
+    let second = take_step _ _ t.new.store _ _ _ _ t.new.self
     c.requires.numbered first t.ensures.contents t.ensures.store t.ensures.shaped in
     let one : length c.take.new.self ≤ length c.loop-layer.images + 1 =
-    few_step _ c.loop-layer.store.streams c.loop-layer.images c.take.new.self c.take.ensures.contents in
+    few_step _ c.loop-layer.store.streams c.loop-layer.images _ c.take.ensures.contents in
     let two : length t.new.self ≤ length c.take.new.self + 1 =
-    few_step _ c.take.new.store.streams c.take.new.self t.new.self t.ensures.contents in
+    few_step _ _ _ t.new.self t.ensures.contents in
     record {
       so_far = subst (λ ns. IsTaken c.args.store.now ns t.new.self t.new.store)
-          (sym (names_more c.loop-layer.layer-index c.as_slice-layer-items.result.now _ c.loop-layer-test.true)) second;
+          (sym (names_more c.loop-layer.layer-index _ _ c.loop-layer-test.true)) second;
       few = omega (arith, c.loop-layer.invariant.few);
     }

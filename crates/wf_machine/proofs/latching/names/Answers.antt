@@ -4,4 +4,4 @@ use Rattle.wf_machine.proofs.latching.names.Goals as goal
 
 pub returns : goal.returns
 returns c = c.any_names.ensures ∙ ap (list_any (λ l. (l.stream == c.args.number) || (l.mask == c.args.number)))
-    c.as_slice.ensures.value ∙ scene_names c.args.number c.args.scene.now.layers.items
+    c.as_slice.ensures.value ∙ scene_names _ c.args.scene.now.layers.items

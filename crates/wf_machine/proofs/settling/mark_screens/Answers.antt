@@ -9,7 +9,7 @@ pub loop-port-preserved : goal.loop-port-preserved
 loop-port-preserved c =
     let n = c.loop-port.port in
     let next : n + 1 ≡ 1 + n = omega arith in
-    let more = more_marked c.args.store.now c.loop-port.store c.mark_kept.new.store (range_with_len 1 n) ((n + 1) ∷ [])
+    let more = more_marked _ c.loop-port.store _ (range_with_len 1 n) ((n + 1) ∷ [])
     c.loop-port.invariant c.mark_kept.ensures in
     subst (λ ns. Marks c.args.store.now c.mark_kept.new.store ns) (ap (λ k. range_with_len 1 n ++ k ∷ []) next
     ∙ sym (range_more 1 n)) more

@@ -4,8 +4,8 @@ use Rattle.wf_machine.proofs.streams.discard_to.Goals as goal
 
 pub returns-in-Some : goal.returns-in-Some
 returns-in-Some c =
-    lent c.args.store.now c.args.canvas.stream discarded c.in-Some.stream.now c.discard.new.self c.get_mut.ensures.numbered
+    lent _ _ discarded c.in-Some.stream.now _ c.get_mut.ensures.numbered
     c.in-Some.ensures.value c.discard.ensures
 
 pub returns-in_default : goal.returns-in_default
-returns-in_default c = lent_none c.args.store.now c.args.canvas.stream discarded c.in_default.ensures.value
+returns-in_default c = lent_none _ _ discarded c.in_default.ensures.value

@@ -6,5 +6,5 @@ use Rattle.wf_objects.proofs.registers.clear_in.Goals as goal
 pub loop-place-preserved : goal.loop-place-preserved
 loop-place-preserved c =
     let changed : Device → Device = λ x. if x.handle == c.args.handle then record x { register = None } else x in
-    map_step changed c.args.devices.now c.loop-place.devices c.loop-place.place c.index-devices-place.result c.cleared.result (omega arith)
+    map_step changed _ c.loop-place.devices c.loop-place.place _ _ (omega arith)
     c.loop-place.invariant (c.cleared.ensures ∙ ap changed c.index-devices-place.is)

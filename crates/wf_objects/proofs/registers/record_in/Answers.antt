@@ -6,6 +6,6 @@ use Rattle.wf_objects.proofs.registers.record_in.Goals as goal
 
 pub loop-place-preserved : goal.loop-place-preserved
 loop-place-preserved c =
-    let changed : Device → Device = λ x. if x.handle == c.args.handle then record x { register = recorded c.args.code x.register } else x in
-    map_step changed c.args.devices.now c.loop-place.devices c.loop-place.place c.index-devices-place.result c.offered.result (omega arith)
+    let changed : Device → Device = λ x. if x.handle == c.args.handle then record x { register = recorded _ x.register } else x in
+    map_step changed _ c.loop-place.devices c.loop-place.place _ _ (omega arith)
     c.loop-place.invariant (c.offered.ensures ∙ ap changed c.index-devices-place.is)

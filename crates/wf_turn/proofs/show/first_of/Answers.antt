@@ -24,5 +24,5 @@ loop-behind-preserved c =
     )
 
 pub returns-clause-first : goal.returns-clause-first
-returns-clause-first c = all_passed c.args.clock.now c.args.others.now c.loop-behind.behind c.loop-behind.best c.loop-behind-test.false
+returns-clause-first c = all_passed c.args.clock.now _ c.loop-behind.behind c.loop-behind.best c.loop-behind-test.false
     c.loop-behind.invariant.0

@@ -19,5 +19,5 @@ loop-at-preserved c =
     }
 
 pub returns-clause-place : goal.returns-clause-place
-returns-clause-place c = place_end c.args.client c.loop-at.at c.args.lines.now c.loop-at.invariant.within
+returns-clause-place c = place_end _ c.loop-at.at _ c.loop-at.invariant.within
     (omega (arith, c.loop-at-test.false))

@@ -17,7 +17,7 @@ load-spent-requires g c =
 pub exchange-requires : goal.exchange-requires
 exchange-requires g c =
     let same = c.loop.invariant.2 ∙ c.draw-ticket.ensures.drawn in let k = c.requires.key in
-    let t = c.load-spent.ensures.2.0 (subst (IsTurn c.load-spent.result) (sym (ap (λ m. m.0.stage) same)) c.if-spent-ticket.true) k.0
+    let t = c.load-spent.ensures.2.0 (subst (IsTurn _) (sym (ap (λ m. m.0.stage) same)) c.if-spent-ticket.true) k.0
     (ap (λ m. m.0.key) same ∙ k.1) in
     let held = ap (λ m. m.1) t.2 in (
       c.load-spent.ensures.0 ∙ (c.loop.invariant.0 ∙ (c.draw-ticket.ensures.place.0 ∙ c.requires.place)),
@@ -27,10 +27,10 @@ exchange-requires g c =
 pub returns-then-spent-ticket-clause-finds : goal.returns-then-spent-ticket-clause-finds
 returns-then-spent-ticket-clause-finds g c =
     let same = c.loop.invariant.2 ∙ c.draw-ticket.ensures.drawn in let k = c.requires.key in
-    let t = c.load-spent.ensures.2.0 (subst (IsTurn c.load-spent.result) (sym (ap (λ m. m.0.stage) same)) c.if-spent-ticket.true) k.0
+    let t = c.load-spent.ensures.2.0 (subst (IsTurn _) (sym (ap (λ m. m.0.stage) same)) c.if-spent-ticket.true) k.0
     (ap (λ m. m.0.key) same ∙ k.1) in
     let out = c.exchange.ensures in
-    let home = same_home g.O.Object.after g.O.Object.may g.O.Object.entry_of _ t.1 c.unwrap.result c.exchange.result _ (ap (λ m. m.1) t.2)
+    let home = same_home g.O.Object.after g.O.Object.may g.O.Object.entry_of _ t.1 _ _ _ (ap (λ m. m.1) t.2)
     out.2 c.unwrap.ensures in
     let now = ap (λ m. m.0) out.3 ∙ ap (λ m. m.0) t.2 in
     finds_same g.O.Object.after g.O.Object.may g.O.Object.entry_of _ _ _ _ _ _ (sym now) (sym (ap (λ v. v.seen) now)) home t.5

@@ -11,7 +11,7 @@ record-at-requires-clause-may g c κs within =
       f.0,
       f.1,
       asked g.O.Object.after g.O.Object.may g.O.Object.entry_of f.0 c.args.seat.now.me.0 c.args.home
-          (event c.args.client c.args.call c.answer-reply.result) _ c.of-asked.ensures f.2 c.answer-reply.ensures.may,
+          (event _ _ _) _ c.of-asked.ensures f.2 c.answer-reply.ensures.may,
     )
 
 pub leave-requires-clause-home : goal.leave-requires-clause-home
@@ -36,10 +36,10 @@ returns-clause-made g c =
 
 pub returns-clause-legal : goal.returns-clause-legal
 returns-clause-legal g c k named =
-    let f = finds_at g.O.Object.after g.O.Object.may g.O.Object.entry_of c.args.seat.now.me.0 c.args.seat.now.me.0.seen c.args.home
+    let f = finds_at g.O.Object.after g.O.Object.may g.O.Object.entry_of c.args.seat.now.me.0 _ c.args.home
     c.requires.finds k named in
-    legal_after g.O.Object.after g.O.Object.may g.O.Object.entry_of k c.args.seat.now.me.0.seen c.args.home
-    (event c.args.client c.args.call c.answer-reply.result) f.0 f.1 c.answer-reply.ensures.may
+    legal_after g.O.Object.after g.O.Object.may g.O.Object.entry_of k _ c.args.home
+    (event _ _ _) f.0 f.1 c.answer-reply.ensures.may
 
 pub returns-clause-may : goal.returns-clause-may
 returns-clause-may g c k named =

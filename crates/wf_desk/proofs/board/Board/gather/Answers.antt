@@ -8,7 +8,7 @@ use Rattle.wf_desk.proofs.board.Board.gather.Goals as goal
 pub observer-seat-requires-after_bounds : goal.observer-seat-requires-after_bounds
 observer-seat-requires-after_bounds g c κs within =
     let e = c.in-Some.ensures in let new = c.pop.new.self.items in
-    all_read (λ k. k.desk ≡ c.args.self.now.table.shared.table_id) c.args.passes.items c.requires.desk (length new) c.in-Some.last
+    all_read (λ k. k.desk ≡ c.args.self.now.table.shared.table_id) _ c.requires.desk (length new) c.in-Some.last
     (ap (λ l. get_elem? l (length new)) e.items ∙ middle new c.in-Some.last [])
 
 pub take_in-requires-clause-place : goal.take_in-requires-clause-place
@@ -16,7 +16,7 @@ take_in-requires-clause-place g c κs within =
     let e = c.in-Some.ensures in let new = c.pop.new.self.items in (
       c.observer-seat.ensures.place.0,
       ap (λ k. k.desk) c.observer-seat.ensures.pass
-          ∙ all_read (λ k. k.desk ≡ c.args.self.now.table.shared.table_id) c.args.passes.items c.requires.desk (length new) c.in-Some.last
+          ∙ all_read (λ k. k.desk ≡ c.args.self.now.table.shared.table_id) _ c.requires.desk (length new) c.in-Some.last
           (ap (λ l. get_elem? l (length new)) e.items ∙ middle new c.in-Some.last []),
     )
 
@@ -24,7 +24,7 @@ pub take_in-requires-in-Some-pop-clause-place : goal.take_in-requires-in-Some-po
 take_in-requires-in-Some-pop-clause-place g c κs within =
     let i = c.loop-pass.invariant in let e = c.in-Some-pop.ensures in let new = c.pop-in-loop-pass.new.self.items in (
       i.0,
-      all_read (λ k. k.desk ≡ c.args.self.now.table.shared.table_id) c.args.passes.items c.requires.desk (length new) c.in-Some-pop.pass
+      all_read (λ k. k.desk ≡ c.args.self.now.table.shared.table_id) _ c.requires.desk (length new) c.in-Some-pop.pass
           (ap (λ l. get_elem? l (length new)) (i.3.1 ∙ (ap (λ l. l ++ i.3.0) e.items ∙ append_assoc new (c.in-Some-pop.pass ∷ []) i.3.0))
           ∙ middle new c.in-Some-pop.pass i.3.0),
     )

@@ -7,7 +7,7 @@ use Rattle.wf_desk.proofs.board.Board.make.Goals as goal
 pub returns-clause-made : goal.returns-clause-made
 returns-clause-made g c =
     let entered = c.enter-home.ensures in let done = c.finish.ensures in let before = c.enter-home.new.seat.me.0.seen in
-    let e = event c.args.client c.args.call c.finish.result.0 in
+    let e = event _ _ _ in
     let named = ap (λ m. m.0.key) entered.taken.1 in record {
       before = before;
       goes_on = entered.seen;

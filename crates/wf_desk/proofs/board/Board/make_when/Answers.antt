@@ -4,7 +4,7 @@ use Rattle.wf_desk.proofs.board.Board.make_when.Goals as goal
 
 pub leave-requires-clause-home : goal.leave-requires-clause-home
 leave-requires-clause-home g c κs within =
-    home_back g.O.Object.after g.O.Object.may g.O.Object.entry_of c.enter-home.new.seat.me.0 _ c.enter-home.result _
+    home_back g.O.Object.after g.O.Object.may g.O.Object.entry_of _ _ _ _
     (ap (λ m. m.0) c.put.ensures.put) (ap (λ m. m.1) c.put.ensures.put) c.enter-home.ensures.finds
 
 pub enter-home-requires-clause-key : goal.enter-home-requires-clause-key

@@ -8,8 +8,8 @@ use Rattle.wf_desk.proofs.desk.Desk.call.Goals as goal
 pub invariant_of-pass : goal.invariant_of-pass
 invariant_of-pass g c =
     let pass = c.pass.inside in
-    sits_after g.O.Object.after g.O.Object.may (λ _. ⊤) pass.seat c.make-reply.new.seat pass.client pass.left pass.place
-    c.make-reply.result.1 c.args.call c.make-reply.result.0
+    sits_after g.O.Object.after g.O.Object.may (λ _. ⊤) pass.seat _ pass.client pass.left pass.place
+    c.make-reply.result.1 _ c.make-reply.result.0
     c.pass.invariant c.make-reply.ensures.made
 
 pub returns-clause-made : goal.returns-clause-made
@@ -24,7 +24,7 @@ returns-clause-made g c =
 pub returns-clause-own : goal.returns-clause-own
 returns-clause-own g c =
     let pass = c.pass.inside in
-    sits_own g.O.Object.after g.O.Object.may c.make-reply.new.seat pass.client (pass.left - 1) c.make-reply.result.1
+    sits_own g.O.Object.after g.O.Object.may _ pass.client (pass.left - 1) c.make-reply.result.1
     (sits_after g.O.Object.after g.O.Object.may (λ _. ⊤) pass.seat c.make-reply.new.seat pass.client pass.left pass.place
-    c.make-reply.result.1 c.args.call c.make-reply.result.0
+    c.make-reply.result.1 _ c.make-reply.result.0
     c.pass.invariant c.make-reply.ensures.made)

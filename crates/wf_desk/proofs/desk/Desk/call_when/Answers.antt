@@ -8,8 +8,8 @@ use Rattle.wf_desk.proofs.desk.Desk.call_when.Goals as goal
 pub invariant_of-pass : goal.invariant_of-pass
 invariant_of-pass g c =
     let pass = c.pass.inside in
-    sits_after g.O.Object.after g.O.Object.may (λ object. IsTrue (g.O.Object.is_ready object c.args.call)) pass.seat
-    c.make_when-reply.new.seat pass.client pass.left pass.place c.make_when-reply.result.1 c.args.call c.make_when-reply.result.0
+    sits_after g.O.Object.after g.O.Object.may (λ object. IsTrue (g.O.Object.is_ready object _)) pass.seat
+    c.make_when-reply.new.seat pass.client pass.left pass.place _ _ c.make_when-reply.result.0
     c.pass.invariant c.make_when-reply.ensures.made
 
 pub returns-clause-made : goal.returns-clause-made
@@ -25,7 +25,7 @@ returns-clause-made g c =
 pub returns-clause-own : goal.returns-clause-own
 returns-clause-own g c =
     let pass = c.pass.inside in
-    sits_own g.O.Object.after g.O.Object.may c.make_when-reply.new.seat pass.client (pass.left - 1) c.make_when-reply.result.1
-    (sits_after g.O.Object.after g.O.Object.may (λ object. IsTrue (g.O.Object.is_ready object c.args.call)) pass.seat
-    c.make_when-reply.new.seat pass.client pass.left pass.place c.make_when-reply.result.1 c.args.call c.make_when-reply.result.0
+    sits_own g.O.Object.after g.O.Object.may _ pass.client (pass.left - 1) c.make_when-reply.result.1
+    (sits_after g.O.Object.after g.O.Object.may (λ object. IsTrue (g.O.Object.is_ready object _)) pass.seat
+    c.make_when-reply.new.seat pass.client pass.left pass.place _ _ c.make_when-reply.result.0
     c.pass.invariant c.make_when-reply.ensures.made)

@@ -9,7 +9,7 @@ pub end-requires-clause-all : goal.end-requires-clause-all
 end-requires-clause-all g c κs within =
     let all = subst (λ d. AreAll d.id (length d.quotas) c.args.passes.items) (sym c.self.view_is) c.requires.passes in
     subst (λ hands. Covers hands (length c.self.inside.board.table.shared.key.quotas.items)) (sym c.gather-seat.ensures.hands)
-    (covers _ _ c.args.passes.items all)
+    (covers _ _ _ all)
 
 pub returns : goal.returns
 returns g c =

@@ -6,11 +6,11 @@ pub returns-in-Some-clause-shaped : goal.returns-in-Some-clause-shaped
 returns-in-Some-clause-shaped c shaped =
     let streams = c.args.store.now.streams in
     let all = subst (λ contents. AreShapedAs streams contents) (sym c.put.ensures)
-    (shaped_more c.args.number c.in-Some.image streams c.args.self.now shaped c.in-Some.ensures.shape) in
+    (shaped_more _ c.in-Some.image streams _ shaped c.in-Some.ensures.shape) in
     subst (λ store. AreShapedAs store.streams c.put.new.self) (sym c.newest_taken.ensures.store)
-    (shaped_changed latched c.args.number streams c.put.new.self latched_keeps all)
+    (shaped_changed latched c.args.number streams _ latched_keeps all)
 
 pub returns-in_default-clause-shaped : goal.returns-in_default-clause-shaped
 returns-in_default-clause-shaped c shaped =
     subst (λ store. AreShapedAs store.streams c.args.self.now) (sym c.newest_taken.ensures.store)
-    (shaped_changed latched c.args.number c.args.store.now.streams c.args.self.now latched_keeps shaped)
+    (shaped_changed latched c.args.number _ _ latched_keeps shaped)

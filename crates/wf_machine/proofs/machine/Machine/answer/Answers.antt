@@ -6,9 +6,9 @@ use Rattle.wf_machine.proofs.machine.Machine.answer.Goals as goal
 made : (c : goal.After-settle_if) → IsStep c.args.self.now c.args.client c.args.call.now c.settle_if.new.self (bare c.in-Some.answer)
 made c =
     let reply = bare c.in-Some.answer in
-    let done = acts c.args.self.now c.self.inside.parts c.self.view_is c.args.call.now c.act_plain-answer.new.self reply c.in-Some.ensures
+    let done = acts _ c.self.inside.parts c.self.view_is _ _ reply c.in-Some.ensures
     in
-    stepped c.args.self.now c.args.client c.args.call.now c.act_plain-answer.new.self reply done c.settle_if.new.self (c.settle_if.ensures
+    stepped _ _ _ _ reply done _ (c.settle_if.ensures
     ∙ ap (λ b. settle_if b c.act_plain-answer.new.self) c.is_ok.ensures)
 
 pub invariant_of-self : goal.invariant_of-self

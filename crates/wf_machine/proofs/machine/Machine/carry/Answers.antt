@@ -6,9 +6,9 @@ use Rattle.wf_machine.proofs.machine.Machine.carry.Goals as goal
 made : (c : goal.After-settle_if) → IsStep c.args.self.now c.args.client c.args.call c.settle_if.new.self c.act_carrying-reply.result
 made c =
     let reply = c.act_carrying-reply.result in
-    let done = acts c.args.self.now c.self.inside.parts c.self.view_is c.args.call c.act_carrying-reply.new.self reply
+    let done = acts _ c.self.inside.parts c.self.view_is _ _ reply
     c.act_carrying-reply.ensures in
-    stepped c.args.self.now c.args.client c.args.call c.act_carrying-reply.new.self reply done c.settle_if.new.self (c.settle_if.ensures
+    stepped _ _ _ _ reply done _ (c.settle_if.ensures
     ∙ ap (λ b. settle_if b c.act_carrying-reply.new.self) c.is_ok.ensures)
 
 pub invariant_of-self : goal.invariant_of-self

@@ -11,28 +11,28 @@ use Rattle.wf_machine.proofs.parts.Parts.acquire.Goals as goal
 pub acquire_from-requires : goal.acquire_from-requires
 acquire_from-requires c =
     let streams = c.self.inside.store.streams in
-    let s = found c.args.stream c.in-Ok.number c.self.inside.store.numbered streams c.self.invariant.numbered c.in-Ok.ensures.number in
+    let s = found _ c.in-Ok.number c.self.inside.store.numbered streams c.self.invariant.numbered c.in-Ok.ensures.number in
     rw s.2 refl
 
 pub returns-in-Err-Busy : goal.returns-in-Err-Busy
 returns-in-Err-Busy c =
     let inside = c.self.inside in
-    let s = found c.args.stream c.in-Ok.number inside.store.numbered inside.store.streams c.self.invariant.numbered
+    let s = found _ c.in-Ok.number inside.store.numbered inside.store.streams c.self.invariant.numbered
     c.in-Ok.ensures.number in
     let out = c.in-Err-Busy.ensures.busy (ap (λ e. Err e) c.in-Err-Busy.field-0-is) s.0 s.2 in
-    stays inside c.args.self.now c.self.view_is (λ t r. acquire_step t (acquirable c.args.stream t))
-    c.acquire_from.new.store c.refused-in-Err-Busy.result (bare (refused (refusal code.Busy))) c.in-Err-Busy.ensures.refused
-    c.refused-in-Err-Busy.ensures (busy c.args.stream _ s.0 s.1 out)
+    stays inside _ c.self.view_is (λ t r. acquire_step t (acquirable c.args.stream t))
+    c.acquire_from.new.store _ (bare (refused (refusal code.Busy))) c.in-Err-Busy.ensures.refused
+    c.refused-in-Err-Busy.ensures (busy _ _ s.0 s.1 out)
 
 pub returns-in-Err-NoBuffer : goal.returns-in-Err-NoBuffer
 returns-in-Err-NoBuffer c =
     let inside = c.self.inside in
-    let s = found c.args.stream c.in-Ok.number inside.store.numbered inside.store.streams c.self.invariant.numbered
+    let s = found _ c.in-Ok.number inside.store.numbered inside.store.streams c.self.invariant.numbered
     c.in-Ok.ensures.number in
     let full = c.in-Err-NoBuffer.ensures.no_buffer (ap (λ e. Err e) c.in-Err-NoBuffer.field-0-is) s.0 s.2 in
-    stays inside c.args.self.now c.self.view_is (λ t r. acquire_step t (acquirable c.args.stream t))
-    c.acquire_from.new.store c.refused-in-Err-NoBuffer.result (bare (refused (refusal code.NoBuffer))) c.in-Err-NoBuffer.ensures.refused
-    c.refused-in-Err-NoBuffer.ensures (no_buffer c.args.stream _ s.0 s.1 full.0 full.1)
+    stays inside _ c.self.view_is (λ t r. acquire_step t (acquirable c.args.stream t))
+    c.acquire_from.new.store _ (bare (refused (refusal code.NoBuffer))) c.in-Err-NoBuffer.ensures.refused
+    c.refused-in-Err-NoBuffer.ensures (no_buffer _ _ s.0 s.1 full.0 full.1)
 
 pub invariant_of-self-2 : goal.invariant_of-self-2
 invariant_of-self-2 c =
@@ -45,13 +45,13 @@ pub returns : goal.returns
 returns c =
     let inside = c.self.inside in
     let number = c.in-Ok.number in
-    let s = found c.args.stream number inside.store.numbered inside.store.streams c.self.invariant.numbered c.in-Ok.ensures.number in
+    let s = found _ number inside.store.numbered inside.store.streams c.self.invariant.numbered c.in-Ok.ensures.number in
     let free = c.in-Ok-acquire_from.ensures.free s.0 s.2 in
     let canvas = c.in-Ok-acquire_from.ensures.canvas s.0 s.2 in
-    leaves inside c.args.self.now c.self.view_is (λ t r. acquire_step t (acquirable c.args.stream t))
+    leaves inside _ c.self.view_is (λ t r. acquire_step t (acquirable c.args.stream t))
     c.acquire_from.new.store (record inside.store { streams = change_stream number acquired inside.store.streams }) c.giving_canvas.result
     (gives_canvas (canvas_of s.0))
     c.in-Ok-acquire_from.ensures.acquired (c.giving_canvas.ensures ∙ ap gives_canvas canvas)
-    (given c.args.stream (state_of inside) s.0 s.1 free.0 free.1
+    (given _ (state_of inside) s.0 s.1 free.0 free.1
     ∙ ap (λ n. (with_stream n acquired (state_of inside), gives_canvas (canvas_of s.0)))
     (has_number number inside.store.streams s.0 s.2))

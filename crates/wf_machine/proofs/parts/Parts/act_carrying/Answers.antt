@@ -9,27 +9,27 @@ pub returns-in-Acquire : goal.returns-in-Acquire
 unfolding act
 returns-in-Acquire c =
     let h = c.args.self.now in
-    as_act h c.acquire.new.self c.args.call (call.Acquire c.in-Acquire.stream) c.acquire.result c.in-Acquire.is c.acquire.ensures
+    as_act h _ _ (call.Acquire c.in-Acquire.stream) _ c.in-Acquire.is c.acquire.ensures
     (plain_of _ _ _ c.acquire.ensures (plain_acquired h (acquirable c.in-Acquire.stream h)))
 
 pub returns-in-Post : goal.returns-in-Post
 unfolding act
 returns-in-Post c =
     let canvas = c.in-Post.canvas in
-    as_act c.args.self.now c.post.new.self c.args.call (call.Post canvas) c.post.result c.in-Post.is c.post.ensures
-    (plain_of _ _ _ c.post.ensures (plain_back canvas (posted canvas.image) c.args.self.now))
+    as_act _ _ _ (call.Post canvas) _ c.in-Post.is c.post.ensures
+    (plain_of _ _ _ c.post.ensures (plain_back canvas (posted canvas.image) _))
 
 pub returns-in-Discard : goal.returns-in-Discard
 unfolding act
 returns-in-Discard c =
     let canvas = c.in-Discard.canvas in
-    as_act c.args.self.now c.discard.new.self c.args.call (call.Discard canvas) c.discard.result c.in-Discard.is c.discard.ensures
-    (plain_of _ _ _ c.discard.ensures (plain_back canvas discarded c.args.self.now))
+    as_act _ _ _ (call.Discard canvas) _ c.in-Discard.is c.discard.ensures
+    (plain_of _ _ _ c.discard.ensures (plain_back canvas discarded _))
 
 pub returns-in-BeginNext : goal.returns-in-BeginNext
 unfolding act
 returns-in-BeginNext c =
-    as_begin c.args.self.now c.begin_next.new.self c.args.call (call.BeginNext c.in-BeginNext.after) c.begin_next.result c.in-BeginNext.is
+    as_begin _ _ _ (call.BeginNext c.in-BeginNext.after) _ c.in-BeginNext.is
     c.begin_next.ensures.left c.begin_next.ensures.answer
 
 pub returns-in-BeginPort : goal.returns-in-BeginPort
@@ -37,11 +37,11 @@ unfolding act
 returns-in-BeginPort c =
     let p : SFits w64 c.in-BeginPort.port = search rules in
     let begun = rw (to_z-of_z p) at c.begin_port.ensures in
-    as_begin c.args.self.now c.begin_port.new.self c.args.call (call.BeginPort c.in-BeginPort.port)
+    as_begin _ _ _ (call.BeginPort c.in-BeginPort.port)
     c.begin_port.result c.in-BeginPort.is begun.left begun.answer
 
 pub returns-in-End : goal.returns-in-End
 unfolding act
 returns-in-End c =
-    as_act c.args.self.now c.end.new.self c.args.call (call.End c.in-End.job) c.end.result c.in-End.is c.end.ensures
-    (plain_of _ _ _ c.end.ensures (plain_end c.in-End.job c.args.self.now))
+    as_act _ _ _ (call.End c.in-End.job) _ c.in-End.is c.end.ensures
+    (plain_of _ _ _ c.end.ensures (plain_end c.in-End.job _))

@@ -12,19 +12,19 @@ returns-in-StreamNew c =
     let w : SFits w64 c.in-StreamNew.width = search rules in
     let h : SFits w64 c.in-StreamNew.height = search rules in
     let b : SFits w64 c.in-StreamNew.buffers = search rules in
-    as_act c.args.self.now c.stream_new.new.self c.args.call.now (call.StreamNew x.width x.height x.format x.buffers)
-    (bare c.stream_new.result) x.is
+    as_act _ _ _ (call.StreamNew x.width x.height x.format x.buffers)
+    (bare _) x.is
     (rw (to_z-of_z w, to_z-of_z h, to_z-of_z b) at c.stream_new.ensures) (plain_answer c.stream_new.result)
 
 pub returns-in-StreamDestroy : goal.returns-in-StreamDestroy
 unfolding act
 returns-in-StreamDestroy c =
-    as_act c.args.self.now c.stream_destroy.new.self c.args.call.now (call.StreamDestroy c.in-StreamDestroy.stream)
-    (bare c.stream_destroy.result)
+    as_act _ _ _ (call.StreamDestroy c.in-StreamDestroy.stream)
+    (bare _)
     c.in-StreamDestroy.is c.stream_destroy.ensures (plain_answer c.stream_destroy.result)
 
 pub returns-in-Stat : goal.returns-in-Stat
 unfolding act
 returns-in-Stat c =
-    as_act c.args.self.now c.args.self.now c.args.call.now (call.Stat c.in-Stat.what) (bare c.stat.result) c.in-Stat.is
+    as_act _ _ _ (call.Stat c.in-Stat.what) (bare _) c.in-Stat.is
     (ap (λ a. (c.args.self.now, bare a)) (sym c.stat.ensures)) (plain_answer c.stat.result)

@@ -6,7 +6,7 @@ use Rattle.wf_machine.proofs.Begun.{home_without}
 pub begin_context-requires-clause-fits : goal.begin_context-requires-clause-fits
 begin_context-requires-clause-fits c =
     let same = c.self.view_is in
-    next_fits c.args.self.now c.args.after c.in-Some.handle c.in-Some.shown (c.in-Some.ensures
+    next_fits c.args.self.now _ c.in-Some.handle c.in-Some.shown (c.in-Some.ensures
     ∙ ap (λ s. next_shown c.args.after s.core) same) c.self.inside.store (ap (λ s. s.streams) same)
     (subst (λ core. Fits core c.self.inside.store) (ap (λ s. s.core) same) c.self.invariant.fits)
 

@@ -10,12 +10,12 @@ use Rattle.wf_calls.specs.declared.call.JobKind.TheVariants as kind
 
 pub scene_of_port-scene-requires : goal.scene_of_port-scene-requires
 scene_of_port-scene-requires c =
-    has_mode c.self.inside c.args.self.now c.self.view_is c.in-Some.place c.index.result.now c.index.ensures (c.in-Some.ensures.1)
+    has_mode c.self.inside _ c.self.view_is c.in-Some.place _ c.index.ensures (c.in-Some.ensures.1)
     c.self.invariant
 
 pub start_frame-requires-clause-may : goal.start_frame-requires-clause-may
 start_frame-requires-clause-may c =
-    may_start c.self.inside c.args.self.now c.self.view_is c.in-Some.place c.index.result.now c.index.ensures (c.in-Some.ensures.1)
+    may_start c.self.inside _ c.self.view_is c.in-Some.place _ c.index.ensures (c.in-Some.ensures.1)
     c.scene_of_port-scene.result c.scene_of_port-scene.ensures
 
 begun : (c : goal.After-start_frame)

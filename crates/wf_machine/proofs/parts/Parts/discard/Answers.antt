@@ -9,13 +9,13 @@ use Rattle.wf_machine.proofs.parts.Parts.discard.Goals as goal
 pub discard_to-requires : goal.discard_to-requires
 discard_to-requires c =
     let out = sym c.is_out_at_client.ensures ∙ c.if-not-is_out_at_client.false in
-    out_from c.args.canvas (state_of c.self.inside) (ap (is_out_at_client c.args.canvas) c.self.view_is ∙ out)
+    out_from _ (state_of c.self.inside) (ap (is_out_at_client c.args.canvas) c.self.view_is ∙ out)
 
 pub invariant_of-self : goal.invariant_of-self
 invariant_of-self c =
     subst (λ store. IsSound (record c.self.inside { store = store })) (sym c.discard_to.ensures)
-    (sound_kept c.self.inside c.args.canvas.stream discarded discarded_keeps
-    (frame_apart c.args.canvas.stream discarded (map port_of c.self.inside.ports.items) c.self.inside.store.streams
+    (sound_kept c.self.inside _ discarded discarded_keeps
+    (frame_apart _ discarded (map port_of c.self.inside.ports.items) c.self.inside.store.streams
     (option_map running_of c.self.inside.frame) (shape_kept discarded discarded_keeps)
     (out_apart c.args.canvas (state_of c.self.inside) (ap (is_out_at_client c.args.canvas) c.self.view_is ∙ sym c.is_out_at_client.ensures
     ∙ c.if-not-is_out_at_client.false)) c.self.invariant.frame) c.self.invariant)
@@ -24,7 +24,7 @@ pub returns : goal.returns
 returns c =
     let inside = c.self.inside in
     let out = ap (is_out_at_client c.args.canvas) c.self.view_is ∙ sym c.is_out_at_client.ensures ∙ c.if-not-is_out_at_client.false in
-    leaves inside c.args.self.now c.self.view_is (λ t r. canvas_back c.args.canvas discarded t)
-    c.discard_to.new.store (record inside.store { streams = change_stream c.args.canvas.stream discarded inside.store.streams })
+    leaves inside _ c.self.view_is (λ t r. canvas_back c.args.canvas discarded t)
+    c.discard_to.new.store (record inside.store { streams = change_stream _ discarded inside.store.streams })
     c.bare.result (bare (done 0))
     c.discard_to.ensures (c.bare.ensures ∙ ap bare c.done.ensures) (comes_back c.args.canvas discarded (state_of inside) out)

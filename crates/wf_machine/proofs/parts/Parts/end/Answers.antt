@@ -5,7 +5,7 @@ use Rattle.wf_machine.proofs.parts.Parts.end.Goals as goal
 
 pub bring_home-requires-clause-awaited : goal.bring_home-requires-clause-awaited
 bring_home-requires-clause-awaited c =
-    ending_awaited c.self.inside c.args.job (was_running c.self.inside c.args.job c.args.self.now c.self.view_is
+    ending_awaited c.self.inside c.args.job (was_running c.self.inside c.args.job _ c.self.view_is
     (sym c.is_of_running.ensures ∙ c.if-not-is_of_running.false)) c.self.invariant
 
 pub deliver-requires : goal.deliver-requires
@@ -39,10 +39,10 @@ module _ (c : goal.After-bare) where
       }
 
 pub invariant_of-self : goal.invariant_of-self
-invariant_of-self c = sound_ended c.self.inside c.args.job (is c) c.self.invariant c.deliver.new.store c.deliver.new.ports.items
+invariant_of-self c = sound_ended c.self.inside _ (is c) c.self.invariant _ c.deliver.new.ports.items
     c.bare.result (now c) refl refl refl refl refl (ended c)
 
 pub returns : goal.returns
 returns c =
-    left_ended c.self.inside c.args.job (is c) c.self.invariant c.deliver.new.store c.deliver.new.ports.items c.bare.result (now c) refl
-    refl refl refl refl (ended c) c.args.self.now c.self.view_is
+    left_ended c.self.inside _ (is c) c.self.invariant _ _ _ (now c) refl
+    refl refl refl refl (ended c) _ c.self.view_is

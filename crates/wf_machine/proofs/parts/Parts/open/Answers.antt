@@ -6,7 +6,7 @@ use Rattle.wf_machine.proofs.parts.Parts.open.Goals as goal
 
 pub loop-modes-init : goal.loop-modes-init
 loop-modes-init c = record {
-  open_so_far = no_ports_open c.new-store.result c.in_ok-opened.opened.items c.new-store.ensures c.in_ok-opened.ensures.items;
+  open_so_far = no_ports_open _ c.in_ok-opened.opened.items c.new-store.ensures c.in_ok-opened.ensures.items;
   many = ap length c.in_ok-opened.ensures.items;
   room = omega (arith, c.in_ok-opened.ensures.capacity, c.len.ensures.value, ap length c.as_slice-modes-items.ensures.value);
 }
@@ -48,9 +48,9 @@ pub invariant_of-result : goal.invariant_of-result
 invariant_of-result c =
     let so_far = c.loop-modes.invariant in
     let all = c.as_slice-modes-items in
-    let whole = whole_modes all.result.now c.args.ports.now.modes.items c.loop-modes.modes-index all.ensures.value
+    let whole = whole_modes all.result.now _ c.loop-modes.modes-index all.ensures.value
     c.loop-modes-test.false in
-    sound_when_open _ c.args.ports.now.modes.items (subst (λ ms. IsOpen c.loop-modes.store c.loop-modes.opened.items ms)
+    sound_when_open _ _ (subst (λ ms. IsOpen c.loop-modes.store c.loop-modes.opened.items ms)
     whole so_far.open_so_far) (omega (arith, so_far.many, all.ensures.fits)) (declared_modes c.args.ports.now c.requires)
     c.in_ok-core.ensures refl
 
@@ -58,7 +58,7 @@ pub returns : goal.returns
 returns c =
     let so_far = c.loop-modes.invariant in
     let all = c.as_slice-modes-items in
-    let whole = whole_modes all.result.now c.args.ports.now.modes.items c.loop-modes.modes-index all.ensures.value
+    let whole = whole_modes all.result.now _ c.loop-modes.modes-index all.ensures.value
     c.loop-modes-test.false in
     opening_is (record { store = c.loop-modes.store; core = c.in_ok-core.core; ports = c.loop-modes.opened; begun = 0; frame = None })
     c.args.ports.now (subst (λ ms. IsOpen c.loop-modes.store c.loop-modes.opened.items ms) whole so_far.open_so_far)

@@ -9,14 +9,14 @@ use Rattle.wf_machine.proofs.parts.Parts.post.Goals as goal
 pub post_to-requires : goal.post_to-requires
 post_to-requires c =
     let out = sym c.is_out_at_client.ensures ∙ c.if-not-is_out_at_client.false in
-    out_from c.args.canvas (state_of c.self.inside) (ap (is_out_at_client c.args.canvas) c.self.view_is ∙ out)
+    out_from _ (state_of c.self.inside) (ap (is_out_at_client c.args.canvas) c.self.view_is ∙ out)
 
 pub invariant_of-self : goal.invariant_of-self
 invariant_of-self c =
     subst (λ store. IsSound (record c.self.inside { store = store })) (sym c.post_to.ensures)
-    (sound_kept c.self.inside c.args.canvas.stream (posted c.args.canvas.image) (posted_keeps c.args.canvas.image)
-    (frame_apart c.args.canvas.stream (posted c.args.canvas.image) (map port_of c.self.inside.ports.items) c.self.inside.store.streams
-    (option_map running_of c.self.inside.frame) (shape_kept (posted c.args.canvas.image) (posted_keeps c.args.canvas.image))
+    (sound_kept c.self.inside _ (posted _) (posted_keeps _)
+    (frame_apart _ (posted _) (map port_of c.self.inside.ports.items) c.self.inside.store.streams
+    (option_map running_of c.self.inside.frame) (shape_kept (posted _) (posted_keeps _))
     (out_apart c.args.canvas (state_of c.self.inside) (ap (is_out_at_client c.args.canvas) c.self.view_is ∙ sym c.is_out_at_client.ensures
     ∙ c.if-not-is_out_at_client.false)) c.self.invariant.frame) c.self.invariant)
 
@@ -24,9 +24,9 @@ pub returns : goal.returns
 returns c =
     let inside = c.self.inside in
     let out = ap (is_out_at_client c.args.canvas) c.self.view_is ∙ sym c.is_out_at_client.ensures ∙ c.if-not-is_out_at_client.false in
-    leaves inside c.args.self.now c.self.view_is (λ t r. canvas_back c.args.canvas (posted c.args.canvas.image) t)
+    leaves inside _ c.self.view_is (λ t r. canvas_back c.args.canvas (posted c.args.canvas.image) t)
     c.post_to.new.store
-    (record inside.store { streams = change_stream c.args.canvas.stream (posted c.args.canvas.image) inside.store.streams })
+    (record inside.store { streams = change_stream _ (posted _) inside.store.streams })
     c.bare.result (bare (done 0))
     c.post_to.ensures (c.bare.ensures ∙ ap bare c.done.ensures)
-    (comes_back c.args.canvas (posted c.args.canvas.image) (state_of inside) out)
+    (comes_back c.args.canvas (posted _) (state_of inside) out)

@@ -41,7 +41,7 @@ module _ (c : goal.After-sweep) where
   others = ap (λ v. v.others) c.sweep.ensures ∙ ap (λ v. v.others) rest
 
 pub invariant_of-self : goal.invariant_of-self
-invariant_of-self c = sound_settled c.self.inside c.sweep.new.self (streams c) (others c) (made c) (numbered c) c.self.invariant
+invariant_of-self c = sound_settled c.self.inside _ (streams c) (others c) (made c) (numbered c) c.self.invariant
 
 pub returns : goal.returns
 returns c =

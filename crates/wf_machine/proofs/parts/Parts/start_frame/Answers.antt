@@ -5,12 +5,12 @@ use Rattle.wf_machine.proofs.Starting.{Starts, answers, b, begun, left, ready}
 use Rattle.wf_machine.proofs.parts.Parts.start_frame.Goals as goal
 
 pub latch_scene-requires-clause-home : goal.latch_scene-requires-clause-home
-latch_scene-requires-clause-home c = home_without c.self.inside (no_frame c.self.inside c.args.self.now c.self.view_is c.requires.free)
+latch_scene-requires-clause-home c = home_without c.self.inside (no_frame c.self.inside _ c.self.view_is c.requires.free)
     c.self.invariant
 
 pub take_target-image-requires : goal.take_target-image-requires
 take_target-image-requires c =
-    let free = no_frame c.self.inside c.args.self.now c.self.view_is c.requires.free in
+    let free = no_frame c.self.inside _ c.self.view_is c.requires.free in
     let may = subst (λ h. MayStart c.args.kind c.args.scene h) (sym c.self.view_is) c.requires.may in
     subst (λ v. IsReady v.streams c.self.inside.ports.items c.args.kind) (sym c.latch_scene.ensures.store)
     (ready c.self.inside c.args.scene c.args.value c.self.invariant free c.args.kind may)
@@ -70,7 +70,7 @@ invariant_of-self c =
     (begun c.self.inside (now c) a.kind a.scene a.value _ _ _ _ (frame c) s) c.self.invariant
 
 pub returns-clause-left : goal.returns-clause-left
-returns-clause-left c = left c.self.inside (now c) c.args.kind c.args.scene c.args.value _ _ _ _ (frame c) (starts c)
+returns-clause-left c = left c.self.inside (now c) _ _ c.args.value _ _ _ _ (frame c) (starts c)
     c.args.self.now c.self.view_is
 
 pub returns-clause-answer : goal.returns-clause-answer

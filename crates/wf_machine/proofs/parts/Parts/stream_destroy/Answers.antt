@@ -5,7 +5,7 @@ use Rattle.wf_machine.proofs.parts.Parts.stream_destroy.Goals as goal
 
 pub invariant_of-self : goal.invariant_of-self
 invariant_of-self c =
-    let s = found c.args.stream c.in-Ok.field-0 c.self.inside.store.numbered c.self.inside.store.streams c.self.invariant.numbered
+    let s = found _ c.in-Ok.field-0 c.self.inside.store.numbered c.self.inside.store.streams c.self.invariant.numbered
     c.in-Ok.ensures.number in
     subst (λ store. IsSound (record c.self.inside { store = store })) (sym (c.kill.ensures.stream (rw s.1 refl)))
-    (sound_unnamed c.self.inside c.args.stream c.self.invariant)
+    (sound_unnamed c.self.inside _ c.self.invariant)

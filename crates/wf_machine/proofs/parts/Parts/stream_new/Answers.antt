@@ -10,7 +10,7 @@ returns-in-Err-Limit c =
     let inside = c.self.inside in
     stays inside a.self.now c.self.view_is (λ t r. stream_step t
     (stream_new a.width a.height a.format a.buffers (is_out_of_memory r.code) t))
-    c.make.new.store (bare c.refuse-in-Err-Limit.result) (bare (refused (refusal code.Limit))) c.in-Err-Limit.ensures.refused
+    c.make.new.store (bare _) (bare (refused (refusal code.Limit))) c.in-Err-Limit.ensures.refused
     (ap bare c.refuse-in-Err-Limit.ensures)
     (limited a.width a.height a.buffers a.format _ (rw (to_z-of_z c.ranges.width, to_z-of_z c.ranges.height, to_z-of_z c.ranges.buffers) at
     (sym c.may_make.ensures ∙ c.if-not-may_make.false))
@@ -23,7 +23,7 @@ returns-in-Err-NoMemory c =
     let inside = c.self.inside in
     stays inside a.self.now c.self.view_is (λ t r. stream_step t
     (stream_new a.width a.height a.format a.buffers (is_out_of_memory r.code) t))
-    c.make.new.store (bare c.refuse-in-Err-NoMemory.result) (bare (refused (refusal code.OutOfMemory))) c.in-Err-NoMemory.ensures.refused
+    c.make.new.store (bare _) (bare (refused (refusal code.OutOfMemory))) c.in-Err-NoMemory.ensures.refused
     (ap bare c.refuse-in-Err-NoMemory.ensures)
     (unmade a.width a.height a.buffers a.format _ (rw (to_z-of_z c.ranges.width, to_z-of_z c.ranges.height, to_z-of_z c.ranges.buffers) at
     (sym c.may_make.ensures ∙ c.if-not-may_make.false))
@@ -47,7 +47,7 @@ returns c =
     let new = new_buffers a.width a.height a.format a.buffers in
     leaves inside a.self.now c.self.view_is (λ t r. stream_step t
     (stream_new a.width a.height a.format a.buffers (is_out_of_memory r.code) t))
-    c.make.new.store (with_live_stream new inside.store) (bare c.done.result) (bare (done (inside.store.made + 1)))
+    c.make.new.store (with_live_stream new inside.store) (bare _) (bare (done (inside.store.made + 1)))
     (rw (to_z-of_z c.ranges.width, to_z-of_z c.ranges.height, to_z-of_z c.ranges.buffers) at c.in-Ok.ensures.made)
     (ap bare c.done.ensures ∙ ap (λ n. bare (done n)) c.in-Ok.ensures.handle)
     (made a.width a.height a.buffers a.format _ (rw (to_z-of_z c.ranges.width, to_z-of_z c.ranges.height, to_z-of_z c.ranges.buffers) at

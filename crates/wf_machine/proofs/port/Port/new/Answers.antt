@@ -8,7 +8,7 @@ loop-size-preserved c =
     let modes-are = c.push.ensures.items in
     let images-are = c.push_reserved.ensures.items in
     record {
-      modes = taken_more c.args.sizes.now c.loop-size.modes.items c.push.new.self.items c.loop-size.size-index _ c.loop-size-test.true
+      modes = taken_more _ c.loop-size.modes.items _ c.loop-size.size-index _ c.loop-size-test.true
           so_far.modes modes-are;
       images = rw (modes-are, images-are) (holds_more c.loop-size.modes.items c.loop-size.images.items _ (Some c.in_ok-new.field-0)
           so_far.images (is_frame_image _ c.in_ok-new.field-0 c.in_ok-new.ensures));

@@ -3,8 +3,8 @@ use Rattle.wf_machine.proofs.Images.{as_many, first_put}
 use Rattle.wf_machine.proofs.port.Port.put_image.Goals as goal
 
 pub index_mut-requires : goal.index_mut-requires
-index_mut-requires c = omega (arith, as_many 1 c.args.self.now.modes.items c.args.self.now.images.items c.requires.away)
+index_mut-requires c = omega (arith, as_many 1 _ _ c.requires.away)
 
 pub returns-clause-there : goal.returns-clause-there
-returns-clause-there c = first_put c.args.self.now.modes.items c.args.self.now.images.items c.args.image c.requires.away c.requires.some
+returns-clause-there c = first_put _ _ _ c.requires.away c.requires.some
     c.requires.shape

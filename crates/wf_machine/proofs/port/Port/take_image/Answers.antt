@@ -3,21 +3,21 @@ use Rattle.wf_machine.proofs.Images.{as_many, first_is, first_taken}
 use Rattle.wf_machine.proofs.port.Port.take_image.Goals as goal
 
 pub index_mut-requires : goal.index_mut-requires
-index_mut-requires c = omega (arith, as_many 0 c.args.self.now.modes.items c.args.self.now.images.items c.requires.there)
+index_mut-requires c = omega (arith, as_many 0 _ _ c.requires.there)
 
 pub unreachable-requires : goal.unreachable-requires
 unreachable-requires c =
-    let is = first_is c.args.self.now.modes.items c.args.self.now.images.items c.index_mut.result.now c.requires.there c.requires.some
+    let is = first_is _ _ _ c.requires.there c.requires.some
     c.index_mut.ensures.value in
     rw (sym c.take.ensures.value ∙ c.in-None.is) at is
 
 pub returns-clause-shape : goal.returns-clause-shape
 returns-clause-shape c =
-    let is = first_is c.args.self.now.modes.items c.args.self.now.images.items c.index_mut.result.now c.requires.there c.requires.some
+    let is = first_is _ _ _ c.requires.there c.requires.some
     c.index_mut.ensures.value in
     subst (λ o. IsFrameImage (mode_size 1 c.args.self.now.modes.items) o) (sym c.take.ensures.value ∙ c.in-Some.is) is
 
 pub returns-clause-away : goal.returns-clause-away
 returns-clause-away c =
     subst (λ o. HoldsBut 1 c.args.self.now.modes.items (slice_set c.args.self.now.images.items 0 o))
-    (sym c.take.ensures.after) (first_taken c.args.self.now.modes.items c.args.self.now.images.items c.requires.there c.requires.some)
+    (sym c.take.ensures.after) (first_taken _ _ c.requires.there c.requires.some)

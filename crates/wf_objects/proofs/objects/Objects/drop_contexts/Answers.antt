@@ -26,7 +26,7 @@ pub loop-place-smaller : goal.loop-place-smaller
 loop-place-smaller c =
     let l = c.loop-place in
     let first = found (goal.at.loop-place-smaller c).After-drop_context (told (goal.at.loop-place-smaller c).After-first_context) in
-    rw c.drop_context.ensures.dropped (contexts_fewer l.self l.store l.invariant.fits c.args.device (context_of c.behind-self.inside) first)
+    rw c.drop_context.ensures.dropped (contexts_fewer l.self l.store l.invariant.fits _ (context_of c.behind-self.inside) first)
 
 pub loop-place-preserved : goal.loop-place-preserved
 loop-place-preserved c =
@@ -34,9 +34,9 @@ loop-place-preserved c =
     let first = found (goal.at.loop-place-preserved c).After-drop_context (told (goal.at.loop-place-preserved c).After-first_context) in
     record {
       fits = c.drop_context.ensures.fits;
-      loses = then_lost c.args.store.now l.store c.drop_context.new.store l.invariant.loses c.drop_context.ensures.loses;
-      rest = ap (but_contexts_of c.args.device) c.drop_context.ensures.dropped
-          ∙ one_context_fewer l.self l.store l.invariant.fits c.args.device (context_of c.behind-self.inside) first ∙ l.invariant.rest;
+      loses = then_lost _ l.store _ l.invariant.loses c.drop_context.ensures.loses;
+      rest = ap (but_contexts_of _) c.drop_context.ensures.dropped
+          ∙ one_context_fewer l.self l.store l.invariant.fits _ (context_of c.behind-self.inside) first ∙ l.invariant.rest;
     }
 
 pub returns-clause-dropped : goal.returns-clause-dropped
@@ -45,4 +45,4 @@ returns-clause-dropped c =
     let cs = l.self.contexts in
     let none = sym (get_position (λ x. x.device == c.args.device) cs)
     ∙ ap (option_and_then (slice_get cs)) (sym (told (goal.at.returns-clause-dropped c).After-first_context) ∙ c.in_default.is) in
-    sym (no_contexts c.args.device l.self none) ∙ l.invariant.rest
+    sym (no_contexts _ l.self none) ∙ l.invariant.rest

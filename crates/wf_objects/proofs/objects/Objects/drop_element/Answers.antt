@@ -19,13 +19,13 @@ drop_handle-requires c =
 
 pub forget-requires : goal.forget-requires
 forget-requires c =
-    let at = standing _ c.args.self.now c.args.place _ (context_of c.behind-self.inside) c.self.view_is c.requires.within
+    let at = standing _ _ _ _ (context_of c.behind-self.inside) c.self.view_is c.requires.within
     c.index_mut.ensures.value c.behind-self.view_is in
     rw at at c.requires.lives
 
 -- the context at the place
 at : (c : After-forget) → slice_get c.args.self.now.contexts c.args.place ≡ Some (context_of c.behind-self.inside)
-at c = standing _ c.args.self.now c.args.place _ (context_of c.behind-self.inside) c.self.view_is c.requires.within
+at c = standing _ _ _ _ (context_of c.behind-self.inside) c.self.view_is c.requires.within
     c.index_mut.ensures.value
     c.behind-self.view_is
 

@@ -11,7 +11,7 @@ use Rattle.wf_objects.proofs.objects.Objects.drop_elements.Goals.{After-drop_ele
 
 -- the context at the place
 at : (c : After-first) → slice_get c.loop-element.self.contexts c.args.place ≡ Some (context_of c.behind-self.inside)
-at c = standing _ c.loop-element.self c.args.place _ (context_of c.behind-self.inside) c.self.view_is c.loop-element.invariant.here.within
+at c = standing _ c.loop-element.self _ _ (context_of c.behind-self.inside) c.self.view_is c.loop-element.invariant.here.within
     c.index.ensures c.behind-self.view_is
 
 -- it is the one that loses its elements
@@ -38,7 +38,7 @@ pub loop-element-smaller : goal.loop-element-smaller
 loop-element-smaller c =
     let l = c.loop-element in
     let k = (goal.at.loop-element-smaller c).After-first in
-    fewer_elements l.self l.store l.invariant.fits c.args.context c.args.place (context_of c.behind-self.inside) (at k) (handle k)
+    fewer_elements l.self l.store l.invariant.fits _ _ (context_of c.behind-self.inside) (at k) (handle k)
     c.in-Some.element
     c.drop_element.new.self (left (goal.at.loop-element-smaller c).After-drop_element (at k))
     (sym c.in-Some.is ∙ c.first.ensures.first)
@@ -50,11 +50,11 @@ loop-element-preserved c =
     let is = left (goal.at.loop-element-preserved c).After-drop_element (at k) in
     record {
       fits = c.drop_element.ensures.fits;
-      loses = then_lost c.args.store.now l.store c.drop_element.new.store l.invariant.loses c.drop_element.ensures.loses;
-      rest = others_stay l.self l.store l.invariant.fits c.args.context c.args.place (context_of c.behind-self.inside) (at k) (handle k)
+      loses = then_lost _ l.store _ l.invariant.loses c.drop_element.ensures.loses;
+      rest = others_stay l.self l.store l.invariant.fits _ _ (context_of c.behind-self.inside) (at k) (handle k)
           c.in-Some.element
           c.drop_element.new.self is ∙ l.invariant.rest;
-      here = still_stands l.self l.store l.invariant.fits c.args.context c.args.place (context_of c.behind-self.inside) (at k) (handle k)
+      here = still_stands l.self l.store l.invariant.fits _ _ (context_of c.behind-self.inside) (at k) (handle k)
           c.in-Some.element
           c.drop_element.new.self is l.invariant.here.within;
     }
@@ -62,12 +62,12 @@ loop-element-preserved c =
 pub returns-clause-live : goal.returns-clause-live
 returns-clause-live c =
     let s = c.loop-element.invariant.here in
-    any_at (λ x. x.handle == c.args.context) c.loop-element.self.contexts c.args.place s.context s.at
-    (eq-eqb s.context.handle c.args.context s.handle_is)
+    any_at (λ x. x.handle == c.args.context) c.loop-element.self.contexts _ s.context s.at
+    (eq-eqb s.context.handle _ s.handle_is)
 
 pub returns-clause-bare : goal.returns-clause-bare
 returns-clause-bare c =
     let l = c.loop-element in
     let k = (goal.at.returns-clause-bare c).After-first in
-    emptied l.self l.store l.invariant.fits c.args.context c.args.place (context_of c.behind-self.inside) (at k) (handle k)
+    emptied l.self l.store l.invariant.fits _ _ (context_of c.behind-self.inside) (at k) (handle k)
     (element_none (context_of c.behind-self.inside).cached.elements (sym c.in_default.is ∙ c.first.ensures.first))

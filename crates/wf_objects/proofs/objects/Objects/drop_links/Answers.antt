@@ -10,17 +10,17 @@ use Rattle.wf_objects.proofs.objects.Objects.drop_links.Goals.{After-first_of, I
 
 -- what was found
 told : (c : After-first_of) → c.first_of.result ≡ first_of c.args.context (links c.args.mask c.loop-link.self)
-told c = c.first_of.ensures ∙ ap (first_of c.args.context) c.links.ensures
+told c = c.first_of.ensures ∙ ap (first_of _) c.links.ensures
 
 first : (c : In-Some) → IsFirst c.args.context c.in-Some.link (links c.args.mask c.loop-link.self)
-first c = first_is c.args.context c.in-Some.link (links c.args.mask c.loop-link.self) (sym c.in-Some.is
-    ∙ (c.first_of.ensures ∙ ap (first_of c.args.context) c.links.ensures))
+first c = first_is _ c.in-Some.link (links _ c.loop-link.self) (sym c.in-Some.is
+    ∙ (c.first_of.ensures ∙ ap (first_of _) c.links.ensures))
 
 pub drop_link-requires-clause-live : goal.drop_link-requires-clause-live
 drop_link-requires-clause-live c =
     let l = c.loop-link in
-    first_lives c.args.context c.in-Some.link (links c.args.mask l.self)
-    (rises_links l.self l.store l.invariant.fits.handles c.args.mask) (first (goal.at.drop_link-requires-clause-live c).In-Some)
+    first_lives _ c.in-Some.link (links _ l.self)
+    (rises_links l.self l.store l.invariant.fits.handles _) (first (goal.at.drop_link-requires-clause-live c).In-Some)
 
 pub loop-link-smaller : goal.loop-link-smaller
 loop-link-smaller c =
@@ -36,12 +36,12 @@ loop-link-preserved c =
     let mask = c.args.mask in
     let xs = links mask l.self in
     let left = without_source c.in-Some.link xs in
-    let of : List Source → List Source = without_those_of c.args.context in
-    let leaves = first_leaves c.args.context c.in-Some.link xs (rises_links l.self l.store l.invariant.fits.handles mask)
+    let of : List Source → List Source = without_those_of _ in
+    let leaves = first_leaves _ c.in-Some.link xs (rises_links l.self l.store l.invariant.fits.handles mask)
     (first (goal.at.loop-link-preserved c).In-Some) in
     record {
       fits = c.drop_link.ensures.fits;
-      loses = then_lost c.args.store.now l.store c.drop_link.new.store l.invariant.loses c.drop_link.ensures.loses;
+      loses = then_lost _ l.store _ l.invariant.loses c.drop_link.ensures.loses;
       rest =
           ap (λ k. with_links mask (of (links mask k)) k) c.drop_link.ensures.dropped
           ∙ ap (λ ss. with_links mask (of ss) (with_links mask left l.self)) (links_with mask left l.self)
@@ -51,6 +51,6 @@ loop-link-preserved c =
 pub returns-clause-dropped : goal.returns-clause-dropped
 returns-clause-dropped c =
     let l = c.loop-link in
-    let none = none_is c.args.context (links c.args.mask l.self)
+    let none = none_is _ (links _ l.self)
     (sym c.in_default.is ∙ told (goal.at.returns-clause-dropped c).After-first_of) in
     sym (ap (λ ss. with_links c.args.mask ss l.self) none ∙ with_own c.args.mask l.self) ∙ l.invariant.rest

@@ -23,5 +23,5 @@ returns c =
     subst (λ k. Does (in_place a.place (scene_set call)) a.self.now
     (record k { contexts = set k.contexts a.place (record x { cached = c.insert.new.self }) }) a.store.now a.store.now c.edited.result)
     (sym c.self.view_is)
-    (edits a.self.now a.store.now c.requires.fits a.place x at call c.insert.result c.insert.new.self c.edited.result c.insert.ensures.case
+    (edits a.self.now a.store.now c.requires.fits a.place x at call _ _ _ c.insert.ensures.case
     c.insert.ensures.refused (insert_keeps a.element a.below x.cached) c.edited.ensures)

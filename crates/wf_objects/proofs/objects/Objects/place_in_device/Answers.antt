@@ -9,7 +9,7 @@ found : (c : goal.After-place_of) → option_and_then (slice_get c.args.self.now
     ≡ of_device c.args.device c.args.context c.args.self.now.contexts
 found c =
     let a = c.args in
-    placed a.self.now a.store.now c.requires.handles a.device a.context c.in-Some.owner c.place_of.result (sym c.key_of.ensures
+    placed a.self.now a.store.now c.requires.handles a.device a.context c.in-Some.owner _ (sym c.key_of.ensures
     ∙ c.in-Some.is) c.if-owner-device.true
     (c.place_of.ensures.place ∙ ap (position (λ x. x.handle == a.context)) (c.deref.ensures.value
     ∙ ap (λ k. k.contexts) c.self.view_is))

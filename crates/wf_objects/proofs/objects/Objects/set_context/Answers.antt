@@ -16,6 +16,6 @@ returns c =
     subst (λ k. Does (in_place a.place (scene_set call)) a.self.now
     (record k { contexts = set k.contexts a.place (record x { cached = c.set_context.new.self }) }) a.store.now a.store.now c.edited.result)
     (sym c.self.view_is)
-    (edits a.self.now a.store.now c.requires.fits a.place x at call c.set_context.result c.set_context.new.self c.edited.result
+    (edits a.self.now a.store.now c.requires.fits a.place x at call _ _ c.edited.result
     c.set_context.ensures.case
     c.set_context.ensures.refused (context_keeps a.attr a.value x.cached) c.edited.ensures)

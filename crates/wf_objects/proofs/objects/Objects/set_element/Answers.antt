@@ -34,6 +34,6 @@ returns c =
     subst (λ k. Does (in_place a.place (element_set a.device a.element a.attr a.value)) core
     (record k { contexts = set k.contexts a.place (record x { cached = c.set.new.self }) }) store store c.edited.result)
     (sym c.self.view_is)
-    (linked_first core store c.requires.fits a.place x at a.device a.element a.attr a.value c.set.new.self c.edited.result link
-    (edits core store c.requires.fits a.place x at call c.set.result c.set.new.self c.edited.result c.set.ensures.case
+    (linked_first core store c.requires.fits a.place x at a.device a.element a.attr a.value _ _ link
+    (edits core store c.requires.fits a.place x at call _ _ _ c.set.ensures.case
     c.set.ensures.refused (set_keeps a.element a.attr a.value x.cached) c.edited.ensures))

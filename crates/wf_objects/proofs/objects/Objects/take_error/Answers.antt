@@ -9,7 +9,7 @@ returns-in-Some c =
     let a = c.args in
     let found : c.device_at.result ≡ at_key (λ x. x.handle) a.device a.self.now.devices =
     c.device_at.ensures ∙ rw (c.deref.ensures.value, ← c.self.view_is) refl in
-    takes_error a.device a.self.now _ a.store.now c.in-Some.found c.register_number.result c.requires (sym found ∙ c.in-Some.is)
+    takes_error a.device a.self.now _ a.store.now c.in-Some.found _ c.requires (sym found ∙ c.in-Some.is)
     (rw (
       with_items_is c.self.inside.devices c.clear_in.new.devices (omega arith),
       c.clear_in.ensures,

@@ -20,8 +20,8 @@ module _ (c : goal.After-one_call) where
 
 pub returns-in_default-clause-wanted : goal.returns-in_default-clause-wanted
 returns-in_default-clause-wanted c = subst (λ o. IsPut o c.one_call.new.wanted c.one_call.result)
-    (of_verb c c.args.verb.now refl).0 c.one_call.ensures
+    (of_verb c _ refl).0 c.one_call.ensures
 
 pub returns-in_default-clause-handed : goal.returns-in_default-clause-handed
 returns-in_default-clause-handed c = ap (λ canvas. record c.args.self.now { canvas = canvas })
-    (of_verb c c.args.verb.now refl).1
+    (of_verb c _ refl).1

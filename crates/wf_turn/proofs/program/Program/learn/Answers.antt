@@ -4,6 +4,6 @@ use Rattle.wf_turn.proofs.program.Program.learn.Goals as goal
 
 pub returns : goal.returns
 returns c =
-    learns c.self.inside c.clock.inside c.args.self.now c.args.clock.now c.learn.new.self.names c.learn.new.self.values c.self.invariant
+    learns c.self.inside c.clock.inside _ _ _ _ c.self.invariant
     c.clock.invariant c.self.view_is c.clock.view_is c.requires.script c.requires.clock
     (ap (λ t. t.names) c.learn.ensures) (ap (λ t. t.values) c.learn.ensures)

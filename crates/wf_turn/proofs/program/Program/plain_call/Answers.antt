@@ -4,7 +4,7 @@ use Rattle.wf_turn.proofs.program.Program.plain_call.Goals as goal
 
 pub returns-in_default : goal.returns-in_default
 returns-in_default c = subst (λ o. IsPut o c.context_call.new.call c.context_call.result)
-    (of_verb c.args.verb.now refl) c.context_call.ensures
+    (of_verb _ refl) c.context_call.ensures
   where
     of_verb : (v : Verb) → c.args.verb.now ≡ v → context_call (handle c.args.self.now) v ≡ plain_call (handle c.args.self.now) v
     of_verb (verb.StreamNew width height f b) is = absurd (c.in_default.not-StreamNew width height f b is)

@@ -10,7 +10,7 @@ use Rattle.wf_turn.proofs.show.Show.open.Goals as goal
 
 pub loop-behind-preserved : goal.loop-behind-preserved
 loop-behind-preserved c =
-    let made = program c.args.script.now in
+    let made = program _ in
     let n = c.loop-behind.behind in (
       c.push_reserved.ensures.items
           ∙ ap (λ ps. ps ++ c.in_ok-new.field-0 ∷ []) c.loop-behind.invariant.0
@@ -38,8 +38,8 @@ module _ (c : goal.After-unasked) where
 
 pub invariant_of-result : goal.invariant_of-result
 invariant_of-result c = subst (λ v. IsCast (all_painted v)) (sym (show_is c))
-    (cast_still (opening_show c.args.script.now) (opening_painted c.args.script.now)
-    (opening_cast c.args.script.now (subst (λ ports. IsTrue (may_declare ports)) c.ports.ensures.ports
+    (cast_still (opening_show _) (opening_painted c.args.script.now)
+    (opening_cast _ (subst (λ ports. IsTrue (may_declare ports)) c.ports.ensures.ports
     c.ports.ensures.declared)))
 
 pub returns : goal.returns

@@ -25,7 +25,7 @@ module _ (c : goal.After-self-1) where
 pub invariant_of-self-else-client-eq0 : goal.invariant_of-self-else-client-eq0
 invariant_of-self-else-client-eq0 c =
     subst (λ ps. IsCast (record (s c) { programs = ps }))
-    (sym (ap (λ ps. map worked ps) (done c).0 ∙ paint_all c.args.client (s c).programs)) c.self.invariant
+    (sym (ap (λ ps. map worked ps) (done c).0 ∙ paint_all _ (s c).programs)) c.self.invariant
 
 pub returns-else-client-eq0-clause-painted : goal.returns-else-client-eq0-clause-painted
 returns-else-client-eq0-clause-painted c =
