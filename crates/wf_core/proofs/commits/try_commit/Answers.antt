@@ -7,7 +7,7 @@ returns-in-Err c =
     let a = c.args in
     let p = c.in_ok-place in
     let x = within a.objects.now.contexts p.place p.ensures.within in
-    commit_refused a.objects.now a.store.now c.requires p.place x.0 x.1 c.cached.result.now (rw x.1 at c.cached.ensures) a.device a.context
+    commit_refused a.objects.now a.store.now c.requires p.place x.0 x.1 _ (rw x.1 at c.cached.ensures) a.device a.context
     p.ensures.found p.ensures.here c.in-Err.refused c.in-Err.ensures.scene
 
 pub set_committed-requires-clause-scene_fits : goal.set_committed-requires-clause-scene_fits
@@ -15,7 +15,7 @@ set_committed-requires-clause-scene_fits c =
     let a = c.args in
     let p = c.in_ok-place in
     let x = within a.objects.now.contexts p.place p.ensures.within in
-    rw x.1 (scene_fits a.objects.now a.store.now c.requires p.place x.0 x.1 c.cached.result.now (rw x.1 at c.cached.ensures) c.in-Ok.scene
+    rw x.1 (scene_fits a.objects.now a.store.now c.requires p.place x.0 x.1 _ (rw x.1 at c.cached.ensures) c.in-Ok.scene
     c.in-Ok.ensures.scene c.in-Ok.ensures.placed)
 
 pub returns : goal.returns
@@ -23,5 +23,5 @@ returns c =
     let a = c.args in
     let p = c.in_ok-place in
     let x = within a.objects.now.contexts p.place p.ensures.within in
-    commit_taken a.objects.now a.store.now c.requires p.place x.0 x.1 c.cached.result.now (rw x.1 at c.cached.ensures) a.device a.context
-    p.ensures.found p.ensures.here c.in-Ok.scene c.in-Ok.ensures.scene c.set_committed.new.self c.set_committed.ensures
+    commit_taken a.objects.now a.store.now c.requires p.place x.0 x.1 _ (rw x.1 at c.cached.ensures) a.device a.context
+    p.ensures.found p.ensures.here c.in-Ok.scene c.in-Ok.ensures.scene _ c.set_committed.ensures

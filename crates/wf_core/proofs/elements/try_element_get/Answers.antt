@@ -14,5 +14,5 @@ returns c =
     let call = cached.get a.element a.attr a.index in
     let told = rw (rw (to_z-of_z c.ranges.index) at c.get.ensures) at c.by_scene.ensures in
     in_owner place (scene_read call) core core store store c.by_scene.result
-    (reads place core store call c.cached.result.now c.by_scene.result c.requires x.0 x.1 (rw x.1 at c.cached.ensures) told)
+    (reads place core store call _ _ c.requires x.0 x.1 (rw x.1 at c.cached.ensures) told)
     a.device a.element c.in_ok-place.ensures.found

@@ -12,5 +12,5 @@ returns c =
     let here = c.in_ok-context_place in
     let same = link_is a.mask a.device a.context a.stream here.field-0 core store c.in-Some.seen here.ensures.found here.ensures.within
     c.in-Some.ensures.seen (sym c.is_unfit.ensures ∙ c.if-is_unfit.false) in
-    as_other (link_new a.mask a.device a.context a.stream) (link_made a.mask a.context c.in-Some.seen.stream) core c.add_link.new.self store
-    c.add_link.new.store c.add_link.result same c.add_link.ensures
+    as_other (link_new a.mask a.device a.context a.stream) (link_made a.mask a.context c.in-Some.seen.stream) core _ store
+    c.add_link.new.store _ same c.add_link.ensures

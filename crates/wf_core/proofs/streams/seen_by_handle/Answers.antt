@@ -6,7 +6,7 @@ use Rattle.wf_core.proofs.streams.seen_by_handle.Goals as goal
 pub returns-in-Ok-clause-seen : goal.returns-in-Ok-clause-seen
 returns-in-Ok-clause-seen c =
     c.seen_by_number.ensures
-    ∙ ap seen_stream (by_handle c.args.handle c.in-Ok.number _ c.args.store.now.streams c.in-Ok.ensures.numbered c.in-Ok.ensures.number)
+    ∙ ap seen_stream (by_handle _ c.in-Ok.number _ _ c.in-Ok.ensures.numbered c.in-Ok.ensures.number)
 
 pub returns-in-Ok-clause-kept : goal.returns-in-Ok-clause-kept
-returns-in-Ok-clause-kept c = seen_again c.in-Ok.number c.args.store.now.streams c.seen_by_number.result c.seen_by_number.ensures
+returns-in-Ok-clause-kept c = seen_again c.in-Ok.number _ _ c.seen_by_number.ensures

@@ -5,4 +5,4 @@ use Rattle.wf_stream.proofs.streams.clear_marks.Goals as goal
 
 pub returns : goal.returns
 returns c =
-    map_same_pairs _ (with_mark false) _ (λ k v b w f' t. search rules) c.args.places.now.entries _ c.retain.ensures.filtered
+    map_same_pairs _ (with_mark false) _ (λ k v b w f' t. search rules) _ _ c.retain.ensures.filtered

@@ -7,11 +7,11 @@ use Rattle.wf_stream.proofs.streams.set_handle.Goals as goal
 pub returns-in-Some : goal.returns-in-Some
 returns-in-Some c =
     let o = c.in-Some.place.now in
-    (c.get_mut.follows.holds (with_handle c.args.handle o)).0
+    (c.get_mut.follows.holds (with_handle _ o)).0
     ∙ placed_found c.args.number (with_handle c.args.handle) o c.args.places.now.entries (sym c.in-Some.ensures.value)
 
 pub returns-in_default : goal.returns-in_default
 returns-in_default c =
     let none = sym c.get_mut.ensures.value ∙ ap option_copied_mut c.in_default.is in
     ap (λ m. m.entries) c.get_mut.follows.holds-at-none
-    ∙ placed_absent c.args.number (with_handle c.args.handle) c.args.places.now.entries none
+    ∙ placed_absent _ (with_handle _) _ none

@@ -6,5 +6,5 @@ use Rattle.wf_stream.proofs.streams.set_own_marks.Goals as goal
 
 pub returns : goal.returns
 returns c =
-    map_same_pairs _ (λ o. with_mark (is_marked_or_own c.args.pool.now o) o) _ (λ k v b w f' t. search rules)
+    map_same_pairs _ (λ o. with_mark (is_marked_or_own _ o) o) _ (λ k v b w f' t. search rules)
     c.args.places.now.entries _ c.retain.ensures.filtered

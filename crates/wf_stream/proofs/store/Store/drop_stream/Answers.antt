@@ -11,7 +11,7 @@ kill-requires c =
     let streams = c.self.inside.streams.streams in
     let kept = rw (← c.self.view_is) at c.requires.kept in
     let some : 0 < c.args.handle = omega arith in
-    rw (live_found c.args.handle live streams c.self.invariant.tied, found_live c.args.handle c.args.number streams kept some) refl
+    rw (live_found _ live streams c.self.invariant.tied, found_live _ _ streams kept some) refl
 
 pub invariant_of-self : goal.invariant_of-self
 invariant_of-self c =
@@ -53,6 +53,6 @@ returns-then-handle-ne0 c =
     let streams = c.self.inside.streams.streams in
     let sound = c.self.invariant in
     let kept = rw (← c.self.view_is) at c.requires.kept in
-    let found = found_live h c.args.number streams kept (omega arith) in
+    let found = found_live h _ streams kept (omega arith) in
     let others = killed_others h live ∙ stream_kept c.self.inside.handles.made h live streams sound.orderly sound.tied found in
     rw (← c.self.view_is, c.kill.ensures.killed, c.remove.ensures, others) refl

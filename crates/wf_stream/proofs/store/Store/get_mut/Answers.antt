@@ -10,9 +10,9 @@ invariant_of-self-lent c _ =
       (λ w. record {
         limit = sound.limit;
         room = sound.room;
-        rising = numbered_changed 0 c.self.inside.numbered c.args.number w streams sound.rising;
+        rising = numbered_changed 0 c.self.inside.numbered _ w streams sound.rising;
         orderly = sound.orderly;
-        tied = sound.tied ∙ sym (changed_entries c.args.number w streams);
+        tied = sound.tied ∙ sym (changed_entries _ w streams);
       }),
       sound,
     )

@@ -10,7 +10,7 @@ use Rattle.wf_stream.proofs.store.Store.kill.Goals as goal
 pub kill-requires : goal.kill-requires
 kill-requires c =
     let alive = rw (← c.self.view_is) at c.requires in
-    rw (live_found c.args.handle c.self.inside.handles.live c.self.inside.streams.streams c.self.invariant.tied) alive
+    rw (live_found _ c.self.inside.handles.live c.self.inside.streams.streams c.self.invariant.tied) alive
 
 pub invariant_of-self : goal.invariant_of-self
 invariant_of-self c =
@@ -18,18 +18,18 @@ invariant_of-self c =
     let shelf = c.self.inside.streams in
     let streams = shelf.streams in
     let sound = c.self.invariant in
-    let found = sym (number_found c.args.handle live streams sound.tied) ∙ sym c.in-Ok.ensures.found in
+    let found = sym (number_found _ live streams sound.tied) ∙ sym c.in-Ok.ensures.found in
     let under = rising_streams c.self.inside.handles.made live streams sound.orderly sound.tied in
-    let view : c.hand_over.new.self ≡ record shelf { streams = map (unnamed c.args.handle) streams } = c.hand_over.ensures
+    let view : c.hand_over.new.self ≡ record shelf { streams = map (unnamed _) streams } = c.hand_over.ensures
     ∙ ap (λ ss. record shelf { streams = ss })
-    (unnamed_found 0 c.self.inside.numbered 0 c.self.inside.handles.made c.args.handle c.in-Ok.number streams sound.rising under
+    (unnamed_found 0 c.self.inside.numbered 0 c.self.inside.handles.made _ c.in-Ok.number streams sound.rising under
     found) in
     rw (c.kill.ensures.killed, view) (record {
       limit = sound.limit;
       room = sound.room;
-      rising = numbered_unnamed 0 c.self.inside.numbered c.args.handle streams sound.rising;
-      orderly = rising_without c.self.inside.handles.made c.args.handle live sound.orderly;
-      tied = killed_tied c.args.handle live streams sound.tied;
+      rising = numbered_unnamed 0 c.self.inside.numbered _ streams sound.rising;
+      orderly = rising_without c.self.inside.handles.made _ live sound.orderly;
+      tied = killed_tied _ live streams sound.tied;
     })
 
 pub invariant_of-self-in_default : goal.invariant_of-self-in_default
@@ -38,14 +38,14 @@ invariant_of-self-in_default c =
     let shelf = c.self.inside.streams in
     let streams = shelf.streams in
     let sound = c.self.invariant in
-    let none = sym (number_found c.args.handle live streams sound.tied) ∙ (sym c.find-found.ensures.found ∙ ap result_ok c.in_default.is) in
-    let view : map (unnamed c.args.handle) streams ≡ streams = unnamed_none c.args.handle streams none in
+    let none = sym (number_found _ live streams sound.tied) ∙ (sym c.find-found.ensures.found ∙ ap result_ok c.in_default.is) in
+    let view : map (unnamed _) streams ≡ streams = unnamed_none _ streams none in
     rw c.kill.ensures.killed (record {
       limit = sound.limit;
       room = sound.room;
       rising = sound.rising;
-      orderly = rising_without c.self.inside.handles.made c.args.handle live sound.orderly;
-      tied = killed_tied c.args.handle live streams sound.tied ∙ ap live_streams view;
+      orderly = rising_without c.self.inside.handles.made _ live sound.orderly;
+      tied = killed_tied _ live streams sound.tied ∙ ap live_streams view;
     })
 
 pub returns-in-Ok-clause-killed : goal.returns-in-Ok-clause-killed
@@ -54,13 +54,13 @@ returns-in-Ok-clause-killed c =
     let shelf = c.self.inside.streams in
     let streams = shelf.streams in
     let sound = c.self.invariant in
-    let found = sym (number_found c.args.handle live streams sound.tied) ∙ sym c.in-Ok.ensures.found in
+    let found = sym (number_found _ live streams sound.tied) ∙ sym c.in-Ok.ensures.found in
     let under = rising_streams c.self.inside.handles.made live streams sound.orderly sound.tied in
-    let view : c.hand_over.new.self ≡ record shelf { streams = map (unnamed c.args.handle) streams } = c.hand_over.ensures
+    let view : c.hand_over.new.self ≡ record shelf { streams = map (unnamed _) streams } = c.hand_over.ensures
     ∙ ap (λ ss. record shelf { streams = ss })
-    (unnamed_found 0 c.self.inside.numbered 0 c.self.inside.handles.made c.args.handle c.in-Ok.number streams sound.rising under
+    (unnamed_found 0 c.self.inside.numbered 0 c.self.inside.handles.made _ c.in-Ok.number streams sound.rising under
     found) in
-    rw (← c.self.view_is, c.kill.ensures.killed, view, killed_others c.args.handle live) refl
+    rw (← c.self.view_is, c.kill.ensures.killed, view, killed_others _ live) refl
 
 pub returns-in_default-clause-killed : goal.returns-in_default-clause-killed
 returns-in_default-clause-killed c =
@@ -68,9 +68,9 @@ returns-in_default-clause-killed c =
     let shelf = c.self.inside.streams in
     let streams = shelf.streams in
     let sound = c.self.invariant in
-    let none = sym (number_found c.args.handle live streams sound.tied) ∙ (sym c.find-found.ensures.found ∙ ap result_ok c.in_default.is) in
-    let view : map (unnamed c.args.handle) streams ≡ streams = unnamed_none c.args.handle streams none in
-    rw (← c.self.view_is, c.kill.ensures.killed, view, killed_others c.args.handle live) refl
+    let none = sym (number_found _ live streams sound.tied) ∙ (sym c.find-found.ensures.found ∙ ap result_ok c.in_default.is) in
+    let view : map (unnamed _) streams ≡ streams = unnamed_none _ streams none in
+    rw (← c.self.view_is, c.kill.ensures.killed, view, killed_others _ live) refl
 
 pub returns-in-Ok-clause-other : goal.returns-in-Ok-clause-other
 returns-in-Ok-clause-other c =
@@ -78,14 +78,14 @@ returns-in-Ok-clause-other c =
     let shelf = c.self.inside.streams in
     let streams = shelf.streams in
     let sound = c.self.invariant in
-    let found = sym (number_found c.args.handle live streams sound.tied) ∙ sym c.in-Ok.ensures.found in
+    let found = sym (number_found _ live streams sound.tied) ∙ sym c.in-Ok.ensures.found in
     let under = rising_streams c.self.inside.handles.made live streams sound.orderly sound.tied in
-    let view : c.hand_over.new.self ≡ record shelf { streams = map (unnamed c.args.handle) streams } = c.hand_over.ensures
+    let view : c.hand_over.new.self ≡ record shelf { streams = map (unnamed _) streams } = c.hand_over.ensures
     ∙ ap (λ ss. record shelf { streams = ss })
-    (unnamed_found 0 c.self.inside.numbered 0 c.self.inside.handles.made c.args.handle c.in-Ok.number streams sound.rising under
+    (unnamed_found 0 c.self.inside.numbered 0 c.self.inside.handles.made _ c.in-Ok.number streams sound.rising under
     found) in
-    rw (← c.self.view_is, c.kill.ensures.killed, view, killed_others c.args.handle live)
-    (λ other. rw (other_kept c.self.inside.handles.made c.args.handle live streams sound.orderly sound.tied other) refl)
+    rw (← c.self.view_is, c.kill.ensures.killed, view, killed_others _ live)
+    (λ other. rw (other_kept c.self.inside.handles.made _ live streams sound.orderly sound.tied other) refl)
 
 pub returns-in-Ok-clause-stream : goal.returns-in-Ok-clause-stream
 returns-in-Ok-clause-stream c =
@@ -93,18 +93,18 @@ returns-in-Ok-clause-stream c =
     let shelf = c.self.inside.streams in
     let streams = shelf.streams in
     let sound = c.self.invariant in
-    let found = sym (number_found c.args.handle live streams sound.tied) ∙ sym c.in-Ok.ensures.found in
+    let found = sym (number_found _ live streams sound.tied) ∙ sym c.in-Ok.ensures.found in
     let under = rising_streams c.self.inside.handles.made live streams sound.orderly sound.tied in
-    let view : c.hand_over.new.self ≡ record shelf { streams = map (unnamed c.args.handle) streams } = c.hand_over.ensures
+    let view : c.hand_over.new.self ≡ record shelf { streams = map (unnamed _) streams } = c.hand_over.ensures
     ∙ ap (λ ss. record shelf { streams = ss })
-    (unnamed_found 0 c.self.inside.numbered 0 c.self.inside.handles.made c.args.handle c.in-Ok.number streams sound.rising under
+    (unnamed_found 0 c.self.inside.numbered 0 c.self.inside.handles.made _ c.in-Ok.number streams sound.rising under
     found) in
-    rw (← c.self.view_is, c.kill.ensures.killed, view, killed_others c.args.handle live)
-    (λ some. rw (stream_kept c.self.inside.handles.made c.args.handle live streams sound.orderly sound.tied some) refl)
+    rw (← c.self.view_is, c.kill.ensures.killed, view, killed_others _ live)
+    (λ some. rw (stream_kept c.self.inside.handles.made _ live streams sound.orderly sound.tied some) refl)
 
 pub returns-in_default-clause-other : goal.returns-in_default-clause-other
 returns-in_default-clause-other c =
-    rw (← c.self.view_is, c.kill.ensures.killed, killed_others c.args.handle c.self.inside.handles.live) (λ other. refl)
+    rw (← c.self.view_is, c.kill.ensures.killed, killed_others _ c.self.inside.handles.live) (λ other. refl)
 
 pub returns-in_default-clause-stream : goal.returns-in_default-clause-stream
 returns-in_default-clause-stream c =
@@ -112,7 +112,7 @@ returns-in_default-clause-stream c =
     let shelf = c.self.inside.streams in
     let streams = shelf.streams in
     let sound = c.self.invariant in
-    let none = sym (number_found c.args.handle live streams sound.tied) ∙ (sym c.find-found.ensures.found ∙ ap result_ok c.in_default.is) in
-    let view : map (unnamed c.args.handle) streams ≡ streams = unnamed_none c.args.handle streams none in
-    rw (← c.self.view_is, c.kill.ensures.killed, killed_others c.args.handle live)
-    (λ some. rw (view, stream_kept c.self.inside.handles.made c.args.handle live streams sound.orderly sound.tied some) refl)
+    let none = sym (number_found _ live streams sound.tied) ∙ (sym c.find-found.ensures.found ∙ ap result_ok c.in_default.is) in
+    let view : map (unnamed _) streams ≡ streams = unnamed_none _ streams none in
+    rw (← c.self.view_is, c.kill.ensures.killed, killed_others _ live)
+    (λ some. rw (view, stream_kept c.self.inside.handles.made _ live streams sound.orderly sound.tied some) refl)

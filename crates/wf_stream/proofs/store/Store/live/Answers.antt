@@ -4,5 +4,5 @@ use Rattle.wf_stream.proofs.store.Store.live.Goals as goal
 
 pub returns : goal.returns
 returns c =
-    rw (← c.self.view_is) (c.live.ensures.count ∙ count_found c.args.kind c.self.inside.handles.live c.self.inside.streams.streams
+    rw (← c.self.view_is) (c.live.ensures.count ∙ count_found _ c.self.inside.handles.live c.self.inside.streams.streams
     c.self.invariant.tied)

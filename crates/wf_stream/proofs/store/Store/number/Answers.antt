@@ -4,5 +4,5 @@ use Rattle.wf_stream.proofs.store.Store.number.Goals as goal
 
 pub returns-clause-number : goal.returns-clause-number
 returns-clause-number c =
-    rw (← c.self.view_is) (c.find.ensures.found ∙ number_found c.args.handle c.self.inside.handles.live c.self.inside.streams.streams
+    rw (← c.self.view_is) (c.find.ensures.found ∙ number_found _ c.self.inside.handles.live c.self.inside.streams.streams
     c.self.invariant.tied)

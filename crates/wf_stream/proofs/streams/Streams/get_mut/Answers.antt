@@ -21,11 +21,11 @@ invariant_of-self-lent c _ =
     let es = c.self.inside.places.entries in
     let sound = c.self.invariant in
     let is = sym c.in-Some.ensures.value in
-    let kept = found_kept c.args.number c.in-Some.place.now p es is sound.kept in
+    let kept = found_kept _ c.in-Some.place.now p es is sound.kept in
     let after = λ (w : Buffers). (
-    let view = lent_view 0 4294967295 c.args.number c.in-Some.place.now p es w sound.rising sound.kept sound.apart is in
+    let view = lent_view 0 4294967295 _ c.in-Some.place.now p es w sound.rising sound.kept sound.apart is in
     let lent : IsSound (record { pool = with_value c.in-Some.place.now.key p w; places = c.self.inside.places }) = record {
-      rising = rw view (numbered_changed 0 4294967295 c.args.number w _ sound.rising);
+      rising = rw view (numbered_changed 0 4294967295 _ w _ sound.rising);
       kept = lent_kept c.in-Some.place.now p es w kept sound.kept;
       apart = sound.apart;
       sole = lent_sole c.in-Some.place.now.key p es w kept sound.sole;

@@ -8,13 +8,13 @@ use Rattle.wf_stream.proofs.streams.Streams.hand_over.Goals as goal
 pub invariant_of-self : goal.invariant_of-self
 invariant_of-self c =
     let n = c.args.number in
-    let f = with_handle c.args.handle in
+    let f = with_handle _ in
     let p = c.self.inside.pool in
     let es = c.self.inside.places.entries in
     let sound = c.self.invariant in
     rw c.set_handle.ensures (record {
-      rising = rw (handed_view 0 4294967295 n c.args.handle p es sound.rising)
-          (numbered_handed 0 4294967295 n c.args.handle _ sound.rising);
+      rising = rw (handed_view 0 4294967295 n _ p es sound.rising)
+          (numbered_handed 0 4294967295 n _ _ sound.rising);
       kept = placed_kept n f p es (λ o. refl) sound.kept;
       apart = placed_apart n f es (λ o. refl) sound.apart;
       sole = placed_sole n f p es (λ o. refl) sound.sole;
@@ -28,6 +28,6 @@ returns c =
     rw (
       ← c.self.view_is,
       c.set_handle.ensures,
-      handed_view 0 4294967295 n c.args.handle c.self.inside.pool es c.self.invariant.rising,
-      marks_handed n c.args.handle es,
+      handed_view 0 4294967295 n _ c.self.inside.pool es c.self.invariant.rising,
+      marks_handed n _ es,
     ) refl

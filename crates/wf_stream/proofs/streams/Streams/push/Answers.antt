@@ -11,8 +11,8 @@ pub invariant_of-self-in-Ok-insert : goal.invariant_of-self-in-Ok-insert
 invariant_of-self-in-Ok-insert c =
     let above = rw (← c.self.view_is) at c.requires.above in
     let fits : c.args.number ≤ 4294967295 = omega (arith, c.ranges.number.fits) in
-    let new : IsKept c.in-Ok.key c.put.new.self = rw c.in-Ok.ensures.kept.changed refl in
-    let all = shelf_push c.args.number _ c.self.inside.pool c.put.new.self c.self.inside.places.entries c.insert.new.self.entries
+    let new : IsKept c.in-Ok.key _ = rw c.in-Ok.ensures.kept.changed refl in
+    let all = shelf_push _ _ c.self.inside.pool _ c.self.inside.places.entries c.insert.new.self.entries
     c.requires.counted above fits c.self.invariant.kept c.self.invariant.apart c.in-Ok.ensures.free c.in-Ok.ensures.kept.others new
     c.in-Ok-insert.ensures.entries in
     let p = c.self.inside.pool in
@@ -27,16 +27,16 @@ invariant_of-self-in-Ok-insert c =
       rising = all.1;
       kept = all.2;
       apart = all.3;
-      sole = rw last (sole_push c.put.new.self es e (sole_same c.in-Ok.key p c.put.new.self es agree none c.self.invariant.sole) one);
-      no_other = rw last (other_push p c.put.new.self es e agree c.self.invariant.no_other);
+      sole = rw last (sole_push _ es e (sole_same c.in-Ok.key p _ es agree none c.self.invariant.sole) one);
+      no_other = rw last (other_push p _ es e agree c.self.invariant.no_other);
     }
 
 pub returns-clause-pushed : goal.returns-clause-pushed
 returns-clause-pushed c =
     let above = rw (← c.self.view_is) at c.requires.above in
     let fits : c.args.number ≤ 4294967295 = omega (arith, c.ranges.number.fits) in
-    let new : IsKept c.in-Ok.key c.put.new.self = rw c.in-Ok.ensures.kept.changed refl in
-    let all = shelf_push c.args.number _ c.self.inside.pool c.put.new.self c.self.inside.places.entries c.insert.new.self.entries
+    let new : IsKept c.in-Ok.key _ = rw c.in-Ok.ensures.kept.changed refl in
+    let all = shelf_push _ _ c.self.inside.pool _ c.self.inside.places.entries c.insert.new.self.entries
     c.requires.counted above fits c.self.invariant.kept c.self.invariant.apart c.in-Ok.ensures.free c.in-Ok.ensures.kept.others new
     c.in-Ok-insert.ensures.entries in
     let es = c.self.inside.places.entries in
@@ -48,34 +48,34 @@ returns-clause-pushed c =
 
 pub invariant_of-self-in_default-insert : goal.invariant_of-self-in_default-insert
 invariant_of-self-in_default-insert c =
-    let agree = agree_twice c.in-Ok.key c.self.inside.pool c.put.new.self c.release.new.self _ c.in-Ok.ensures.kept.others
+    let agree = agree_twice c.in-Ok.key c.self.inside.pool _ _ _ c.in-Ok.ensures.kept.others
     c.release.ensures.left in
-    let all = shelf_same c.in-Ok.key c.self.inside.pool c.release.new.self c.self.inside.places.entries c.in-Ok.ensures.free
+    let all = shelf_same c.in-Ok.key c.self.inside.pool _ c.self.inside.places.entries c.in-Ok.ensures.free
     c.self.invariant.kept agree in
     let p = c.self.inside.pool in
     let es = c.self.inside.places.entries in
     let none = none_free c.in-Ok.key p es c.in-Ok.ensures.free c.self.invariant.kept in
-    let kept : IsKept c.in-Ok.key c.put.new.self = rw c.in-Ok.ensures.kept.changed refl in
+    let kept : IsKept c.in-Ok.key _ = rw c.in-Ok.ensures.kept.changed refl in
     let gone : kept_at c.in-Ok.key c.release.new.self ≡ None = ap (kept_at c.in-Ok.key) c.release.ensures.left
-    ∙ let_go c.in-Ok.key c.put.new.self kept (ap count_of c.in-Ok.ensures.kept.changed) in
+    ∙ let_go c.in-Ok.key _ kept (ap count_of c.in-Ok.ensures.kept.changed) in
     rw c.in_default-insert.ensures.err (record {
       rising = rw all.0 c.self.invariant.rising;
       kept = all.1;
       apart = c.self.invariant.apart;
-      sole = sole_same c.in-Ok.key p c.release.new.self es agree none c.self.invariant.sole;
-      no_other = other_same c.in-Ok.key p c.release.new.self es gone agree c.self.invariant.no_other;
+      sole = sole_same c.in-Ok.key p _ es agree none c.self.invariant.sole;
+      no_other = other_same c.in-Ok.key p _ es gone agree c.self.invariant.no_other;
     })
 
 pub returns-in_default-insert-clause-refused : goal.returns-in_default-insert-clause-refused
 returns-in_default-insert-clause-refused c =
-    let agree = agree_twice c.in-Ok.key c.self.inside.pool c.put.new.self c.release.new.self _ c.in-Ok.ensures.kept.others
+    let agree = agree_twice c.in-Ok.key c.self.inside.pool _ _ _ c.in-Ok.ensures.kept.others
     c.release.ensures.left in
-    let all = shelf_same c.in-Ok.key c.self.inside.pool c.release.new.self c.self.inside.places.entries c.in-Ok.ensures.free
+    let all = shelf_same c.in-Ok.key c.self.inside.pool _ c.self.inside.places.entries c.in-Ok.ensures.free
     c.self.invariant.kept agree in
     rw (← c.self.view_is, c.in_default-insert.ensures.err, all.0) refl
 
 pub returns-clause-unmarked : goal.returns-clause-unmarked
 returns-clause-unmarked c =
     let above = rw (← c.self.view_is) at c.requires.above in
-    rw (← c.self.view_is) (marks_above 0 (c.args.number - 1) c.args.number c.self.inside.pool c.self.inside.places.entries above
+    rw (← c.self.view_is) (marks_above 0 (c.args.number - 1) _ c.self.inside.pool c.self.inside.places.entries above
     (omega (arith, c.requires.counted)))
