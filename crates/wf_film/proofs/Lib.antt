@@ -1,1 +1,5 @@
 pub mod Elements
+pub mod Steps
+pub mod FieldLaws
+pub mod FrameLaws
+pub mod JournalLaws

@@ -1,8 +1,20 @@
-//! Films as bytes: the writer of frames and of the journal.
+//! Films as bytes: the writer of frames and of the journal, and the reader of films of both forms.
 #![tactic(auto)]
 
+mod fault;
+mod fields;
+mod film;
+mod form;
+mod frames;
+mod journal;
 mod pieces;
+mod reading;
+mod rule;
 mod writer;
 
+pub use fault::FilmStop;
+pub use film::Film;
+pub use form::FilmForm;
+pub use reading::read;
 pub use wf_io::WriteStop;
 pub use writer::Writer;
