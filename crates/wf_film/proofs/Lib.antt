@@ -3,3 +3,4 @@ pub mod Steps
 pub mod FieldLaws
 pub mod FrameLaws
 pub mod JournalLaws
+pub mod FilmLaws

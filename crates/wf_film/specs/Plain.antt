@@ -88,6 +88,11 @@ pub record Stands (bytes : List ℕ) (film : PlainFilm) : Type 0 where
   pub is : IsFilm film
   pub spelled : bytes ≡ plain_bytes film
 
+-- bytes of a film that are no front of a longer film's bytes, and of which no front is a shorter film's
+pub record IsWhole (bytes : List ℕ) : Type 0 where
+  pub no_front : (rest : List ℕ) (other : PlainFilm) → Stands (bytes ++ rest) other → rest ≡ []
+  pub no_longer : (front rest : List ℕ) (other : PlainFilm) → bytes ≡ front ++ rest → Stands front other → rest ≡ []
+
 -- a film of form 1, whose frames do not say where they begin
 
 abbrev pub frame_of_one : Frame → PlainFrame

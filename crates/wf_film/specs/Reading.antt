@@ -1,5 +1,5 @@
 -- Reading a film from the left to the right, each field when it is whole, up to the first fault.
-use Rattle.std.specs.Prelude.{◌≡◌, ℕ, zero, suc, ◌*◌, ◌-◌, Bool, not, ◌&&◌, ◌==◌, nat_lt, nat_le, List, [], ◌∷◌, length, take, drop, codes}
+use Rattle.std.specs.Prelude.{◌≡◌, ℕ, zero, suc, ◌*◌, ◌-◌, Bool, not, ◌&&◌, ◌==◌, nat_lt, nat_le, List, [], ◌∷◌, length, take, drop}
 use Rattle.std.specs.Prelude.{Option, Some, None, Result, Ok, Err, if◌then◌else◌}
 use Rattle.std.specs.Str.{byte, bytes_eq}
 use Rattle.byteorder.specs.Endian.{big_number}
@@ -168,3 +168,9 @@ abbrev pub TellsFault : {A : Type 0} → Result A FilmStop → Option FilmFault 
 TellsFault (Ok film) fault = fault ≡ None
 TellsFault (Err (stop.Fault at rule)) fault = fault ≡ Some (record { at = at; rule = rule })
 TellsFault (Err stop.NoMemory) fault = Unit {0}
+
+-- this was answered where the bytes stand for a film: that film, unless memory ran out
+abbrev pub TellsFilm : Result Outline FilmStop → PlainFilm → Type 0
+TellsFilm (Ok film) plain = film ≡ outline plain
+TellsFilm (Err (stop.Fault at rule)) plain = ⊥
+TellsFilm (Err stop.NoMemory) plain = Unit {0}

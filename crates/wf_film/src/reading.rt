@@ -1,7 +1,8 @@
 //! Reads a film.
 
-ghost use Rattle.std.specs.Prelude.{◌≡◌};
-ghost use Rattle.wf_film.specs.Reading.{TellsFault, behind, end_at, film_fault, outlined, read_film};
+ghost use Rattle.std.specs.Prelude.{◌≡◌, IfOk, OnOk};
+ghost use Rattle.wf_film.specs.Plain.{IsWhole, PlainFilm, Stands, outline};
+ghost use Rattle.wf_film.specs.Reading.{TellsFault, TellsFilm, behind, end_at, film_fault, outlined, read_film};
 ghost use Rattle.wf_film.specs.Rules.{Finds, Gives};
 
 use crate::fault::FilmStop;
@@ -41,7 +42,14 @@ fn film_of(alloc: Global, bytes: &[u8]) -> Result<Film, ReadStop>
 
 /// The film that the bytes stand for, or the first fault. In one pass; memory is taken for the journal alone.
 pub fn read(alloc: Global, bytes: &[u8]) -> Result<Film, FilmStop>
+    // No fault where a film is read, and else the first fault of the bytes.
     ensures fault { TellsFault result (film_fault bytes.now) }
+    // What is read is a film that the bytes stand for.
+    ensures film { IfOk result (λ film. (plain : PlainFilm) × Stands bytes.now plain × (film ≡ outline plain)) }
+    // A film that the bytes stand for is read, and no other.
+    ensures only { (plain : PlainFilm) → Stands bytes.now plain → TellsFilm result plain }
+    // What is read is no front of another film, and no front of it is one.
+    ensures whole { OnOk result (IsWhole bytes.now) }
 {
     match film_of(alloc, bytes) {
         Ok(film) => Ok(film),

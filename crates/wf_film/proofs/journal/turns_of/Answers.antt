@@ -1,9 +1,6 @@
-use Rattle.std.proofs.Common.{◌∙◌, sym, arith}
+use Rattle.std.proofs.Common.{◌∙◌, sym}
 use Rattle.std.proofs.lemmas.Result.{err_from_is_err_and}
-use Rattle.wf_film.specs.declared.rule.ReadStop.TheVariants as stop
-use Rattle.wf_film.specs.Reading.{turns_at}
-use Rattle.wf_film.specs.Rules.{Gives}
-use Rattle.wf_film.proofs.JournalLaws.{broken_turn, no_more_turns, none_before, one_turn}
+use Rattle.wf_film.proofs.JournalLaws.{broken_turn, no_more_turns, one_turn}
 use Rattle.wf_film.proofs.journal.turns_of.Goals as goal
 
 pub returns-in_err-turn : goal.returns-in_err-turn

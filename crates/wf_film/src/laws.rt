@@ -1,0 +1,23 @@
+//! Laws of the definitions: which bytes are a film's.
+
+ghost use Rattle.std.specs.Prelude.{◌≡◌, ℕ, List, [], ◌++◌, None};
+ghost use Rattle.wf_film.specs.Film.{Film, film_bytes};
+ghost use Rattle.wf_film.specs.Plain.{IsFilm, PlainFilm, Stands, film_of_one, plain_bytes};
+ghost use Rattle.wf_film.specs.Reading.{film_fault};
+
+/// No film's bytes are a proper front of another film's bytes, whichever their forms are.
+pub fn no_film_begins_another()
+    ensures { (film other : PlainFilm) (rest : List ℕ) → IsFilm film → IsFilm other → plain_bytes film ++ rest ≡ plain_bytes other
+        → rest ≡ [] }
+{}
+
+/// Bytes stand for one film at most.
+pub fn one_film_at_most()
+    ensures { (bytes : List ℕ) (film other : PlainFilm) → Stands bytes film → Stands bytes other → film ≡ other }
+{}
+
+/// What the writer puts is the film in form 1, and it is read where its numbers are in their ranges.
+pub fn written_films_are_read()
+    ensures written { (film : Film) → film_bytes film ≡ plain_bytes (film_of_one film) }
+    ensures read { (film : Film) → IsFilm (film_of_one film) → film_fault (film_bytes film) ≡ None }
+{}
