@@ -20,7 +20,8 @@ use Rattle.wf_film.specs.Rules.{breach, ends_here}
 use Rattle.wf_film.proofs.Steps.{AreBytes, Takes, bind_ok, bytes_before, bytes_behind, is_in_range, ok_is, passed, stays_in_range}
 
 -- a test that chose the second
-chosen : {A : Type 0} (b : Bool) (e : Breach) (x y : A) → (let r : Result A Breach = if b then Err e else Ok x in r ≡ Ok y) → (b ≡ false) × (x ≡ y)
+chosen : {A : Type 0} (b : Bool) (e : Breach) (x y : A) → (let r : Result A Breach = if b then Err e else Ok x in r ≡ Ok y)
+    → (b ≡ false) × (x ≡ y)
 chosen true e x y h = absurd cc
 chosen false e x y h = (refl, cc)
 
@@ -126,7 +127,8 @@ begin_takes forms.One bytes x fits h =
     (record { parts = refl; fits = fits }, refl)
 begin_takes forms.Two bytes x fits h = number_takes 4 four_come_back bytes x fits h
 
-pub begin_again : (form : FilmForm) (n : ℕ) (rest : List ℕ) → MayBegin form n → begin_at form (begin_bytes form n ++ rest) ≡ Ok (n, rest)
+pub begin_again : (form : FilmForm) (n : ℕ) (rest : List ℕ) → MayBegin form n
+    → begin_at form (begin_bytes form n ++ rest) ≡ Ok (n, rest)
 begin_again forms.One n rest may = rw may refl
 begin_again forms.Two n rest may = number_again 4 n rest may
 
@@ -168,8 +170,10 @@ form_takes bytes x fits h = of_length (nat_lt (length bytes) 4) h
 pub form_again : (form : FilmForm) (rest : List ℕ) → form_at (magic_of form ++ rest) ≡ Ok (form, rest)
 unfolding form_at
 form_again forms.One rest =
-    let long : nat_lt (length (magic_of forms.One ++ rest)) 4 ≡ false = le-ltb _ _ (omega (arith, length-append (magic_of forms.One) rest)) in
+    let long : nat_lt (length (magic_of forms.One ++ rest)) 4 ≡ false =
+    le-ltb _ _ (omega (arith, length-append (magic_of forms.One) rest)) in
     rw long refl
 form_again forms.Two rest =
-    let long : nat_lt (length (magic_of forms.Two ++ rest)) 4 ≡ false = le-ltb _ _ (omega (arith, length-append (magic_of forms.Two) rest)) in
+    let long : nat_lt (length (magic_of forms.Two ++ rest)) 4 ≡ false =
+    le-ltb _ _ (omega (arith, length-append (magic_of forms.Two) rest)) in
     rw long refl

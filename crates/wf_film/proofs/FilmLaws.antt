@@ -57,14 +57,17 @@ film_takes bytes x fits h =
     let order_is = journal_takes frames.0.1 order.0 frames_are.takes.fits order.1 in
     let end_is = end_takes order.0.1 end.0 order_is.takes.fits end.1 in
     let film : PlainFilm = record { form = form.0.0; frames = frames.0.0; order = order.0.0 } in
-    let from_order = takes_both frames.0.1 (big_bytes 4 (length order.0.0) ++ flat_map turn_bytes order.0.0) order.0.1 (byte "E" ∷ []) end.0.1
-    order_is.takes end_is in
-    let from_frames = takes_both form.0.1 (flat_map (plain_frame form.0.0) frames.0.0 ++ byte "J" ∷ []) frames.0.1 _ end.0.1
-    frames_are.takes from_order in
-    let all = takes_both bytes (magic_of form.0.0) form.0.1 _ end.0.1 form_is from_frames in
-    let spelled : bytes ≡ plain_bytes film ++ end.0.1 = all.parts ∙ regrouped form.0.0 (flat_map (plain_frame form.0.0) frames.0.0)
-    (big_bytes 4 (length order.0.0)) (flat_map turn_bytes order.0.0) end.0.1 in
-    subst (λ (y : PlainFilm × List ℕ). (bytes ≡ plain_bytes y.0 ++ y.1) × IsFilm y.0) (ok_is (film, end.0.1) x end.2)
+    let count : List ℕ = big_bytes 4 (length order.0.0) in
+    let entries : List ℕ = flat_map turn_bytes order.0.0 in
+    let shown : List ℕ = flat_map (plain_frame form.0.0) frames.0.0 in
+    let text_order : List ℕ = (count ++ entries) ++ byte "E" ∷ [] in
+    let text_frames : List ℕ = (shown ++ byte "J" ∷ []) ++ text_order in
+    let from_order = takes_both frames.0.1 (count ++ entries) order.0.1 (byte "E" ∷ []) end.0.1 order_is.takes end_is in
+    let from_frames = takes_both form.0.1 (shown ++ byte "J" ∷ []) frames.0.1 text_order end.0.1 frames_are.takes from_order in
+    let all = takes_both bytes (magic_of form.0.0) form.0.1 text_frames end.0.1 form_is from_frames in
+    let spelled : bytes ≡ plain_bytes film ++ end.0.1 = all.parts ∙ regrouped form.0.0 shown count entries end.0.1 in
+    let made : PlainFilm × List ℕ = (film, end.0.1) in
+    subst (λ (y : PlainFilm × List ℕ). (bytes ≡ plain_bytes y.0 ++ y.1) × IsFilm y.0) {x = made} (ok_is made x end.2)
     (spelled, record { frames = frames_are.each; turns = order_is.each; few = order_is.few })
   where
     regrouped : (form : FilmForm) (frames count entries rest : List ℕ)

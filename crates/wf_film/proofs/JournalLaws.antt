@@ -15,7 +15,8 @@ use Rattle.wf_film.proofs.Steps.{AreBytes, Takes, bind_ok, ok_is, takes_both}
 
 -- an entry
 
-pub turn_takes : (bytes : List ℕ) (x : Turn × List ℕ) → AreBytes bytes → turn_at bytes ≡ Ok x → Takes bytes (turn_bytes x.0) x.1 × IsTurn x.0
+pub turn_takes : (bytes : List ℕ) (x : Turn × List ℕ) → AreBytes bytes → turn_at bytes ≡ Ok x
+    → Takes bytes (turn_bytes x.0) x.1 × IsTurn x.0
 unfolding turn_at
 turn_takes bytes x fits h =
     let client = bind_ok (byte_within 0 7 bytes) _ x h in
@@ -27,7 +28,8 @@ turn_takes bytes x fits h =
     let from_code = takes_both client.0.1 (code.0.0 ∷ []) code.0.1 (big_bytes 4 value.0.0) value.0.1 code_is.0 value_is.0 in
     let all = takes_both bytes (client.0.0 ∷ []) client.0.1 (code.0.0 ∷ big_bytes 4 value.0.0) value.0.1 client_is.0 from_code in
     let t : Turn = record { client = client.0.0; code = code.0.0; value = value.0.0 } in
-    subst (λ (y : Turn × List ℕ). Takes bytes (turn_bytes y.0) y.1 × IsTurn y.0) (ok_is (t, value.0.1) x value.2)
+    let made : Turn × List ℕ = (t, value.0.1) in
+    subst (λ (y : Turn × List ℕ). Takes bytes (turn_bytes y.0) y.1 × IsTurn y.0) {x = made} (ok_is made x value.2)
     (all, record { client = client_is.2; code = code_is.2; value = value_is.1 })
 
 pub turn_again : (t : Turn) (rest : List ℕ) → IsTurn t → turn_at (turn_bytes t ++ rest) ≡ Ok (t, rest)
@@ -58,7 +60,8 @@ turns_take (suc n) bytes x fits h =
     let first_is = turn_takes bytes first.0 fits first.1 in
     let others_are = turns_take n first.0.1 others.0 first_is.0.fits others.1 in
     let all = takes_both bytes (turn_bytes first.0.0) first.0.1 (flat_map turn_bytes others.0.0) others.0.1 first_is.0 others_are.0.takes in
-    subst (λ (y : List Turn × List ℕ). TurnsTake bytes y.0 y.1 × (length y.0 ≡ suc n)) (ok_is (first.0.0 ∷ others.0.0, others.0.1) x others.2)
+    let made : List Turn × List ℕ = (first.0.0 ∷ others.0.0, others.0.1) in
+    subst (λ (y : List Turn × List ℕ). TurnsTake bytes y.0 y.1 × (length y.0 ≡ suc n)) {x = made} (ok_is made x others.2)
     (record { takes = all; each = (first_is.1, others_are.0.each) }, ap suc others_are.1)
 
 pub turns_again : (turns : List Turn) (rest : List ℕ) → AllByRecursion IsTurn turns
@@ -128,7 +131,8 @@ broken_turn front count i bytes e within broken =
     rw (left, broken) refl
 
 -- no entry is left
-pub no_more_turns : (front : List Turn) (count i : ℕ) (bytes : List ℕ) → count ≤ i → with_front front (turns_at (count - i) bytes) ≡ Ok (front, bytes)
+pub no_more_turns : (front : List Turn) (count i : ℕ) (bytes : List ℕ) → count ≤ i
+    → with_front front (turns_at (count - i) bytes) ≡ Ok (front, bytes)
 unfolding turns_at
 no_more_turns front count i bytes through =
     let left : count - i ≡ 0 = omega arith in

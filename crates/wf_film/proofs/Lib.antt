@@ -2,5 +2,6 @@ pub mod Elements
 pub mod Steps
 pub mod FieldLaws
 pub mod FrameLaws
+pub mod FrameSteps
 pub mod JournalLaws
 pub mod FilmLaws

@@ -1,7 +1,7 @@
 use Rattle.std.proofs.Common.{◌≡◌, ◌∙◌, ℕ, suc, ◌+◌, ◌-◌, length, Ok, sym, ap, arith}
 use Rattle.std.proofs.lemmas.Result.{err_from_is_err_and}
 use Rattle.wf_film.specs.Reading.{byte_at, frames_at}
-use Rattle.wf_film.proofs.FrameLaws.{at_journal, behind_one_frame, broken_frame, more_frames, no_frame, no_tag, one_frame}
+use Rattle.wf_film.proofs.FrameSteps.{at_journal, behind_one_frame, broken_frame, more_frames, no_frame, no_tag, one_frame}
 use Rattle.wf_film.proofs.frames.frames_of.Goals as goal
 
 pub returns-in_err-tag : goal.returns-in_err-tag
@@ -10,7 +10,8 @@ returns-in_err-tag c =
     let n = c.loop-tag.count in
     rw (p.1, p.2)
     (sym c.loop-tag.invariant.same
-    ∙ no_tag c.args.form (length c.args.bytes.now - n) n c.loop-tag.rest.now _ (omega (arith, c.loop-tag.invariant.few)) c.in_err-tag.ensures)
+    ∙ no_tag c.args.form (length c.args.bytes.now - n) n c.loop-tag.rest.now _
+    (omega (arith, c.loop-tag.invariant.few)) c.in_err-tag.ensures)
 
 pub returns-then-tag-eq74 : goal.returns-then-tag-eq74
 returns-then-tag-eq74 c =

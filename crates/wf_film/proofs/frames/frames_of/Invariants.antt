@@ -1,6 +1,6 @@
 use Rattle.std.proofs.Common.{◌≡◌, ◌+◌, ◌-◌, ◌≤◌, length}
 use Rattle.wf_film.specs.Reading.{counted, frames_at}
-use Rattle.wf_film.proofs.FrameLaws.{more_frames}
+use Rattle.wf_film.proofs.FrameSteps.{more_frames}
 use Rattle.wf_film.proofs.Steps.{AreBytes}
 use Rattle.wf_film.proofs.frames.frames_of.Given as goal
 
