@@ -5,3 +5,4 @@ pub mod FrameLaws
 pub mod FrameSteps
 pub mod JournalLaws
 pub mod FilmLaws
+pub mod PlaceLaws

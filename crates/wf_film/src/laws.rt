@@ -1,9 +1,9 @@
 //! Laws of the definitions: which bytes are a film's.
 
-ghost use Rattle.std.specs.Prelude.{◌≡◌, ℕ, List, [], ◌++◌, None};
+ghost use Rattle.std.specs.Prelude.{◌≡◌, ℕ, ◌≤◌, List, [], ◌++◌, length, None, IfErr};
 ghost use Rattle.wf_film.specs.Film.{Film, film_bytes};
 ghost use Rattle.wf_film.specs.Plain.{IsFilm, PlainFilm, Stands, film_of_one, plain_bytes};
-ghost use Rattle.wf_film.specs.Reading.{film_fault};
+ghost use Rattle.wf_film.specs.Reading.{film_fault, read_film};
 
 /// No film's bytes are a proper front of another film's bytes, whichever their forms are.
 pub fn no_film_begins_another()
@@ -20,4 +20,9 @@ pub fn one_film_at_most()
 pub fn written_films_are_read()
     ensures written { (film : Film) → film_bytes film ≡ plain_bytes (film_of_one film) }
     ensures read { (film : Film) → IsFilm (film_of_one film) → film_fault (film_bytes film) ≡ None }
+{}
+
+/// A rule is broken in the film: no more bytes are left from there on than the film has.
+pub fn faults_lie_in_the_film()
+    ensures { (bytes : List ℕ) → IfErr (read_film bytes) (λ broken. broken.left ≤ length bytes) }
 {}

@@ -16,7 +16,9 @@ mod writer;
 pub use fault::FilmStop;
 pub use film::Film;
 pub use form::FilmForm;
-pub use laws::{no_film_begins_another, one_film_at_most, written_films_are_read};
+pub use laws::{
+    faults_lie_in_the_film, no_film_begins_another, one_film_at_most, written_films_are_read,
+};
 pub use reading::read;
 pub use wf_io::WriteStop;
 pub use writer::Writer;

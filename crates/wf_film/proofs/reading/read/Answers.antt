@@ -1,5 +1,6 @@
 use Rattle.std.proofs.Common.{arith}
 use Rattle.wf_film.proofs.FilmLaws.{no_fault, told_only, told_stands, told_whole}
+use Rattle.wf_film.proofs.PlaceLaws.{told_in_film}
 use Rattle.wf_film.proofs.reading.read.Goals as goal
 
 pub returns-in-Ok-clause-film : goal.returns-in-Ok-clause-film
@@ -16,3 +17,6 @@ returns-in-Ok-clause-whole c =
 pub returns-in-Err-Breaks-clause-only : goal.returns-in-Err-Breaks-clause-only
 returns-in-Err-Breaks-clause-only c = λ plain stands.
     no_fault c.args.bytes.now c.in-Err-Breaks.broken plain (rw c.in-Err-Breaks.field-0-is at c.in-Err-Breaks.ensures) stands
+
+pub overflow_sub-result : goal.overflow_sub-result
+overflow_sub-result c = told_in_film c.args.bytes.now c.in-Err-Breaks.broken (rw c.in-Err-Breaks.field-0-is at c.in-Err-Breaks.ensures)
