@@ -163,6 +163,10 @@ fault_of n (Err broken) = Some (fault_in n broken)
 abbrev pub film_fault : List ℕ → Option FilmFault
 film_fault bytes = fault_of (length bytes) (read_film bytes)
 
+-- the answer that tells a fault
+abbrev pub stop_of : FilmFault → FilmStop
+stop_of fault = stop.Fault fault.at fault.rule
+
 -- this was answered: the fault that the bytes have, or none, unless memory ran out
 abbrev pub TellsFault : {A : Type 0} → Result A FilmStop → Option FilmFault → Type 0
 TellsFault (Ok film) fault = fault ≡ None

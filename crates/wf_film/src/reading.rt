@@ -53,10 +53,7 @@ pub fn read(alloc: Global, bytes: &[u8]) -> Result<Film, FilmStop>
 {
     match film_of(alloc, bytes) {
         Ok(film) => Ok(film),
-        Err(ReadStop::Breaks(broken)) => Err(FilmStop::Fault {
-            at: (bytes.len() - broken.left) as u64,
-            rule: broken.rule.number(),
-        }),
+        Err(ReadStop::Breaks(broken)) => Err(FilmStop::of(broken, bytes)),
         Err(ReadStop::NoMemory) => Err(FilmStop::NoMemory),
     }
 }

@@ -16,7 +16,7 @@ returns-in-Ok-clause-whole c =
 
 pub returns-in-Err-Breaks-clause-only : goal.returns-in-Err-Breaks-clause-only
 returns-in-Err-Breaks-clause-only c = λ plain stands.
-    no_fault c.args.bytes.now c.in-Err-Breaks.broken plain (rw c.in-Err-Breaks.field-0-is at c.in-Err-Breaks.ensures) stands
+    absurd (no_fault c.args.bytes.now c.in-Err-Breaks.broken plain (rw c.in-Err-Breaks.field-0-is at c.in-Err-Breaks.ensures) stands)
 
-pub overflow_sub-result : goal.overflow_sub-result
-overflow_sub-result c = told_in_film c.args.bytes.now c.in-Err-Breaks.broken (rw c.in-Err-Breaks.field-0-is at c.in-Err-Breaks.ensures)
+pub of-requires : goal.of-requires
+of-requires c = told_in_film c.args.bytes.now c.in-Err-Breaks.broken (rw c.in-Err-Breaks.field-0-is at c.in-Err-Breaks.ensures)
