@@ -6,3 +6,4 @@ pub mod FrameSteps
 pub mod JournalLaws
 pub mod FilmLaws
 pub mod PlaceLaws
+pub mod CutLaws

@@ -17,7 +17,8 @@ pub use fault::FilmStop;
 pub use film::Film;
 pub use form::FilmForm;
 pub use laws::{
-    faults_lie_in_the_film, no_film_begins_another, one_film_at_most, written_films_are_read,
+    cut_films_end_early, faults_lie_in_the_film, no_film_begins_another, nothing_follows_a_film,
+    one_film_at_most, written_films_are_read,
 };
 pub use reading::read;
 pub use wf_io::WriteStop;
