@@ -14,7 +14,7 @@ use Rattle.wf_film.specs.declared.rule.Rule.TheVariants as rule
 use Rattle.wf_film.specs.Plain.{PlainFrame, PlainFilm, Outline, magic_of, outline}
 use Rattle.wf_film.specs.Rules.{breach, ends_here, rule_number}
 
--- what was read from the front of the bytes and the bytes behind it, or the rule that is broken and where
+-- what was read from the front of the bytes and the bytes behind it, or the rule that is broken and how many bytes are left there
 abbrev pub Read : Type 0 → Type 0
 Read A = Result (A × List ℕ) Breach
 
@@ -123,7 +123,7 @@ end_at bytes = do
   _ ← refuse_if (breach rule.Tag bytes) (not (tag.0 == byte "E"))
   Ok (tt, tag.1)
 
--- a film, and what follows it
+-- a film, and the bytes that follow it
 unfoldable pub film_at : List ℕ → Read PlainFilm
 film_at bytes = do
   form ← form_at bytes
@@ -151,7 +151,7 @@ pub record FilmFault : Type 0 where
   pub at : ℕ
   pub rule : ℕ
 
--- the fault in a film of so many bytes
+-- the fault in a film of n bytes
 abbrev pub fault_in : ℕ → Breach → FilmFault
 fault_in n broken = record { at = n - broken.left; rule = rule_number broken.rule }
 
