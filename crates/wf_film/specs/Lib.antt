@@ -1,2 +1,5 @@
--- Films as bytes.
+-- Films as bytes, and how they are read.
 pub mod Film
+pub mod Plain
+pub mod Rules
+pub mod Reading

@@ -7,8 +7,11 @@ use byteorder::{BigEndian, ByteOrder};
 use wf_calls::{Order, Turn};
 use wf_image::Image;
 
-/// What a film begins with.
+/// What a film of form 1 begins with.
 pub(crate) const MAGIC: [u8; 4] = *b"WFF1";
+
+/// What a film of form 2 begins with.
+pub(crate) const MAGIC_OF_TWO: [u8; 4] = *b"WFF2";
 
 /// What a film ends with.
 pub(crate) const END: [u8; 1] = *b"E";

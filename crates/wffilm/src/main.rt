@@ -1,9 +1,12 @@
-//! The program `wffilm`: plays cases of the writer of films.
+//! The program `wffilm`: plays cases of the writer of films, and of the reader.
 #![tactic(auto)]
+
+mod reading;
 
 ghost use Rattle.std.specs.Prelude.{◌≡◌, ◌<◌, ◌^◌, length, IfSome};
 ghost use Rattle.wf_image.specs.Bitmap.{pixel_bytes};
 
+use reading::{Reading, told};
 use std::alloc::{AllocError, Global};
 use std::io;
 use std::process::ExitCode;
@@ -17,12 +20,13 @@ use wf_pixel::{Format, Rgba, Size};
 /// The most entries of a journal here.
 const MOST_TURNS: usize = 1000;
 
-/// What a film is made of, and the last one.
+/// What a film is made of, the last one, and the bytes that are read.
 #[derive(Drop)]
 struct Films {
     frame: Option<(Size, Rgba)>,
     turns: Vec<Turn>,
     film: Option<MemorySink>,
+    reading: Reading,
 }
 
 fn main(rt: HostRuntime) -> io::Result<ExitCode> {
@@ -35,6 +39,7 @@ impl Stage for Films {
             frame: None,
             turns: Vec::new(alloc),
             film: None,
+            reading: Reading::opened(alloc),
         }
     }
 
@@ -57,6 +62,11 @@ impl Stage for Films {
             }
             "film" => self.film(alloc, number(words, 1)),
             "bytes" => self.bytes(alloc, number(words, 1), number(words, 2)),
+            "again" => match &self.film {
+                Some(film) => told(alloc, film.bytes()),
+                None => format!(in alloc; "no film"),
+            },
+            "put" | "read" | "entry" | "cut" | "cuts" | "with" => self.reading.answer(alloc, words),
             _ => format!(in alloc; "no such call"),
         }
     }
