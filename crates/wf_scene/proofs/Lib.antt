@@ -7,3 +7,5 @@ pub mod Standing
 pub mod Answered
 pub mod Rules
 pub mod Placed
+pub mod TwoLists
+pub mod BySlot
