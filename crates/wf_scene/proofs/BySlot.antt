@@ -1,22 +1,21 @@
 -- Numbers of slots, which tell a slot apart from others: what is true of slots is true of their numbers.
-use Rattle.std.proofs.Common.{◌≡◌, ℕ, ◌+◌, Bool, true, false, not, cond, ◌==◌, ◌||◌, List, [], ◌∷◌, ◌++◌, map, find, length, reverse, slice_get}
+use Rattle.std.proofs.Common.{◌≡◌, ℕ, ◌+◌, Bool, true, false, not, cond, ◌==◌, ◌||◌, List, [], ◌∷◌, ◌++◌, map, find, length, reverse}
 use Rattle.std.proofs.Common.{refl, sym, ap, ◌∙◌, Option, Some, None, unwrap_or}
-use Rattle.std.specs.Prelude.{flat_map, position, slice_index, nat_lt}
-use Rattle.std.specs.List.{list_any, position_or_len}
+use Rattle.std.specs.Prelude.{flat_map, slice_index, nat_lt}
 use Rattle.std.specs.Option.{option_map_or}
 use Rattle.std.proofs.Math.Numerals.{one-add, add-one}
-use Rattle.std.proofs.lemmas.Bool.{eq-eqb, ne_eqb, eqb-true, eqb-false, ltb-false, both_ways, or_left, or_right, or_parts, false≢true}
+use Rattle.std.proofs.lemmas.Bool.{eq-eqb, ne_eqb, eqb-false, ltb-false, both_ways, or_left, or_right, or_parts, false≢true}
 use Rattle.std.proofs.lemmas.List.{reverse-append}
-use Rattle.std.proofs.lemmas.List.Sorted.{IsPermutation-reverse, list_any-IsPermutation}
 use Rattle.wf_words.specs.Keyed.{is_in}
 use Rattle.wf_words.specs.Once.{NoneTwice, by_number}
 use Rattle.wf_links.specs.Lists.{lowest, next_after}
+use Rattle.wf_links.specs.Together.{is_in-reverse}
 use Rattle.wf_scene.specs.Order as order
 use Rattle.wf_scene.specs.Order.{AreApart, without, with_next}
 use Rattle.wf_scene.proofs.Once.{first, none_first}
 
 module _ (f : ℕ → ℕ) where
-  in_numbers : (s : ℕ) (xs : List ℕ) → is_in s xs ≡ true → is_in (f s) (map f xs) ≡ true
+  pub in_numbers : (s : ℕ) (xs : List ℕ) → is_in s xs ≡ true → is_in (f s) (map f xs) ≡ true
   in_numbers s [] there = absurd (false≢true there)
   in_numbers s (x ∷ xs) there =
       by_number (((f x == f s) || is_in (f s) (map f xs)) ≡ true) x s
@@ -56,10 +55,10 @@ module _ (f : ℕ → ℕ) where
       absent true there = absurd (both_ways (is_in (f x) (map f xs)) apart.0 (in_numbers x xs there))
       absent false out = out
 
-  head : (s x : ℕ) (xs : List ℕ) → Tells (x ∷ xs) s → (f x == f s) ≡ (x == s)
+  pub head : (s x : ℕ) (xs : List ℕ) → Tells (x ∷ xs) s → (f x == f s) ≡ (x == s)
   head s x xs tell = tell x (or_left (x == x) (is_in x xs) (eq-eqb x x refl))
 
-  rest : (s x : ℕ) (xs : List ℕ) → Tells (x ∷ xs) s → Tells xs s
+  pub rest : (s x : ℕ) (xs : List ℕ) → Tells (x ∷ xs) s → Tells xs s
   rest s x xs tell y there = tell y (or_right (x == y) (is_in y xs) there)
 
   pub in_by_slot : (s : ℕ) (xs : List ℕ) → Tells xs s → is_in (f s) (map f xs) ≡ is_in s xs
@@ -88,7 +87,8 @@ module _ (f : ℕ → ℕ) where
   found_by_slot s [] tell = refl
   found_by_slot s (x ∷ xs) tell =
       let later = found_by_slot s xs (rest s x xs tell) in
-      rw (head s x xs tell) (by_number (cond (x == s) (Some x) (find (λ y. f y == f s) xs) ≡ cond ((x == s) || is_in s xs) (Some s) None) x s
+      rw (head s x xs tell)
+      (by_number (cond (x == s) (Some x) (find (λ y. f y == f s) xs) ≡ cond ((x == s) || is_in s xs) (Some s) None) x s
       (λ is same. rw is (ap (λ n. Some n) same))
       (λ other. rw other later))
 
@@ -101,14 +101,8 @@ module _ (f : ℕ → ℕ) where
 
   pub placed_by_slot : (s : ℕ) (xs : List ℕ) → Tells xs s → is_in s xs ≡ true
       → order.place_of (f s) (map f xs) ≡ Some (first (λ x. x == s) xs)
-  placed_by_slot s xs tell there = go (nat_lt (first p ys) (length ys)) refl
+  placed_by_slot s xs tell there = go (nat_lt (first (λ n. n == f s) (map f xs)) (length (map f xs))) refl
     where
-      p : ℕ → Bool
-      p n = n == f s
-
-      ys : List ℕ
-      ys = map f xs
-
       go : (b : Bool) → nat_lt (first (λ n. n == f s) (map f xs)) (length (map f xs)) ≡ b
           → cond b (Some (first (λ n. n == f s) (map f xs))) None ≡ Some (first (λ x. x == s) xs)
       go true less = ap (λ n. Some n) (first_by_slot s xs tell)
@@ -151,9 +145,6 @@ module _ (f : ℕ → ℕ) where
   next_none s [] out = let itself : (s == s) ≡ true = eq-eqb s s refl in rw itself refl
   next_none s (y ∷ ys) out = let parts = or_parts (y == s) (is_in s ys) out in rw parts.0 (next_none s ys parts.1)
 
-  in_reverse : (s : ℕ) (xs : List ℕ) → is_in s (reverse xs) ≡ is_in s xs
-  in_reverse s xs = sym (list_any-IsPermutation (λ x. x == s) xs (reverse xs) (IsPermutation-reverse xs))
-
   -- the number of the slot below, or what stands in front of all numbers
   under_number : (s under : ℕ) (xs : List ℕ) → NoneTwice xs → is_in s xs ≡ true
       → slice_index (under ∷ map f xs) (first (λ x. x == s) xs) ≡ option_map_or f (next_after s (reverse xs)) under
@@ -161,9 +152,9 @@ module _ (f : ℕ → ℕ) where
   under_number s under (x ∷ xs) once there =
       by_number (slice_index (under ∷ f x ∷ map f xs) (cond (not (x == s)) (1 + first (λ y. y == s) xs) 0)
       ≡ option_map_or f (next_after s (reverse (x ∷ xs))) under) x s
-      (λ is same. rw (is, reverse-append (x ∷ []) xs, same) (rw (next_none s (reverse xs) (in_reverse s xs ∙ (rw same at once.0))) refl))
+      (λ is same. rw (is, reverse-append (x ∷ []) xs, same) (rw (next_none s (reverse xs) (is_in-reverse s xs ∙ (rw same at once.0))) refl))
       (λ other. (let later = under_number s (f x) xs once.1 (rw other at there) in
-      let inside = in_reverse s xs ∙ (rw other at there) in
+      let inside = is_in-reverse s xs ∙ (rw other at there) in
       rw (other, one-add, reverse-append (x ∷ []) xs, next_more s x (reverse xs) inside) (later ∙ or_first (next_after s (reverse xs)))))
     where
       or_first : (o : Option ℕ) → option_map_or f o (f x) ≡ f (unwrap_or o x)

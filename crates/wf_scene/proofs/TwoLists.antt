@@ -1,37 +1,29 @@
 -- The two lists of links: a slot stands once in one of them at most, and is one of the 64.
-use Rattle.std.proofs.Common.{◌≡◌, ℕ, ◌<◌, Bool, true, false, ◌==◌, ◌||◌, List, [], ◌∷◌, ◌++◌, length, Some, IsSome, Option, refl, sym, ap}
-use Rattle.std.proofs.Common.{subst, ◌∙◌, slice_get, append-nil}
+use Rattle.std.proofs.Common.{◌≡◌, ℕ, ◌<◌, true, false, ◌==◌, List, [], ◌∷◌, ◌++◌, Some, IsSome, refl, sym, ap}
+use Rattle.std.proofs.Common.{reverse, subst, ◌∙◌, append-nil}
 use Rattle.std.specs.List.{AllByRecursion}
-use Rattle.std.proofs.lemmas.Bool.{eq-eqb, both_ways, or_parts, or_left, or_right, false_from_ne_true}
-use Rattle.std.proofs.lemmas.List.Folds.{list_any-append}
+use Rattle.std.proofs.lemmas.Bool.{eq-eqb, both_ways, or_left, or_right, false_from_ne_true}
 use Rattle.wf_words.specs.Found.{any_at}
 use Rattle.wf_words.specs.Keyed.{is_in}
 use Rattle.wf_words.specs.Once.{NoneTwice, by_number}
-use Rattle.wf_links.specs.Lists.{NodeLists, list_of, lowest, removed, without}
+use Rattle.wf_links.specs.Lists.{NodeLists, above, below, list_of, lowest, next_after, removed, without}
+use Rattle.wf_links.specs.Together.{apart_back, is_in-append, is_in-reverse, once_back, once_front}
 use Rattle.wf_scene.specs.Slots.{IsLinked, free_in, inserted_in, two_lists}
 use Rattle.wf_scene.proofs.Once.{none_out}
 
-is_in-append : (n : ℕ) (xs ys : List ℕ) → is_in n (xs ++ ys) ≡ (is_in n xs || is_in n ys)
-is_in-append n xs ys = list_any-append (λ x. x == n) xs ys
-
--- numbers that stand once in two lists together stand once in the first, and its numbers are not in the second
-
-once_front : (xs ys : List ℕ) → NoneTwice (xs ++ ys) → NoneTwice xs
-once_front [] ys once = tt
-once_front (x ∷ xs) ys once = ((or_parts (is_in x xs) (is_in x ys) (sym (is_in-append x xs ys) ∙ once.0)).0, once_front xs ys once.1)
-
-apart_back : (n : ℕ) (xs ys : List ℕ) → NoneTwice (xs ++ ys) → is_in n xs ≡ true → is_in n ys ≡ false
-apart_back n [] ys once there = absurd cc
-apart_back n (x ∷ xs) ys once there =
-    by_number (is_in n ys ≡ false) x n
-    (λ is same. rw same at ((or_parts (is_in x xs) (is_in x ys) (sym (is_in-append x xs ys) ∙ once.0)).1))
-    (λ apart. apart_back n xs ys once.1 (rw apart at there))
-
 -- what holds of all numbers holds of each
-each_in : (P : ℕ → Type 0) (n : ℕ) (xs : List ℕ) → AllByRecursion P xs → is_in n xs ≡ true → P n
+pub each_in : (P : ℕ → Type 0) (n : ℕ) (xs : List ℕ) → AllByRecursion P xs → is_in n xs ≡ true → P n
 each_in P n [] all there = absurd cc
 each_in P n (x ∷ xs) all there =
     by_number (P n) x n (λ is same. subst P same all.0) (λ apart. each_in P n xs all.1 (rw apart at there))
+
+-- what is next is in the list
+next_in : (s x : ℕ) (xs : List ℕ) → next_after s xs ≡ Some x → is_in x xs ≡ true
+next_in s x [] is = absurd cc
+next_in s x (y ∷ ys) is =
+    or_right (y == x) (is_in x ys) (by_number (is_in x ys ≡ true) y s
+    (λ here same. any_at (λ z. z == x) ys 0 x (rw here at is) (eq-eqb x x refl))
+    (λ other. next_in s x ys (rw other at is)))
 
 module _ (o : NodeLists) (linked : IsLinked o) where
   all_once : NoneTwice (inserted_in o ++ free_in o)
@@ -42,6 +34,9 @@ module _ (o : NodeLists) (linked : IsLinked o) where
 
   pub inserted_once : NoneTwice (inserted_in o)
   inserted_once = once_front (inserted_in o) (free_in o) all_once
+
+  pub free_once : NoneTwice (free_in o)
+  free_once = once_back (inserted_in o) (free_in o) all_once
 
   pub not_free : (s : ℕ) → is_in s (inserted_in o) ≡ true → is_in s (free_in o) ≡ false
   not_free s there = apart_back s (inserted_in o) (free_in o) all_once there
@@ -77,3 +72,25 @@ module _ (o : NodeLists) (linked : IsLinked o) where
 
   pub first_free : (s : ℕ) → lowest (free_in o) ≡ Some s → is_in s (free_in o) ≡ true
   first_free s is = any_at (λ x. x == s) (free_in o) 0 s is (eq-eqb s s refl)
+
+  -- an inserted slot is in a list, and has the next slots of the first one next to it
+
+  pub inserted_somewhere : (s : ℕ) → is_in s (inserted_in o) ≡ true → IsSome (list_of s o.lists)
+  inserted_somewhere s there = rw linked.two (rw there cc)
+
+  pub above_is : (s : ℕ) → is_in s (inserted_in o) ≡ true → above s o.lists ≡ next_after s (inserted_in o)
+  above_is s there = rw linked.two (rw there refl)
+
+  pub below_is : (s : ℕ) → is_in s (inserted_in o) ≡ true → below s o.lists ≡ next_after s (reverse (inserted_in o))
+  below_is s there = rw linked.two (rw there refl)
+
+  pub above_within : (s x : ℕ) → is_in s (inserted_in o) ≡ true → above s o.lists ≡ Some x → x < 64
+  above_within s x there is =
+      inserted_within x (next_in s x (inserted_in o) (sym (above_is s there) ∙ is))
+
+  pub below_within : (s x : ℕ) → is_in s (inserted_in o) ≡ true → below s o.lists ≡ Some x → x < 64
+  below_within s x there is =
+      inserted_within x (sym (is_in-reverse x (inserted_in o)) ∙ next_in s x (reverse (inserted_in o)) (sym (below_is s there) ∙ is))
+
+-- what a free slot is, and what the lists are without it
+pub ruleset free_slots = (first_free, free_somewhere, free_within, without_free)

@@ -63,16 +63,19 @@ elements_in s = all_held s.table.items s.used.items
 abbrev pub order_in : Slots → List ℕ
 order_in s = handles_held s.table.items (inserted_in s.links)
 
--- a slot is used by an element, or it is free: each used one once, no two for one handle, and only used ones are inserted
-pub record IsKept (s : Slots) : Type 0 where
-  pub linked : IsLinked s.links
-  pub slots : length s.table.items ≡ 64
-  pub within : AllByRecursion (λ slot. slot < 64) s.used.items
-  pub apart : AreApart (handles (elements_in s))
-  pub live : (slot : ℕ) → is_in slot (inserted_in s.links) ≡ true → is_in slot s.used.items ≡ true
-  pub free : (slot : ℕ) → is_in slot (free_in s.links) ≡ true → is_in slot s.used.items ≡ false
-  pub all : length s.used.items + length (free_in s.links) ≡ 64
-  pub counted : s.inserted ≡ length (inserted_in s.links)
+-- each slot is used or free: a used one holds an element of its own, and only used ones are inserted, so many as are counted
+pub record IsKeptBy (table : List Element) (used : List ℕ) (o : NodeLists) (count : ℕ) : Type 0 where
+  pub linked : IsLinked o
+  pub slots : length table ≡ 64
+  pub within : AllByRecursion (λ slot. slot < 64) used
+  pub apart : AreApart (handles (all_held table used))
+  pub live : (slot : ℕ) → is_in slot (inserted_in o) ≡ true → is_in slot used ≡ true
+  pub free : (slot : ℕ) → is_in slot (free_in o) ≡ true → is_in slot used ≡ false
+  pub all : length used + length (free_in o) ≡ 64
+  pub counted : count ≡ length (inserted_in o)
+
+abbrev pub IsKept : Slots → Type 0
+IsKept s = IsKeptBy s.table.items s.used.items s.links s.inserted
 
 -- slots of which none is used
 pub record IsEmpty (s : Slots) : Type 0 where

@@ -8,7 +8,6 @@ mod element;
 mod laws;
 mod linked;
 mod look;
-mod order;
 mod slots;
 mod style;
 #[cfg(test)]

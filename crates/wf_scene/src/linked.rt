@@ -24,8 +24,8 @@ pub(crate) fn all_free(alloc: Global) -> Result<Links, NoMemory>
     ensures { IfOk result IsAllFree }
 {
     let mut links = Links::new(alloc, SLOTS, 2)?;
-    for slot in 0..SLOTS {
-        links.insert_above(FREE, slot, None);
+    for free in 0..SLOTS {
+        links.insert_above(FREE, free, None);
     }
     Ok(links)
 }
@@ -42,7 +42,8 @@ pub(crate) fn is_inserted(links: &Links, slot: u32) -> bool
     }
 }
 
-/// Takes a used slot out of the order, where it is in it.
+/// Takes the slot of an inserted element out of the order.
+#[tactic(auto, using(crate::proofs::TwoLists::without_inserted))]
 pub(crate) fn take_out(links: &mut Links, slot: u32)
     requires linked { IsLinked links.old }
     requires slot { is_in slot (inserted_in links.old) ≡ true }
@@ -66,6 +67,7 @@ pub(crate) fn put_in(links: &mut Links, slot: u32, base: Option<u32>)
 }
 
 /// Takes a free slot, to be used. There is one.
+#[tactic(auto, using(crate::proofs::TwoLists::free_slots))]
 pub(crate) fn take_free(links: &mut Links) -> u32
     requires linked { IsLinked links.old }
     requires some { 0 < length (free_in links.old) }
@@ -74,11 +76,11 @@ pub(crate) fn take_free(links: &mut Links) -> u32
     ensures left { links.new ≡ two_lists (inserted_in links.old) (without result (free_in links.old)) }
     ensures linked { IsLinked links.new }
 {
-    let Some(slot) = links.lowest(FREE) else {
+    let Some(free) = links.lowest(FREE) else {
         unreachable!()
     };
-    links.remove(slot);
-    slot
+    links.remove(free);
+    free
 }
 
 /// Gives back a slot that is used no more.

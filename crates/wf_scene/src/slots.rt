@@ -7,7 +7,7 @@ ghost use Rattle.wf_links.specs.Lists as lists;
 ghost use Rattle.wf_scene.specs.Order as orders;
 ghost use Rattle.wf_scene.specs.Cached as cached;
 ghost use Rattle.wf_scene.specs.Elements.{new_element};
-ghost use Rattle.wf_scene.specs.Slots.{IsEmpty, IsKept, elements_in, free_in, handle_held, handle_or_none, inserted_in, order_in, slot_of, two_lists};
+ghost use Rattle.wf_scene.specs.Slots.{IsEmpty, IsKept, elements_in, free_in, handle_or_none, inserted_in, order_in, slot_of, two_lists};
 
 use crate::element::Element;
 use crate::linked::{self, INSERTED, SLOTS};
@@ -24,9 +24,9 @@ const MOST_INSERTED: u32 = 32;
 #[derive(Drop)]
 pub(crate) struct Slots {
     pub(crate) table: Vec<Element>,
-    pub(crate) used: ArrayVec<u32, 64>,
+    used: ArrayVec<u32, 64>,
     pub(crate) links: Links,
-    pub(crate) inserted: u32,
+    inserted: u32,
 }
 
 impl Slots {
@@ -44,8 +44,16 @@ impl Slots {
         })
     }
 
-    /// The slot of a live element.
-    pub(crate) fn slot_of(&self, handle: u32) -> Option<u32>
+    /// How many elements live here.
+    pub(crate) fn count(&self) -> u32
+        requires { IsKept self.now }
+        ensures { result ≡ length (elements_in self.now) }
+    {
+        self.used.len() as u32
+    }
+
+    /// The slot of an element, if it lives here.
+    fn slot_of(&self, handle: u32) -> Option<u32>
         requires { IsKept self.now }
         ensures { result ≡ slot_of self.now.table.items handle self.now.used.items }
     {
@@ -57,11 +65,12 @@ impl Slots {
         None
     }
 
-    /// The slot of an element that lives here.
+    /// The slot of a live element.
     pub(crate) fn live_slot(&self, handle: u32) -> u32
         requires kept { IsKept self.now }
         requires live { IsTrue (cached.is_live handle (elements_in self.now)) }
         ensures slot { slot_of self.now.table.items handle self.now.used.items ≡ Some result }
+        ensures used { is_in result self.now.used.items ≡ true }
         ensures within { result < length self.now.table.items }
     {
         match self.slot_of(handle) {
@@ -231,7 +240,7 @@ impl Slots {
         }
     }
 
-    /// Takes a used slot out of the order, where it is in it.
+    /// Takes a used slot out of the order, where its element is inserted.
     fn take_out(&mut self, slot: u32)
         requires kept { IsKept self.old }
         requires used { is_in slot self.old.used.items ≡ true }
