@@ -9,5 +9,7 @@ pub mod Placed
 pub mod TwoLists
 pub mod BySlot
 pub mod Held
-pub mod Keeps
+pub mod OneMore
+pub mod UsedSlots
+pub mod StayKept
 pub mod Walked

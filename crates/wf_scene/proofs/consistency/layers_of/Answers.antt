@@ -4,7 +4,7 @@ use Rattle.std.proofs.lemmas.Option.{slice_get_within}
 use Rattle.wf_scene.specs.Elements.{new_element}
 use Rattle.wf_scene.specs.Slots.{all_held, handle_held, inserted_in}
 use Rattle.wf_scene.proofs.TwoLists.{above_is, inserted_once, inserted_somewhere}
-use Rattle.wf_scene.proofs.Keeps.{inserted_held}
+use Rattle.wf_scene.proofs.UsedSlots.{inserted_held}
 use Rattle.wf_scene.proofs.Walked.{found_all, found_fault, found_more, is_at, next_at, past_all}
 use Rattle.wf_scene.proofs.consistency.layers_of.Goals as goal
 

@@ -5,7 +5,7 @@ use Rattle.wf_scene.specs.Slots.{held, inserted_in}
 use Rattle.wf_scene.specs.Inside.{scene_inside}
 use Rattle.wf_scene.specs.Keeping.{keeps_handle, keeps_place}
 use Rattle.wf_scene.proofs.Handled.{orderly_changed}
-use Rattle.wf_scene.proofs.Keeps.{IsWrittenBack, kept_changed, written_back}
+use Rattle.wf_scene.proofs.StayKept.{IsWrittenBack, kept_changed, written_back}
 use Rattle.wf_scene.proofs.cached.Cached.set.Goals as goal
 
 -- the element after the value was set

@@ -3,7 +3,7 @@ use Rattle.std.specs.Prelude.{option_map}
 use Rattle.wf_scene.specs.Order as order
 use Rattle.wf_scene.specs.Slots.{handle_or_none, inserted_in, order_in}
 use Rattle.wf_scene.proofs.Held.{found_slot}
-use Rattle.wf_scene.proofs.Keeps.{order_above, order_nowhere}
+use Rattle.wf_scene.proofs.UsedSlots.{order_above, order_nowhere}
 use Rattle.wf_scene.proofs.TwoLists.{above_within, inserted_somewhere}
 use Rattle.wf_scene.proofs.slots.Slots.above.Goals as goal
 

@@ -4,7 +4,7 @@ use Rattle.wf_scene.specs.Elements.{new_element}
 use Rattle.wf_scene.specs.Cached.{handles}
 use Rattle.wf_scene.specs.Slots.{handles_held, inserted_in}
 use Rattle.wf_scene.proofs.Held.{handles_all, held_more, live_found, named_found, others_held}
-use Rattle.wf_scene.proofs.Keeps.{kept_added}
+use Rattle.wf_scene.proofs.StayKept.{kept_added}
 use Rattle.wf_scene.proofs.TwoLists.{not_inserted}
 use Rattle.wf_scene.proofs.slots.Slots.add.Goals as goal
 

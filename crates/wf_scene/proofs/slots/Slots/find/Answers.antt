@@ -4,7 +4,7 @@ use Rattle.std.proofs.lemmas.List.{get_or_read}
 use Rattle.wf_scene.specs.Elements.{new_element}
 use Rattle.wf_scene.specs.Slots.{held}
 use Rattle.wf_scene.proofs.Held.{element_found, found_slot}
-use Rattle.wf_scene.proofs.Keeps.{used_within}
+use Rattle.wf_scene.proofs.UsedSlots.{used_within}
 use Rattle.wf_scene.proofs.slots.Slots.find.Goals as goal
 
 pub returns-in_err-slot : goal.returns-in_err-slot

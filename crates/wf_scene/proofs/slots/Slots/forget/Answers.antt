@@ -3,7 +3,8 @@ use Rattle.wf_words.specs.Keyed.{is_in}
 use Rattle.wf_scene.specs.Slots.{inserted_in}
 use Rattle.wf_scene.proofs.Kept.{absent_out}
 use Rattle.wf_scene.proofs.Held.{found_slot, held_without}
-use Rattle.wf_scene.proofs.Keeps.{kept_dropped, not_free_used, order_without, tells_used, used_apart}
+use Rattle.wf_scene.proofs.StayKept.{kept_dropped}
+use Rattle.wf_scene.proofs.UsedSlots.{not_free_used, order_without, tells_used, used_apart}
 use Rattle.wf_scene.proofs.slots.Slots.forget.Goals as goal
 
 pub give_back-requires-clause-out : goal.give_back-requires-clause-out

@@ -3,7 +3,7 @@ use Rattle.std.proofs.lemmas.List.{length-map}
 use Rattle.wf_links.specs.Lists.{without}
 use Rattle.wf_scene.specs.Slots.{handle_held, inserted_in}
 use Rattle.wf_scene.proofs.Kept.{absent_out}
-use Rattle.wf_scene.proofs.Keeps.{base_stays, order_inserted, order_without}
+use Rattle.wf_scene.proofs.UsedSlots.{base_stays, order_inserted, order_without}
 use Rattle.wf_scene.proofs.slots.Slots.insert.Goals as goal
 
 pub put_in-requires-clause-out : goal.put_in-requires-clause-out

@@ -1,6 +1,6 @@
 use Rattle.std.proofs.Common.{◌∙◌, sym}
 use Rattle.wf_scene.proofs.Held.{found_slot}
-use Rattle.wf_scene.proofs.Keeps.{found_inserted, none_inserted, used_within}
+use Rattle.wf_scene.proofs.UsedSlots.{found_inserted, none_inserted, used_within}
 use Rattle.wf_scene.proofs.slots.Slots.inserted_slot.Goals as goal
 
 pub returns-in_err-slot : goal.returns-in_err-slot

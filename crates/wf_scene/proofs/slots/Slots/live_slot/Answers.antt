@@ -1,7 +1,7 @@
 use Rattle.std.proofs.Common.{◌∙◌, ap, sym, arith, is_some}
 use Rattle.std.proofs.lemmas.Bool.{false≢true}
 use Rattle.wf_scene.proofs.Held.{found_slot, live_found}
-use Rattle.wf_scene.proofs.Keeps.{used_within}
+use Rattle.wf_scene.proofs.UsedSlots.{used_within}
 use Rattle.wf_scene.proofs.slots.Slots.live_slot.Goals as goal
 
 pub unreachable-requires : goal.unreachable-requires

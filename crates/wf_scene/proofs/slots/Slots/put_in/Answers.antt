@@ -3,7 +3,9 @@ use Rattle.wf_words.specs.Keyed.{is_in}
 use Rattle.wf_words.specs.Once.{by_number}
 use Rattle.wf_links.specs.Lists.{put_above}
 use Rattle.wf_scene.specs.Slots.{inserted_in}
-use Rattle.wf_scene.proofs.Keeps.{kept_linked, one_more, put_is_in, used_within}
+use Rattle.wf_scene.proofs.StayKept.{kept_linked}
+use Rattle.wf_scene.proofs.OneMore.{one_more, put_is_in}
+use Rattle.wf_scene.proofs.UsedSlots.{used_within}
 use Rattle.wf_scene.proofs.TwoLists.{inserted_once}
 use Rattle.wf_scene.proofs.slots.Slots.put_in.Goals as goal
 

@@ -1,4 +1,4 @@
-use Rattle.wf_scene.proofs.Keeps.{order_without}
+use Rattle.wf_scene.proofs.UsedSlots.{order_without}
 use Rattle.wf_scene.proofs.slots.Slots.remove.Goals as goal
 
 pub returns-clause-order : goal.returns-clause-order

@@ -3,7 +3,9 @@ use Rattle.wf_links.specs.Lists.{NodeLists, without}
 use Rattle.wf_scene.specs.declared.slots.Slots.{Slots}
 use Rattle.wf_scene.specs.Slots.{free_in, inserted_in, two_lists}
 use Rattle.wf_scene.proofs.Once.{none_out}
-use Rattle.wf_scene.proofs.Keeps.{in_less_is_in, kept_linked, one_less, used_within}
+use Rattle.wf_scene.proofs.OneMore.{in_less_is_in, one_less}
+use Rattle.wf_scene.proofs.StayKept.{kept_linked}
+use Rattle.wf_scene.proofs.UsedSlots.{used_within}
 use Rattle.wf_scene.proofs.TwoLists.{inserted_once}
 use Rattle.wf_scene.proofs.slots.Slots.take_out.Goals as goal
 
