@@ -8,7 +8,8 @@ use Rattle.wf_words.specs.Once.{NoneTwice, by_number}
 use Rattle.wf_words.specs.Places.{get_set, within as in_range}
 use Rattle.wf_links.specs.declared.links.Node.{Node}
 use Rattle.wf_links.specs.Inside.{IsChain, first_or, list_link, free, with_above, with_below}
-use Rattle.wf_links.proofs.Members.{once_front, once_back, apart_back, apart_front}
+use Rattle.wf_links.specs.Together.{once_front, once_back, apart_back}
+use Rattle.wf_links.proofs.Members.{apart_front}
 
 -- the last node, or else what stands below the list
 abbrev pub last_or : Option ℕ → List ℕ → Option ℕ

@@ -10,7 +10,8 @@ use Rattle.wf_words.specs.Once.{NoneTwice}
 use Rattle.wf_links.specs.declared.links.Node.{Node}
 use Rattle.wf_links.specs.Lists.{list_at, list_of, lowest, put_above, inserted}
 use Rattle.wf_links.specs.Inside.{IsChain, Represent, first_or, free, next_up, with_lowest}
-use Rattle.wf_links.proofs.Members.{is_in-append, once_inserted}
+use Rattle.wf_links.specs.Together.{is_in-append}
+use Rattle.wf_links.proofs.Members.{once_inserted}
 use Rattle.wf_links.proofs.Numbered.{in_no_list, in_list_of}
 use Rattle.wf_links.proofs.Neighbours.{lowest_is}
 use Rattle.wf_links.proofs.Chains.{chain_front, chain_back, chain_joined, last_or, highest_in, lowest_in, relinked, relinked_here}

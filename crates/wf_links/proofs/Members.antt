@@ -1,14 +1,11 @@
 -- Members of a list: a list split at one of them, numbers that stand once, and how long a list of such numbers is.
-use Rattle.std.proofs.Common.{◌≡◌, ℕ, zero, suc, ◌<◌, ◌≤◌, true, false, not, cond, ◌==◌, ◌||◌, List, [], ◌∷◌, ◌++◌, length}
+use Rattle.std.proofs.Common.{◌≡◌, ℕ, zero, suc, ◌<◌, ◌≤◌, true, false, not, cond, ◌==◌, List, [], ◌∷◌, ◌++◌, length}
 use Rattle.std.proofs.Common.{◌≢◌, refl, sym, ap, ◌∙◌, ne_eqb, arith}
 use Rattle.std.proofs.lemmas.Bool.{eq-eqb, eqb-false, both_ways, or_from, or_parts, or_left, or_right, false_from_ne_true}
-use Rattle.std.proofs.lemmas.List.Folds.{list_any-append}
 use Rattle.wf_words.specs.Keyed.{is_in}
 use Rattle.wf_words.specs.Once.{NoneTwice, by_number, is_in-without, none_without, without_itself}
 use Rattle.wf_links.specs.Lists.{without}
-
-pub is_in-append : (n : ℕ) (xs ys : List ℕ) → is_in n (xs ++ ys) ≡ (is_in n xs || is_in n ys)
-is_in-append n xs ys = list_any-append (λ x. x == n) xs ys
+use Rattle.wf_links.specs.Together.{is_in-append, apart_back}
 
 -- a list in front of one of its members and behind it
 pub split_at : (n : ℕ) (xs : List ℕ) → is_in n xs ≡ true → (ys : List ℕ) × (zs : List ℕ) × (xs ≡ ys ++ n ∷ zs)
@@ -18,23 +15,7 @@ split_at n (x ∷ xs) there =
     (λ is same. ([], xs, ap (λ m. m ∷ xs) same))
     (λ apart. let later = split_at n xs (rw apart at there) in (x ∷ later.0, later.1, ap (λ ns. x ∷ ns) later.2))
 
--- where each stands once in two lists together, no member of the one is in the other
-
-pub once_front : (xs ys : List ℕ) → NoneTwice (xs ++ ys) → NoneTwice xs
-once_front [] ys once = tt
-once_front (x ∷ xs) ys once = ((or_parts (is_in x xs) (is_in x ys) (sym (is_in-append x xs ys) ∙ once.0)).0, once_front xs ys once.1)
-
-pub once_back : (xs ys : List ℕ) → NoneTwice (xs ++ ys) → NoneTwice ys
-once_back [] ys once = once
-once_back (x ∷ xs) ys once = once_back xs ys once.1
-
-pub apart_back : (n : ℕ) (xs ys : List ℕ) → NoneTwice (xs ++ ys) → is_in n xs ≡ true → is_in n ys ≡ false
-apart_back n [] ys once there = absurd cc
-apart_back n (x ∷ xs) ys once there =
-    by_number (is_in n ys ≡ false) x n
-    (λ is same. rw same at ((or_parts (is_in x xs) (is_in x ys) (sym (is_in-append x xs ys) ∙ once.0)).1))
-    (λ apart. apart_back n xs ys once.1 (rw apart at there))
-
+-- and no member of the second is in the first
 pub apart_front : (n : ℕ) (xs ys : List ℕ) → NoneTwice (xs ++ ys) → is_in n ys ≡ true → is_in n xs ≡ false
 apart_front n xs ys once there = false_from_ne_true (is_in n xs) (λ front. both_ways (is_in n ys) (apart_back n xs ys once front) there)
 

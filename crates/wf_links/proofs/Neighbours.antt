@@ -1,11 +1,11 @@
 -- What stands next to a node, in a list and in the same list from the top down.
-use Rattle.std.proofs.Common.{◌≡◌, ℕ, true, false, ◌==◌, List, [], ◌∷◌, ◌++◌, reverse, Option, Some, None, refl, sym, ap, ◌∙◌}
+use Rattle.std.proofs.Common.{◌≡◌, ℕ, true, false, ◌==◌, List, [], ◌∷◌, ◌++◌, reverse, Option, Some, None, refl, ap, ◌∙◌}
 use Rattle.std.proofs.lemmas.Bool.{eq-eqb, or_parts}
 use Rattle.std.proofs.lemmas.List.{append_assoc, reverse-append}
-use Rattle.std.proofs.lemmas.List.Sorted.{IsPermutation-reverse, list_any-IsPermutation}
 use Rattle.wf_words.specs.Keyed.{is_in}
 use Rattle.wf_links.specs.Lists.{lowest, next_after}
 use Rattle.wf_links.specs.Inside.{first_or}
+use Rattle.wf_links.specs.Together.{is_in-reverse}
 use Rattle.wf_links.proofs.Chains.{last_or}
 
 pub lowest_is : (xs : List ℕ) → lowest xs ≡ first_or None xs
@@ -26,9 +26,6 @@ pub first_or-reverse : (under : Option ℕ) (xs : List ℕ) → first_or under (
 first_or-reverse under [] = refl
 first_or-reverse under (x ∷ xs) =
     ap (first_or under) (reverse-append (x ∷ []) xs) ∙ first_or-append under (reverse xs) x [] ∙ first_or-reverse (Some x) xs
-
-pub is_in-reverse : (n : ℕ) (xs : List ℕ) → is_in n (reverse xs) ≡ is_in n xs
-is_in-reverse n xs = sym (list_any-IsPermutation (λ x. x == n) xs (reverse xs) (IsPermutation-reverse xs))
 
 pub next_at : (n : ℕ) (ys zs : List ℕ) → is_in n ys ≡ false → next_after n (ys ++ n ∷ zs) ≡ first_or None zs
 next_at n [] zs absent = let here : (n == n) ≡ true = eq-eqb n n refl in rw here (lowest_is zs)

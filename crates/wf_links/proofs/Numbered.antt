@@ -8,7 +8,8 @@ use Rattle.std.proofs.lemmas.List.Quantifiers.{position-Some}
 use Rattle.wf_words.specs.Keyed.{is_in}
 use Rattle.wf_words.specs.Once.{NoneTwice}
 use Rattle.wf_links.specs.Lists.{list_at, list_of}
-use Rattle.wf_links.proofs.Members.{is_in-append, once_joined}
+use Rattle.wf_links.specs.Together.{is_in-append}
+use Rattle.wf_links.proofs.Members.{once_joined}
 
 -- the place of what passes a test in a longer list
 pub position_more : {A : Type 0} (p : A → Bool) (x : A) (xs : List A)

@@ -10,9 +10,11 @@ use Rattle.wf_words.specs.Keyed.{is_in}
 use Rattle.wf_words.specs.Once.{NoneTwice, by_number}
 use Rattle.wf_words.specs.Options.{◌>>=◌}
 use Rattle.wf_links.specs.Lists.{list_at, list_of, lowest, next_after, above, below, put_above, inserted, without, removed}
-use Rattle.wf_links.proofs.Members.{is_in-append, split_at, once_front, once_back, once_joined, apart_back, apart_front}
+use Rattle.wf_links.specs.Together.{is_in-append, once_front, once_back, apart_back}
+use Rattle.wf_links.proofs.Members.{split_at, once_joined, apart_front}
 use Rattle.wf_links.proofs.Numbered.{list_of_is, in_list_of, in_no_list, in_all}
-use Rattle.wf_links.proofs.Neighbours.{next_down_at, is_in-reverse}
+use Rattle.wf_links.specs.Together.{is_in-reverse}
+use Rattle.wf_links.proofs.Neighbours.{next_down_at}
 use Rattle.wf_links.proofs.Changes.{last_or-append}
 use Rattle.wf_links.proofs.Inserted.{IsPlace, at_bottom, above_node}
 use Rattle.wf_links.proofs.Removed.{one_removed, without_at}

@@ -9,7 +9,8 @@ use Rattle.wf_words.specs.Once.{NoneTwice, none_without}
 use Rattle.wf_links.specs.declared.links.Node.{Node}
 use Rattle.wf_links.specs.Lists.{list_at, list_of, lowest, without, removed}
 use Rattle.wf_links.specs.Inside.{IsChain, Represent, first_or, free, with_lowest}
-use Rattle.wf_links.proofs.Members.{is_in-append, without_absent}
+use Rattle.wf_links.specs.Together.{is_in-append}
+use Rattle.wf_links.proofs.Members.{without_absent}
 use Rattle.wf_links.proofs.Numbered.{in_list_of, list_of_within}
 use Rattle.wf_links.proofs.Chains.{chain_front, chain_back, chain_joined, last_or, highest_in, lowest_in, relinked, relinked_here}
 use Rattle.wf_links.proofs.Chains.{front_kept, back_kept}

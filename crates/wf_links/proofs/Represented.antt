@@ -11,7 +11,8 @@ use Rattle.wf_words.specs.Places.{get_within}
 use Rattle.wf_links.specs.declared.links.Node.{Node}
 use Rattle.wf_links.specs.Lists.{IsOrderly, list_at, list_of, lowest, above, below}
 use Rattle.wf_links.specs.Inside.{IsChain, Represent, first_or, list_link, above_link, upward}
-use Rattle.wf_links.proofs.Members.{split_at, apart_front, once_back, few_below}
+use Rattle.wf_links.specs.Together.{once_back}
+use Rattle.wf_links.proofs.Members.{split_at, apart_front, few_below}
 use Rattle.wf_links.proofs.Numbered.{list_of_is, list_of_none, list_of_within, in_list_of, in_some, all_once, all_from_in}
 use Rattle.wf_links.proofs.Neighbours.{lowest_is, next_at, next_down_at}
 use Rattle.wf_links.proofs.Chains.{chain_back, chain_link, last_or}

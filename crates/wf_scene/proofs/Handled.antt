@@ -34,15 +34,15 @@ handles_changed h f (e ∷ es) keeps =
 
 -- one more handle
 
-in_more : (z h : ℕ) (xs : List ℕ) → is_in z xs ≡ true → is_in z (xs ++ h ∷ []) ≡ true
+pub in_more : (z h : ℕ) (xs : List ℕ) → is_in z xs ≡ true → is_in z (xs ++ h ∷ []) ≡ true
 in_more z h [] there = cc
 in_more z h (x ∷ xs) there = let later = in_more z h xs in grind (arith, nat_tests, later, there)
 
-absent_more : (z h : ℕ) (xs : List ℕ) → is_in z xs ≡ false → (h == z) ≡ false → is_in z (xs ++ h ∷ []) ≡ false
+pub absent_more : (z h : ℕ) (xs : List ℕ) → is_in z xs ≡ false → (h == z) ≡ false → is_in z (xs ++ h ∷ []) ≡ false
 absent_more z h [] absent other = grind (arith, nat_tests, other)
 absent_more z h (x ∷ xs) absent other = let later = absent_more z h xs in grind (arith, nat_tests, later, absent, other)
 
-apart_more : (h : ℕ) (xs : List ℕ) → AreApart xs → is_in h xs ≡ false → AreApart (xs ++ h ∷ [])
+pub apart_more : (h : ℕ) (xs : List ℕ) → AreApart xs → is_in h xs ≡ false → AreApart (xs ++ h ∷ [])
 apart_more h [] apart absent = (refl, tt)
 apart_more h (x ∷ xs) apart absent =
     let parts = or_parts (x == h) (is_in h xs) absent in

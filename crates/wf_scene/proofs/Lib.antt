@@ -2,8 +2,14 @@ pub mod Once
 pub mod Orders
 pub mod Kept
 pub mod Handled
-pub mod Changes
 pub mod Standing
 pub mod Answered
 pub mod Rules
 pub mod Placed
+pub mod TwoLists
+pub mod BySlot
+pub mod Held
+pub mod OneMore
+pub mod UsedSlots
+pub mod StayKept
+pub mod Walked

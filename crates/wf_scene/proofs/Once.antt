@@ -1,11 +1,11 @@
--- Lists in which one element at most passes a test: that element taken out, changed, or followed by another.
-use Rattle.std.proofs.Common.{◌≡◌, ℕ, ◌+◌, ◌<◌, ◌≤◌, Bool, true, false, not, cond, ◌==◌, ◌||◌, List, [], ◌∷◌, map, length, set, get_or}
+-- Lists in which one element at most passes a test: that element taken out, and where it stands.
+use Rattle.std.proofs.Common.{◌≡◌, ℕ, ◌<◌, ◌≤◌, Bool, true, false, not, cond, ◌==◌, ◌||◌, List, [], ◌∷◌, map, length}
 use Rattle.std.proofs.Common.{refl, sym, ap, ◌∙◌, arith, Some, None}
-use Rattle.std.specs.Prelude.{insert, remove, filter, flat_map, position, nat_lt}
+use Rattle.std.specs.Prelude.{remove, filter, flat_map, position, nat_lt}
 use Rattle.std.specs.Bool.{MatchBool}
 use Rattle.std.specs.List.{list_any, position_or_len}
-use Rattle.std.proofs.Math.Numerals.{one-add, add-one}
-use Rattle.std.proofs.lemmas.Bool.{eqb-true, ltb-true, ltb-false}
+use Rattle.std.proofs.Math.Numerals.{one-add}
+use Rattle.std.proofs.lemmas.Bool.{eqb-true, le-ltb, ltb-true, ltb-false, or_parts}
 use Rattle.wf_words.specs.Keyed.{is_in}
 use Rattle.wf_scene.specs.Order.{AreApart}
 
@@ -33,11 +33,6 @@ module _ {X : Type 0} (p : X → Bool) where
   none_out [] none = refl
   none_out (x ∷ xs) none = let later = none_out xs in grind (arith, later, none)
 
-  -- nor changed
-  pub none_changed : (f : X → X) (xs : List X) → list_any p xs ≡ false → map (λ x. cond (p x) (f x) x) xs ≡ xs
-  none_changed f [] none = refl
-  none_changed f (x ∷ xs) none = let later = none_changed f xs in grind (arith, later, none)
-
   -- nor followed by another
   pub none_followed : (y : X) (xs : List X) → list_any p xs ≡ false → flat_map (λ x. cond (p x) (x ∷ y ∷ []) (x ∷ [])) xs ≡ xs
   none_followed y [] none = refl
@@ -60,33 +55,6 @@ module _ {X : Type 0} (p : X → Bool) where
           let within : first xs < length xs = let all = rw e at there in omega (arith, all) in
           rw (e, one-add) (ap (λ zs. x ∷ zs) (later (rw e at once) within))
 
-  -- the list with the one that passes changed
-  pub first_changed : (f : X → X) (xs : List X) (d : X) → OnceAtMost xs → first xs < length xs
-      → set xs (first xs) (f (get_or xs (first xs) d)) ≡ map (λ x. cond (p x) (f x) x) xs
-  first_changed f [] d once there = absurd (omega arith)
-  first_changed f (x ∷ xs) d once there = go (first_changed f xs d) (p x) refl
-    where
-      go : (OnceAtMost xs → first xs < length xs → set xs (first xs) (f (get_or xs (first xs) d)) ≡ map (λ z. cond (p z) (f z) z) xs)
-          → (b : Bool) → p x ≡ b → set (x ∷ xs) (first (x ∷ xs)) (f (get_or (x ∷ xs) (first (x ∷ xs)) d))
-          ≡ map (λ z. cond (p z) (f z) z) (x ∷ xs)
-      go later true e = rw e (ap (λ zs. f x ∷ zs) (sym (none_changed f xs (rw e at once))))
-      go later false e =
-          let within : first xs < length xs = let all = rw e at there in omega (arith, all) in
-          rw (e, one-add) (ap (λ zs. x ∷ zs) (later (rw e at once) within))
-
-  -- the list with another element directly after the one that passes
-  pub first_followed : (y : X) (xs : List X) → OnceAtMost xs → first xs < length xs
-      → insert xs (first xs + 1) y ≡ flat_map (λ x. cond (p x) (x ∷ y ∷ []) (x ∷ [])) xs
-  first_followed y [] once there = absurd (omega arith)
-  first_followed y (x ∷ xs) once there = go (first_followed y xs) (p x) refl
-    where
-      go : (OnceAtMost xs → first xs < length xs → insert xs (first xs + 1) y ≡ flat_map (λ z. cond (p z) (z ∷ y ∷ []) (z ∷ [])) xs)
-          → (b : Bool) → p x ≡ b → insert (x ∷ xs) (first (x ∷ xs) + 1) y ≡ flat_map (λ z. cond (p z) (z ∷ y ∷ []) (z ∷ [])) (x ∷ xs)
-      go later true e = rw e (ap (λ zs. x ∷ y ∷ zs) (sym (none_followed y xs (rw e at once))))
-      go later false e =
-          let within : first xs < length xs = let all = rw e at there in omega (arith, all) in
-          rw (e, one-add, add-one) (ap (λ zs. x ∷ zs) (rw add-one at (later (rw e at once) within)))
-
   -- the place of the first that passes, where one does
   pub placed : (xs : List X) (i : ℕ) → position p xs ≡ Some i → (first xs ≡ i) × (i < length xs)
   placed xs i e =
@@ -98,6 +66,18 @@ module _ {X : Type 0} (p : X → Bool) where
   pub placed_nowhere : (xs : List X) → position p xs ≡ None → list_any p xs ≡ false
   placed_nowhere xs e =
       none_first xs (ltb-false (first xs) (length xs) (told_none (nat_lt (first xs) (length xs)) (first xs) e))
+
+  -- where none passes, there is no place
+  pub nowhere : (xs : List X) → list_any p xs ≡ false → position p xs ≡ None
+  nowhere xs none =
+      let past : nat_lt (first xs) (length xs) ≡ false = le-ltb (first xs) (length xs) (omega (arith, at_end xs none)) in
+      rw past refl
+    where
+      at_end : (ys : List X) → list_any p ys ≡ false → first ys ≡ length ys
+      at_end [] out = refl
+      at_end (y ∷ ys) out =
+          let parts = or_parts (p y) (list_any p ys) out in
+          rw (parts.0, at_end ys parts.1, one-add) refl
 
 module _ {X : Type 0} (key : X → ℕ) (n : ℕ) where
   -- a number is among the keys where an element has it

@@ -1,8 +1,7 @@
 -- How a cached scene is kept.
-use Rattle.std.specs.Prelude.{◌≡◌}
-use Rattle.std.specs.Vec.{vec_capacity}
 use Rattle.wf_scene.specs.declared.cached.Cached.TheInside.{Inside}
 use Rattle.wf_scene.specs.Cached.{CachedScene, IsOrderly}
+use Rattle.wf_scene.specs.Slots.{IsKept, elements_in, order_in}
 
 -- what the fields stand for
 abbrev pub scene_inside : Inside → CachedScene
@@ -12,11 +11,11 @@ scene_inside c =
       on_screen = c.on_screen;
       turn = c.turn;
       background = c.background;
-      elements = c.elements.items;
-      order = c.order.items;
+      elements = elements_in c.slots;
+      order = order_in c.slots;
     }
 
 -- what holds of the fields of every cached scene
 pub record IsSound (c : Inside) : Type 0 where
   pub orderly : IsOrderly (scene_inside c)
-  pub room : vec_capacity c.elements ≡ 64
+  pub kept : IsKept c.slots

@@ -3,6 +3,7 @@ pub mod Values
 pub mod Elements
 pub mod Order
 pub mod Cached
+pub mod Slots
 pub mod Keeping
 pub mod Inside
 pub mod Sight

@@ -11,18 +11,13 @@ ghost use Rattle.wf_scene.specs.Cached.{IsOrderly};
 
 use crate::attributes::{ContextAttr, ElementAttr, Refused};
 use crate::consistency::layers_of;
-use crate::element::{Element, find, place_in};
 use crate::look::{Fault, Look};
-use crate::order::Handles;
-use crate::{Scene, order, values};
-use arrayvec::ArrayVec;
+use crate::slots::Slots;
+use crate::{Scene, values};
 use std::alloc::Global;
 use std::marker::Model;
 use wf_pixel::{Rgba, Rotation, Size};
 use wf_words::NoMemory;
-
-/// How many elements live in a context at most.
-const MOST_ELEMENTS: usize = 64;
 
 /// A context's cached scene: its target's size and whether that is a screen, its turn and its background, its live
 /// elements with their attributes, and which of them are inserted, from the bottom up. No call but `new` takes memory.
@@ -32,8 +27,7 @@ pub struct Cached {
     on_screen: bool,
     turn: Rotation,
     background: Rgba,
-    elements: Vec<Element>,
-    order: Handles,
+    slots: Slots,
 }
 
 impl Model for Cached {
@@ -53,14 +47,13 @@ impl Cached {
     pub fn new(alloc: Global, target: Size, on_screen: bool) -> Result<Cached, NoMemory>
         ensures { IfOk result (λ made. made ≡ cached.empty target on_screen) }
     {
-        let elements = Vec::with_capacity(alloc, MOST_ELEMENTS)?;
+        let slots = Slots::new(alloc)?;
         Ok(Cached {
             size: target,
             on_screen,
             turn: Rotation::R0,
             background: Rgba::BLACK,
-            elements,
-            order: ArrayVec::new(),
+            slots,
         })
     }
 
@@ -69,7 +62,7 @@ impl Cached {
         ensures count { result ≡ length self.now.elements }
         ensures orderly { IsOrderly self.now }
     {
-        self.elements.len() as u32
+        self.slots.count()
     }
 
     /// An element lives here.
@@ -77,7 +70,7 @@ impl Cached {
         ensures live { result ≡ cached.has_element element self.now }
         ensures orderly { IsOrderly self.now }
     {
-        self.elements.iter().any(|e| e.handle == element)
+        self.slots.has(element)
     }
 
     /// The handle of the first element, in the order in which they were added.
@@ -85,10 +78,7 @@ impl Cached {
         ensures first { result ≡ option_map cached.handle_of (slice_get self.now.elements 0) }
         ensures orderly { IsOrderly self.now }
     {
-        match self.elements.first() {
-            Some(element) => Some(element.handle),
-            None => None,
-        }
+        self.slots.first()
     }
 
     /// One more element, with the initial attributes. Its handle is not 0.
@@ -99,7 +89,7 @@ impl Cached {
         ensures added { self.new ≡ cached.add element self.old }
         ensures orderly { IsOrderly self.new }
     {
-        self.elements.push_reserved(Element::new(element));
+        self.slots.add(element);
     }
 
     /// The element lives here no more, and is not inserted.
@@ -108,9 +98,7 @@ impl Cached {
         ensures forgotten { self.new ≡ cached.forget element self.old }
         ensures orderly { IsOrderly self.new }
     {
-        order::take_out(&mut self.order, element);
-        let place = place_in(&self.elements, element);
-        self.elements.remove(place);
+        self.slots.forget(element);
     }
 
     /// Sets an attribute of a live element. A value that names a source or a mask is 0 or a handle, which is for the
@@ -122,11 +110,11 @@ impl Cached {
         ensures refused { OnErr result (self.new ≡ self.old) }
         ensures orderly { IsOrderly self.new }
     {
-        let place = place_in(&self.elements, element);
-        let Some(changed) = self.elements[place].with(attr, value) else {
+        let slot = self.slots.live_slot(element) as usize;
+        let Some(changed) = self.slots.table[slot].with(attr, value) else {
             return Err(Refused::IllegalArgument);
         };
-        self.elements[place] = changed;
+        self.slots.table[slot] = changed;
         Ok(())
     }
 
@@ -135,7 +123,7 @@ impl Cached {
         requires { IsTrue (cached.has_element element self.now) }
         ensures { result ≡ cached.get element attr index self.now }
     {
-        match find(&self.elements, element) {
+        match self.slots.find(element) {
             Some(e) => e.number(attr, index).ok_or(Refused::IllegalArgument),
             None => Err(Refused::IllegalArgument),
         }
@@ -149,13 +137,13 @@ impl Cached {
         ensures refused { OnErr result (self.new ≡ self.old) }
         ensures orderly { IsOrderly self.new }
     {
-        if !order::is_base(self.order.as_slice(), below) {
+        if !self.slots.is_base(below) {
             return Err(Refused::IllegalArgument);
         }
-        if order::has_no_room(self.order.as_slice(), element) {
+        if self.slots.has_no_room(element) {
             return Err(Refused::Limit);
         }
-        order::insert(&mut self.order, element, below);
+        self.slots.insert(element, below);
         Ok(())
     }
 
@@ -166,10 +154,10 @@ impl Cached {
         ensures refused { OnErr result (self.new ≡ self.old) }
         ensures orderly { IsOrderly self.new }
     {
-        if !order::is_inserted(self.order.as_slice(), element) {
+        if !self.slots.is_inserted(element) {
             return Err(Refused::IllegalArgument);
         }
-        order::take_out(&mut self.order, element);
+        self.slots.remove(element);
         Ok(())
     }
 
@@ -178,7 +166,7 @@ impl Cached {
         requires { IsTrue (cached.has_element element self.now) }
         ensures { result ≡ cached.above element self.now }
     {
-        order::above(self.order.as_slice(), element).ok_or(Refused::IllegalArgument)
+        self.slots.above(element).ok_or(Refused::IllegalArgument)
     }
 
     /// The element directly below an inserted one, or 0.
@@ -186,7 +174,7 @@ impl Cached {
         requires { IsTrue (cached.has_element element self.now) }
         ensures { result ≡ cached.below element self.now }
     {
-        order::below(self.order.as_slice(), element).ok_or(Refused::IllegalArgument)
+        self.slots.below(element).ok_or(Refused::IllegalArgument)
     }
 
     /// Sets an attribute of the context: its rotation or its background.
@@ -219,7 +207,7 @@ impl Cached {
             }
             ContextAttr::Width => values::at_index(index, &[self.size.w]),
             ContextAttr::Height => values::at_index(index, &[self.size.h]),
-            ContextAttr::Lowest => values::at_index(index, &[order::lowest(self.order.as_slice())]),
+            ContextAttr::Lowest => values::at_index(index, &[self.slots.lowest()]),
         };
         number.ok_or(Refused::IllegalArgument)
     }
@@ -231,7 +219,7 @@ impl Cached {
         ensures orderly { IsOrderly self.now }
         ensures placed { IfOk result (λ made. IsTrue (list_all is_placed_layer made.layers.items)) }
     {
-        let layers = layers_of(look, &self.elements, self.order.as_slice())?;
+        let layers = layers_of(look, &self.slots)?;
         let background = if self.on_screen {
             Rgba {
                 a: 255,

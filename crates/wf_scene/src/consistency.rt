@@ -5,11 +5,14 @@ ghost use Rattle.std.specs.Result.{result_err};
 ghost use Rattle.wf_pixel.specs.Choice as choice;
 ghost use Rattle.wf_pixel.specs.Place.{size_of};
 ghost use Rattle.wf_scene.specs.Layers as layers;
+ghost use Rattle.wf_scene.specs.Slots.{IsKept, elements_in, order_in};
 ghost use Rattle.wf_scene.specs.Consistent as scene;
 
 use crate::Layer;
-use crate::element::{Element, find};
+use crate::element::Element;
+use crate::linked::INSERTED;
 use crate::look::{Fault, Look};
+use crate::slots::Slots;
 use arrayvec::ArrayVec;
 use wf_pixel::{Rect, Size};
 
@@ -17,22 +20,18 @@ use wf_pixel::{Rect, Size};
 type Layers = ArrayVec<Layer, 32>;
 
 /// The layers that show the inserted elements, or the first fault, both from the bottom up.
-pub(crate) fn layers_of<L: Look>(
-    look: &L,
-    elements: &[Element],
-    order: &[u32],
-) -> Result<Layers, Fault>
-    requires { length order.now ≤ 32 }
-    ensures fault { result_err result ≡ scene.fault_from (L.sight look.now) 1 (scene.elements_of order.now elements.now) }
-    ensures layers { IfOk result (λ made. made.items ≡ map (scene.layer_of (L.sight look.now)) (scene.elements_of order.now elements.now)) }
+pub(crate) fn layers_of<L: Look>(look: &L, slots: &Slots) -> Result<Layers, Fault>
+    requires kept { IsKept slots.now }
+    requires room { length (order_in slots.now) ≤ 32 }
+    ensures fault { let inserted = scene.elements_of (order_in slots.now) (elements_in slots.now) in
+        result_err result ≡ scene.fault_from (L.sight look.now) 1 inserted }
+    ensures layers { let inserted = scene.elements_of (order_in slots.now) (elements_in slots.now) in
+        IfOk result (λ made. made.items ≡ map (scene.layer_of (L.sight look.now)) inserted) }
 {
     let mut layers = Layers::new();
-    for handle in order {
-        // Every inserted element lives here.
-        let Some(element) = find(elements, *handle) else {
-            continue;
-        };
-        match layer_of(look, &element) {
+    let mut next = slots.links.lowest(INSERTED);
+    while let Some(slot) = next {
+        match layer_of(look, &slots.table[slot as usize]) {
             Ok(layer) => layers.push(layer),
             Err(rule) => {
                 return Err(Fault {
@@ -41,6 +40,7 @@ pub(crate) fn layers_of<L: Look>(
                 });
             }
         }
+        next = slots.links.above(slot);
     }
     Ok(layers)
 }

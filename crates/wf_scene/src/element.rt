@@ -1,7 +1,6 @@
 //! An element of a cached scene.
 
-ghost use Rattle.std.specs.Prelude.{◌≡◌, ◌<◌, ◌==◌, IsTrue, length, option_map, position};
-ghost use Rattle.wf_scene.specs.Cached as cached;
+ghost use Rattle.std.specs.Prelude.{◌≡◌, IsTrue, option_map};
 ghost use Rattle.wf_scene.specs.Values as number;
 ghost use Rattle.wf_scene.specs.Elements.{change_of, may_take, new_element, numbers};
 
@@ -106,35 +105,4 @@ impl Element {
             ElementAttr::Mask => at_index(index, &[self.mask]),
         }
     }
-}
-
-/// The element of a handle.
-pub(crate) fn find(elements: &[Element], handle: u32) -> Option<Element>
-    ensures { result ≡ cached.element_at handle elements.now }
-{
-    for e in elements {
-        if e.handle == handle {
-            return Some(*e);
-        }
-    }
-    None
-}
-
-/// The place of a live element.
-pub(crate) fn place_in(elements: &[Element], handle: u32) -> usize
-    requires { IsTrue (cached.is_live handle elements.now) }
-    ensures place { result ≡ cached.place_in handle elements.now }
-    ensures within { result < length elements.now }
-{
-    match position_in(elements, handle) {
-        Some(place) => place,
-        None => unreachable!(),
-    }
-}
-
-/// The place of an element, if it is there.
-fn position_in(elements: &[Element], handle: u32) -> Option<usize>
-    ensures { result ≡ position (λ e. e.handle == handle) elements.now }
-{
-    elements.iter().position(|e| e.handle == handle)
 }

@@ -6,8 +6,9 @@ mod cached;
 mod consistency;
 mod element;
 mod laws;
+mod linked;
 mod look;
-mod order;
+mod slots;
 mod style;
 #[cfg(test)]
 mod tests;

@@ -4,8 +4,10 @@ use Rattle.wf_scene.proofs.cached.Cached.remove.Goals as goal
 
 pub invariant_of-self : goal.invariant_of-self
 invariant_of-self c = record {
-  orderly = rw c.take_out.ensures.left (orderly_removed (scene_inside c.self.inside) c.self.invariant.orderly c.args.element);
-  room = c.self.invariant.room;
+  orderly =
+      rw (c.remove.ensures.elements, c.remove.ensures.order)
+      (orderly_removed (scene_inside c.self.inside) c.self.invariant.orderly c.args.element);
+  kept = c.remove.ensures.kept;
 }
 
 pub returns-clause-orderly : goal.returns-clause-orderly

@@ -1,38 +1,38 @@
-use Rattle.std.proofs.Common.{◌≡◌, ◌∙◌, sym, refl, Some, set}
-use Rattle.wf_words.specs.Keyed.{change}
-use Rattle.wf_scene.specs.declared.element.Element.{Element}
+use Rattle.std.proofs.Common.{sym, ap, ◌∙◌, refl}
 use Rattle.wf_scene.specs.Cached.{handle_of}
 use Rattle.wf_scene.specs.Elements.{change_of}
+use Rattle.wf_scene.specs.Slots.{held, inserted_in}
 use Rattle.wf_scene.specs.Inside.{scene_inside}
 use Rattle.wf_scene.specs.Keeping.{keeps_handle, keeps_place}
 use Rattle.wf_scene.proofs.Handled.{orderly_changed}
-use Rattle.wf_scene.proofs.Changes.{changed_at}
+use Rattle.wf_scene.proofs.StayKept.{IsWrittenBack, kept_changed, written_back}
 use Rattle.wf_scene.proofs.cached.Cached.set.Goals as goal
 
--- what the value changes, and the elements after it
-written : (c : goal.After-self-1) → (f : Element → Element) × (change_of c.args.attr c.args.value ≡ Some f)
-    × (set c.self.inside.elements.items c.place_in-place.result c.in-Some.changed
-    ≡ change handle_of c.args.element f c.self.inside.elements.items)
+-- the element after the value was set
+written : (c : goal.After-self-1) → IsWrittenBack c.self.inside.slots.table.items c.self.inside.slots.used.items
+    (inserted_in c.self.inside.slots.links) c.args.element c.live_slot-slot.result c.in-Some.changed (change_of c.args.attr c.args.value)
 written c =
-    let place = rw c.deref.ensures.value at c.place_in-place.ensures.place in
-    let within = rw c.deref.ensures.value at c.place_in-place.ensures.within in
-    changed_at c.self.inside.elements.items c.args.element c.place_in-place.result c.index.result.now c.in-Some.changed
-    (change_of c.args.attr c.args.value) c.self.invariant.orderly.apart place within c.index.ensures (sym c.with.ensures ∙ c.in-Some.is)
+    written_back _ _ _ _ c.self.invariant.kept c.args.element c.live_slot-slot.result c.index.result.now c.in-Some.changed
+    (change_of c.args.attr c.args.value) c.live_slot-slot.ensures.slot c.index.ensures (sym c.with.ensures ∙ c.in-Some.is)
 
 pub invariant_of-self : goal.invariant_of-self
 invariant_of-self c =
     let w = written c in
+    let keeps = keeps_handle c.args.attr c.args.value w.change w.changes in
+    let table = c.self.inside.slots.table.items in
     record {
       orderly =
-          rw w.2 (orderly_changed (scene_inside c.self.inside) c.self.invariant.orderly c.args.element w.0
-          (keeps_handle c.args.attr c.args.value w.0 w.1) (keeps_place c.args.attr c.args.value w.0 w.1));
-      room = c.self.invariant.room;
+          rw (w.elements, w.order keeps) (orderly_changed (scene_inside c.self.inside) c.self.invariant.orderly c.args.element w.change
+          keeps (keeps_place c.args.attr c.args.value w.change w.changes));
+      kept = kept_changed _ _ _ _ c.self.invariant.kept c.live_slot-slot.result c.in-Some.changed w.there
+          (ap handle_of w.value ∙ keeps (held table c.live_slot-slot.result));
     }
 
 pub returns-clause-case : goal.returns-clause-case
 returns-clause-case c =
     let w = written c in
-    rw (← c.self.view_is, w.1, w.2) refl
+    let keeps = keeps_handle c.args.attr c.args.value w.change w.changes in
+    rw (← c.self.view_is, w.changes, w.elements, w.order keeps) refl
 
 pub returns-clause-orderly : goal.returns-clause-orderly
 returns-clause-orderly c = (invariant_of-self c).orderly
