@@ -36,6 +36,13 @@ RULES_OF_A_COMMIT = {
     3: "a side of its destination is not from 1 to 1024",
     4: "its mask is no live mask, or not as large as the destination",
 }
+RULES_OF_A_DISPLAY_COMMIT = {
+    1: "the source that it is asked to show is not live",
+    2: "its source rectangle has no side, or does not lie inside of the stream",
+    3: "a side of its destination is not from 1 to 1024",
+    4: "it would go over to a port, or from one, that this commit does not take",
+}
+DISPLAY_COMMITS = ("commit_device", "commit_port", "commit_pipe")
 
 
 class Line(NamedTuple):
@@ -254,6 +261,9 @@ class Story:
         if CODES[entry.code] == "Inconsistency" and verb == "commit":
             place, rule = divmod(value, 16)
             return f"element {place} from the bottom: {RULES_OF_A_COMMIT.get(rule, f'rule {rule}')}"
+        if CODES[entry.code] == "Inconsistency" and verb in DISPLAY_COMMITS:
+            pipeline, rule = divmod(value, 16)
+            return f"pipeline {pipeline}: {RULES_OF_A_DISPLAY_COMMIT.get(rule, f'rule {rule}')}"
         if entry.code != OK or step.what != CALL:
             return ""
         if step.line.name:

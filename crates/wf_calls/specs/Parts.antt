@@ -1,5 +1,5 @@
 -- The one table of calls by who answers them. What else sets one call apart from others follows from it.
-use Rattle.std.specs.Prelude.{◌≡◌, ℕ, Bool, true, false, refl}
+use Rattle.std.specs.Prelude.{◌≡◌, ℕ, Bool, true, false, Some, None, refl}
 use Rattle.wf_calls.specs.declared.call.Call.{Call}
 use Rattle.wf_calls.specs.declared.call.Call.TheVariants as call
 use Rattle.wf_calls.specs.declared.part.Part.{Part}
@@ -16,6 +16,7 @@ part_of call.DeviceNew = part.Composition 0
 part_of (call.DeviceDestroy d) = part.Composition d
 part_of (call.GetError d) = part.Composition d
 part_of (call.ScreenContext d port) = part.Composition d
+part_of (call.StreamContext d stream) = part.Composition d
 part_of (call.ContextDestroy d c) = part.Composition d
 part_of (call.ElementNew d c) = part.Composition d
 part_of (call.ElementDestroy d e) = part.Composition d
@@ -34,8 +35,22 @@ part_of (call.ContextGet d c attr index) = part.Composition d
 part_of (call.Commit d c) = part.Composition d
 part_of (call.Activate d c) = part.Composition d
 part_of (call.Deactivate d c) = part.Composition d
-part_of (call.BeginNext after) = part.Begin
-part_of (call.BeginPort port) = part.Begin
+part_of (call.PortSet port attr value) = part.Display
+part_of (call.PortGet port attr index) = part.Display
+part_of (call.Attach port on) = part.Display
+part_of (call.PipeSet pipe attr value) = part.Display
+part_of (call.PipeGet pipe attr index) = part.Display
+part_of (call.PipeBindPort pipe port) = part.Display
+part_of (call.DisplaySource pipe stream) = part.Display
+part_of (call.DisplaySourceDestroy source) = part.Display
+part_of (call.PipeBindSource pipe source transition) = part.Display
+part_of call.CommitDevice = part.Display
+part_of (call.CommitPort port) = part.Display
+part_of (call.CommitPipe pipe) = part.Display
+part_of call.DisplayError = part.Display
+part_of (call.BeginNext after) = part.Begin None
+part_of (call.BeginPort port) = part.Begin None
+part_of (call.BeginContext d c) = part.Begin (Some d)
 part_of (call.End job) = part.End
 
 -- a call of composition
@@ -43,15 +58,17 @@ abbrev pub is_of_core : Part → Bool
 is_of_core part.Streams = false
 is_of_core part.Buffers = false
 is_of_core (part.Composition d) = true
-is_of_core part.Begin = false
+is_of_core part.Display = false
+is_of_core (part.Begin d) = false
 is_of_core part.End = false
 
--- the device that a call names, or 0, which no device has
+-- the device that a call of composition names, or 0, which no device has
 abbrev pub device_in : Part → ℕ
 device_in part.Streams = 0
 device_in part.Buffers = 0
 device_in (part.Composition d) = d
-device_in part.Begin = 0
+device_in part.Display = 0
+device_in (part.Begin d) = 0
 device_in part.End = 0
 
 abbrev pub device_of : Call → ℕ
@@ -62,7 +79,8 @@ abbrev pub begins : Part → Bool
 begins part.Streams = false
 begins part.Buffers = false
 begins (part.Composition d) = false
-begins part.Begin = true
+begins part.Display = false
+begins (part.Begin d) = true
 begins part.End = false
 
 abbrev pub is_begin : Call → Bool
@@ -73,19 +91,23 @@ abbrev pub carries : Part → Bool
 carries part.Streams = false
 carries part.Buffers = true
 carries (part.Composition d) = false
-carries part.Begin = true
+carries part.Display = false
+carries (part.Begin d) = true
 carries part.End = true
 
--- which error register takes the refusal of a call: that of a device, or none
+-- which error register takes the refusal of a call: that of a device, the display's, or none
 pub data Register : Type 0 where
   of_device : ℕ → Register
+  of_display : Register
   no_register : Register
 
 abbrev pub recorded_by : Part → Register
 recorded_by part.Streams = no_register
 recorded_by part.Buffers = no_register
 recorded_by (part.Composition d) = of_device d
-recorded_by part.Begin = no_register
+recorded_by part.Display = of_display
+recorded_by (part.Begin None) = no_register
+recorded_by (part.Begin (Some d)) = of_device d
 recorded_by part.End = no_register
 
 abbrev pub register_of : Call → Register
@@ -96,5 +118,6 @@ pub of_core : (p : Part) → is_of_core p ≡ true → p ≡ part.Composition (d
 of_core part.Streams is = absurd cc
 of_core part.Buffers is = absurd cc
 of_core (part.Composition d) is = refl
-of_core part.Begin is = absurd cc
+of_core part.Display is = absurd cc
+of_core (part.Begin d) is = absurd cc
 of_core part.End is = absurd cc

@@ -1,6 +1,6 @@
 //! Calls, replies, and the running frame that goes with them.
 
-use crate::code::Code;
+use crate::display::{PipeAttr, PortAttr, Transition};
 use wf_image::{Canvas, Contents, Image};
 use wf_pixel::Format;
 use wf_scene::{ContextAttr, ElementAttr, Scene};
@@ -76,6 +76,11 @@ pub enum Call {
     ScreenContext {
         device: u32,
         port: i64,
+    },
+    /// Makes an off-screen context, which draws into a stream.
+    StreamContext {
+        device: u32,
+        stream: u32,
     },
     /// Destroys a context with its elements, sources and masks.
     ContextDestroy {
@@ -178,6 +183,67 @@ pub enum Call {
         device: u32,
         context: u32,
     },
+    /// Sets an attribute of a port, counted from 1. Numbers that the attribute does not have are not read.
+    PortSet {
+        port: i64,
+        attr: PortAttr,
+        value: [i64; 4],
+    },
+    /// Reads one number of an attribute of a port, by its index from 0.
+    PortGet {
+        port: i64,
+        attr: PortAttr,
+        index: i64,
+    },
+    /// Attaches a display to a port by 1, or detaches it by 0, at once.
+    Attach {
+        port: i64,
+        on: i64,
+    },
+    /// Sets an attribute of a pipeline, counted from 1. Numbers that the attribute does not have are not read.
+    PipeSet {
+        pipe: i64,
+        attr: PipeAttr,
+        value: [i64; 4],
+    },
+    /// Reads one number of an attribute of a pipeline, by its index from 0.
+    PipeGet {
+        pipe: i64,
+        attr: PipeAttr,
+        index: i64,
+    },
+    /// Asks for a pipeline to be shown by a port, or by none by 0.
+    PipeBindPort {
+        pipe: i64,
+        port: i64,
+    },
+    /// Makes a source of a pipeline, which shows a stream of pixels.
+    DisplaySource {
+        pipe: i64,
+        stream: u32,
+    },
+    /// Destroys a source of a pipeline.
+    DisplaySourceDestroy {
+        source: u32,
+    },
+    /// Asks for a pipeline to show a source of its own, or none by 0. It replaces an earlier request.
+    PipeBindSource {
+        pipe: i64,
+        source: u32,
+        transition: Transition,
+    },
+    /// Makes what is cached of every port and pipeline committed, as a whole or not at all.
+    CommitDevice,
+    /// Makes what is cached of a port and of its pipelines committed, as a whole or not at all.
+    CommitPort {
+        port: i64,
+    },
+    /// Makes what is cached of a pipeline committed, as a whole or not at all.
+    CommitPipe {
+        pipe: i64,
+    },
+    /// Reads and clears the display's error register.
+    DisplayError,
     /// Begins a frame of the active context with the least handle above `after`.
     BeginNext {
         after: u32,
@@ -185,6 +251,11 @@ pub enum Call {
     /// Begins a frame of a port, counted from 1.
     BeginPort {
         port: i64,
+    },
+    /// Begins a frame of a context that is not active.
+    BeginContext {
+        device: u32,
+        context: u32,
     },
     /// Ends the running frame.
     End(Job),

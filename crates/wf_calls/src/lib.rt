@@ -3,6 +3,7 @@
 
 mod call;
 mod code;
+mod display;
 mod order;
 mod part;
 mod ports;
@@ -10,6 +11,7 @@ mod reply;
 
 pub use call::{Call, Job, JobKind, StatWord};
 pub use code::Code;
+pub use display::{PipeAttr, PortAttr, Transition};
 pub use order::{Order, Turn};
 pub use part::Part;
 pub use ports::{Modes, Ports};

@@ -14,8 +14,10 @@ pub enum Part {
     Buffers,
     /// The objects of composition; the call names this device, or 0 where it makes one.
     Composition { device: u32 },
-    /// The machine, which begins a frame.
-    Begin,
+    /// The objects of the display.
+    Display,
+    /// The machine, which begins a frame; the call names this device, or none where the clock makes it.
+    Begin { device: Option<u32> },
     /// The machine, which ends the running frame.
     End,
 }
@@ -34,6 +36,7 @@ impl Call {
             Call::DeviceDestroy { device }
             | Call::GetError { device }
             | Call::ScreenContext { device, .. }
+            | Call::StreamContext { device, .. }
             | Call::ContextDestroy { device, .. }
             | Call::ElementNew { device, .. }
             | Call::ElementDestroy { device, .. }
@@ -52,18 +55,34 @@ impl Call {
             | Call::Commit { device, .. }
             | Call::Activate { device, .. }
             | Call::Deactivate { device, .. } => Part::Composition { device: *device },
-            Call::BeginNext { .. } | Call::BeginPort { .. } => Part::Begin,
+            Call::PortSet { .. }
+            | Call::PortGet { .. }
+            | Call::Attach { .. }
+            | Call::PipeSet { .. }
+            | Call::PipeGet { .. }
+            | Call::PipeBindPort { .. }
+            | Call::DisplaySource { .. }
+            | Call::DisplaySourceDestroy { .. }
+            | Call::PipeBindSource { .. }
+            | Call::CommitDevice
+            | Call::CommitPort { .. }
+            | Call::CommitPipe { .. }
+            | Call::DisplayError => Part::Display,
+            Call::BeginNext { .. } | Call::BeginPort { .. } => Part::Begin { device: None },
+            Call::BeginContext { device, .. } => Part::Begin {
+                device: Some(*device),
+            },
             Call::End(_) => Part::End,
         }
     }
 
-    /// The device that this call names, or 0, which no device has.
+    /// The device that this call of composition names, or 0, which no device has.
     pub fn device(&self) -> u32
         ensures { result ≡ device_of self.now }
     {
         match self.part() {
             Part::Composition { device } => device,
-            Part::Streams | Part::Buffers | Part::Begin | Part::End => 0,
+            Part::Streams | Part::Buffers | Part::Display | Part::Begin { .. } | Part::End => 0,
         }
     }
 
@@ -71,6 +90,6 @@ impl Call {
     pub fn is_begin(&self) -> bool
         ensures { result ≡ is_begin self.now }
     {
-        matches!(self.part(), Part::Begin)
+        matches!(self.part(), Part::Begin { .. })
     }
 }

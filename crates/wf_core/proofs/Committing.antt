@@ -15,7 +15,8 @@ use Rattle.wf_model.specs.Composition.{change_context, sight_of}
 use Rattle.wf_model.specs.Core.{commit, fault_as_refusal, with_committed}
 use Rattle.wf_objects.specs.Does.{Does, Step, as_other, changed, in_owned, in_place, refuses}
 use Rattle.wf_objects.specs.Fits.{ContextFits, Fits}
-use Rattle.wf_objects.specs.Owners.{StandsAt, at_place, owned_context}
+use Rattle.wf_objects.specs.Owners.{StandsAt, owned_context}
+use Rattle.wf_model.specs.Outcome.{at_place}
 use Rattle.wf_objects.specs.Sides.{side_of}
 use Rattle.wf_objects.specs.Sights.{sight_in, sights}
 use Rattle.wf_core.proofs.Layering.{consistent_fits}

@@ -18,7 +18,8 @@ use Rattle.wf_scene.specs.Layers.{holds_rect, is_placed_layer}
 use Rattle.wf_scene.specs.Sight.{Sight}
 use Rattle.wf_model.specs.Objects.{CoreState, Source}
 use Rattle.wf_model.specs.Composition.{seen, seen_source, sight_of}
-use Rattle.wf_objects.specs.Fits.{Fits, LayerFits, Shows}
+use Rattle.wf_objects.specs.Fits.{Fits, Shows}
+use Rattle.wf_model.specs.Fitting.{LayerFits}
 use Rattle.wf_objects.specs.Sides.{side_of}
 use Rattle.wf_core.proofs.Faults.{Keeps, faultless, no_fault}
 use Rattle.wf_words.specs.Each.{each_found}

@@ -8,7 +8,7 @@ use Rattle.wf_calls.specs.declared.code.Code.TheVariants as code
 use Rattle.wf_model.specs.Outcome.{found}
 use Rattle.wf_model.specs.Composition.{seen_stream}
 use Rattle.wf_core.specs.Screens.{screen_seen}
-use Rattle.wf_objects.specs.Fits.{IsOfPixels}
+use Rattle.wf_model.specs.Fitting.{IsOfPixels}
 
 -- the stream of a screen that is seen
 pub record Screen (screen : Option ℕ) (streams : List KeptStream) (seen : Seen) : Type 0 where

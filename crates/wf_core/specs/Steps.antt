@@ -10,7 +10,8 @@ use Rattle.wf_calls.specs.declared.reply.Reply.{Reply}
 use Rattle.wf_model.specs.Composition.{CoreSide, core_answer}
 use Rattle.wf_model.specs.Objects.{CoreState}
 use Rattle.wf_model.specs.Outcome.{Outcome}
-use Rattle.wf_objects.specs.Fits.{Fits, IsOfPixels}
+use Rattle.wf_objects.specs.Fits.{Fits}
+use Rattle.wf_model.specs.Fitting.{IsOfPixels}
 use Rattle.wf_objects.specs.Sides.{side_of}
 
 -- nothing of the store changed

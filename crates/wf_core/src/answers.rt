@@ -4,7 +4,8 @@ ghost use Rattle.std.specs.Prelude.{◌≡◌};
 ghost use Rattle.wf_calls.specs.Codes.{is_out_of_memory};
 ghost use Rattle.wf_model.specs.Composition.{core_answer};
 ghost use Rattle.wf_objects.specs.Fits.{Fits};
-ghost use Rattle.wf_objects.specs.Sides.{side_of, done_by, lacks_memory};
+ghost use Rattle.wf_objects.specs.Sides.{side_of};
+ghost use Rattle.wf_model.specs.Outcome.{done_by, lacks_memory};
 
 use wf_calls::{Answer, Refusal};
 use wf_objects::Objects;

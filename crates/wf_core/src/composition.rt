@@ -1,7 +1,7 @@
 //! The objects of composition.
 
 ghost use Rattle.std.specs.Prelude.{◌≡◌, ℕ, ◌||◌, [], IfOk, IsSome};
-ghost use Rattle.wf_words.specs.Keyed.{at_key, is_in};
+ghost use Rattle.wf_words.specs.Keyed.{is_in};
 ghost use Rattle.wf_stream.specs.Streams.{StoreView, stream_at};
 ghost use Rattle.wf_model.specs.Composition.{change_register, recorded};
 ghost use Rattle.wf_model.specs.Names.{core_names};
@@ -55,9 +55,8 @@ impl Core {
         self.objects.next(after)
     }
 
-    /// Offers a code to the register of a live device, which takes it where it is empty.
+    /// Offers a code to the register of a device, which takes it where the device is live and the register is empty.
     pub fn record(&mut self, device: u32, code: Code)
-        requires { IsSome (at_key (λ x. x.handle) device self.old.devices) }
         ensures recorded { self.new ≡ change_register device (recorded code) self.old }
         ensures fits { (store : StoreView) → Fits self.old store → Fits self.new store }
     {

@@ -3,18 +3,20 @@
 ghost use Rattle.std.specs.Prelude.{◌≡◌, ◌==◌, false, pos, IfSome, IsSome, IsTrue};
 ghost use Rattle.wf_words.specs.Whole.{count_of};
 ghost use Rattle.wf_pixel.specs.Choice.{is_between};
-ghost use Rattle.wf_model.specs.Core.{context_destroy, context_get, context_set, screen_context};
+ghost use Rattle.wf_model.specs.Core.{context_destroy, context_get, context_set, is_drawable, screen_context, stream_context};
 ghost use Rattle.wf_core.specs.Screens.{screen_seen};
 ghost use Rattle.wf_core.specs.Steps.{KeepsAll, Steps};
 ghost use Rattle.wf_objects.specs.Does.{Does};
-ghost use Rattle.wf_objects.specs.Fits.{Fits, IsOfPixels};
+ghost use Rattle.wf_objects.specs.Fits.{Fits};
+ghost use Rattle.wf_model.specs.Fitting.{IsOfPixels};
 ghost use Rattle.wf_objects.specs.Sides.{KeepsRest};
 
 use crate::answers::answer;
 use crate::composition::Core;
-use crate::streams::seen_by_number;
+use crate::streams::{seen_by_handle, seen_by_number};
 use wf_calls::{Code, Refusal, Reply};
 use wf_objects::{Objects, by_scene};
+use wf_pixel::Format;
 use wf_scene::{ContextAttr, Seen};
 use wf_stream::Store;
 
@@ -59,6 +61,35 @@ pub(crate) fn try_screen_context(
         return Err(Refusal::of(Code::InUse));
     }
     objects.add_context(store, device, port, target)
+}
+
+/// A context may draw pixels of a format: premultiplied ones, or ones without an alpha of their own.
+fn is_drawable(format: Format) -> bool
+    ensures { result ≡ is_drawable format }
+{
+    matches!(format, Format::Rgba8Pre | Format::Rgbx8)
+}
+
+pub(crate) fn try_stream_context(
+    objects: &mut Objects,
+    store: &mut Store,
+    device: u32,
+    stream: u32,
+) -> Result<u32, Refusal>
+    requires { Fits objects.old store.old }
+    ensures { Does (stream_context device stream) objects.old objects.new store.old store.new result }
+{
+    objects.check_device(store, device)?;
+    let Some(target) = seen_by_handle(store, stream) else {
+        return Err(Refusal::of(Code::BadHandle));
+    };
+    if !is_drawable(target.format) {
+        return Err(Refusal::of(Code::Unsupported));
+    }
+    if objects.has_target(target.stream) {
+        return Err(Refusal::of(Code::InUse));
+    }
+    objects.add_context(store, device, 0, target)
 }
 
 pub(crate) fn try_context_destroy(
@@ -122,6 +153,17 @@ impl Core {
         ensures { Steps device (λ m. screen_context device port screen m) KeepsRest self.old self.new store.old store.new result }
     {
         let done = try_screen_context(&mut self.objects, store, device, port, screen);
+        Reply::bare(answer(&mut self.objects, store, device, done))
+    }
+
+    /// Makes an off-screen context, which draws into the stream of a live handle, and answers the context's handle.
+    /// BadHandle is no live stream; Unsupported a stream that is neither premultiplied nor without alpha; InUse a stream
+    /// into which a context draws; Limit a 17th context, or that all handles were given.
+    pub fn stream_context(&mut self, store: &mut Store, device: u32, stream: u32) -> Reply
+        requires { Fits self.old store.old }
+        ensures { Steps device (stream_context device stream) KeepsRest self.old self.new store.old store.new result }
+    {
+        let done = try_stream_context(&mut self.objects, store, device, stream);
         Reply::bare(answer(&mut self.objects, store, device, done))
     }
 

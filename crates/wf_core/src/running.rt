@@ -13,7 +13,9 @@ use crate::activation::try_set_active;
 use crate::answers::answer;
 use crate::commits::try_commit;
 use crate::composition::Core;
-use crate::contexts::{try_context_destroy, try_context_get, try_context_set, try_screen_context};
+use crate::contexts::{
+    try_context_destroy, try_context_get, try_context_set, try_screen_context, try_stream_context,
+};
 use crate::devices::try_device_destroy;
 use crate::elements::{
     try_element_above, try_element_below, try_element_destroy, try_element_get, try_element_insert,
@@ -43,6 +45,9 @@ fn carry_out(
         Call::GetError { device } => objects.take_error(store, *device),
         Call::ScreenContext { device, port } => {
             try_screen_context(objects, store, *device, *port, screen)
+        }
+        Call::StreamContext { device, stream } => {
+            try_stream_context(objects, store, *device, *stream)
         }
         Call::ContextDestroy { device, context } => {
             try_context_destroy(objects, store, *device, *context)

@@ -2,7 +2,8 @@
 
 ghost use Rattle.std.specs.Prelude.{pos, IfOk, IfSome, IsTrue};
 ghost use Rattle.wf_pixel.specs.Choice.{is_between};
-ghost use Rattle.wf_objects.specs.Fits.{Fits, IsOfPixels};
+ghost use Rattle.wf_objects.specs.Fits.{Fits};
+ghost use Rattle.wf_model.specs.Fitting.{IsOfPixels};
 
 use crate::{Core, NoMemory};
 use std::alloc::Global;

@@ -8,6 +8,7 @@ mod keeping;
 mod laying;
 mod lines;
 mod masks;
+mod painter;
 mod painting;
 mod placing;
 mod spans;
@@ -16,4 +17,5 @@ mod strips;
 mod tables;
 
 pub use bands::picture_rows;
+pub use painter::{Painter, Plain};
 pub use painting::picture;

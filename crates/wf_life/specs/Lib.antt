@@ -3,3 +3,4 @@ pub mod Handles
 pub mod Inside
 pub mod Pool
 pub mod Lending
+pub mod Living

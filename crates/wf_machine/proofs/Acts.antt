@@ -3,7 +3,8 @@ use Rattle.wf_machine.proofs.Common.{◌≡◌, ℕ, Bool, true, false, List, []
 use Rattle.wf_machine.proofs.Common.{◌∙◌, Live, Canvas, Bitmap, Buffers, KeptStream, StoreView, Call, Job, JobKind, Reply, is_ok_code}
 use Rattle.wf_machine.proofs.Common.{is_out_of_memory, CoreState, screen_of, end, is_of_frame, bare, refused, Running, State, act}
 use Rattle.wf_machine.proofs.Common.{acquire_step, canvas_back, is_out_at_client, Fits, Inside, IsSound, state_of, IsAct, IsAnswer}
-use Rattle.wf_machine.proofs.Common.{SameImage}
+use Rattle.wf_machine.proofs.Common.{SameImage, ◌+◌, ◌==◌, not, filter, length, map, length-map, list_all, AllByRecursion, Context}
+use Rattle.wf_machine.proofs.Common.{DisplayState, modes_of}
 use Rattle.wf_life.specs.declared.Kind.{Kind}
 use Rattle.wf_life.specs.declared.Kind.TheVariants as lives
 use Rattle.wf_life.specs.Handles.{live_count}
@@ -16,7 +17,21 @@ use Rattle.wf_model.specs.Composing.{composed, core_side, with_side}
 use Rattle.wf_model.specs.Core.{core_call}
 use Rattle.wf_calls.specs.Parts.{device_of, is_of_core, of_core, part_of}
 use Rattle.wf_calls.specs.declared.reply.Answer.{Answer}
+use Rattle.wf_calls.specs.declared.part.Part.TheVariants as part
+use Rattle.std.proofs.Common.{◌&&◌}
+use Rattle.std.proofs.lemmas.List.Sums.{length-filter}
+use Rattle.wf_words.specs.Filtered.{filter_twice}
+use Rattle.wf_life.specs.Handles.{same_kind}
+use Rattle.wf_life.specs.Living.{of_kind, same_is}
+use Rattle.wf_model.specs.Composing.{display_side, displayed, with_display_side}
+use Rattle.wf_model.specs.DisplayCalls.{display_call}
+use Rattle.wf_model.specs.DisplaySides.{display_answer}
+use Rattle.wf_model.specs.Kept.{modes_in, modes_stay}
+use Rattle.wf_objects.specs.Fits.{HasElements, elements_of, has_owner, mask_live, source_live}
 use Rattle.wf_objects.specs.Sides.{KeepsRest, beside, side_of}
+use Rattle.wf_display.specs.Does as does
+use Rattle.wf_display.specs.Fits.{Fits as Shows, source_live as shown_live}
+use Rattle.wf_display.specs.Sides as displays
 use Rattle.wf_core.specs.Steps.{Steps}
 use Rattle.wf_machine.specs.Object.{CarriesPaintable, SamePayload}
 
@@ -94,26 +109,111 @@ plain_end job h = of_frame h.frame refl
     of_frame None free = rw free tt
     of_frame (Some f) runs = of_test f runs (is_of_frame job f) refl
 
--- calls of composition
+-- what composition and the display have in the store beside one another
 
--- no source of the display is live where no handles stand beside those of composition
-no_display : (others : List Live) → beside others ≡ [] → live_count lives.DisplaySource others ≡ 0
-no_display [] none = refl
-no_display (l ∷ others) none = of_kind l.kind refl (λ rest. no_display others rest)
+-- the live handles of a kind are among those that stand beside others
+of_kind_beside : (k : Kind) (among : Live → Bool) (others : List Live) → ((l : Live) → l.kind ≡ k → among l ≡ true)
+    → of_kind k (filter among others) ≡ of_kind k others
+of_kind_beside k among others within = filter_twice (λ l. same_kind l.kind k) among (λ l. same_kind l.kind k) both others
   where
-    of_kind : (k : Kind) → l.kind ≡ k → (beside others ≡ [] → live_count lives.DisplaySource others ≡ 0)
-        → live_count lives.DisplaySource (l ∷ others) ≡ 0
-    of_kind lives.Stream is deeper = absurd (let no = rw is at none in cc)
-    of_kind lives.DisplaySource is deeper = absurd (let no = rw is at none in cc)
-    of_kind lives.Device is deeper = (let rest : beside others ≡ [] = rw is at none in rw is (deeper rest))
-    of_kind lives.Context is deeper = (let rest : beside others ≡ [] = rw is at none in rw is (deeper rest))
-    of_kind lives.Element is deeper = (let rest : beside others ≡ [] = rw is at none in rw is (deeper rest))
-    of_kind lives.Source is deeper = (let rest : beside others ≡ [] = rw is at none in rw is (deeper rest))
-    of_kind lives.Mask is deeper = (let rest : beside others ≡ [] = rw is at none in rw is (deeper rest))
+    both : (l : Live) → (same_kind l.kind k && among l) ≡ same_kind l.kind k
+    both l = of_test (same_kind l.kind k) refl
+      where
+        of_test : (b : Bool) → same_kind l.kind k ≡ b → (b && among l) ≡ b
+        of_test true is = within l (same_is l.kind k is)
+        of_test false other = refl
 
-side_is : (m : Inside) → IsSound m → side_of m.core m.store ≡ core_side (state_of m)
-side_is m sound = ap (λ n. record { made = m.store.made; streams = m.store.streams; core = m.core; display_sources = n })
-    (no_display m.store.others sound.others)
+counted : {A : Type 0} (k : Kind) (g : A → Live) (xs : List A) (others : List Live) → of_kind k others ≡ map g xs
+    → live_count k others ≡ length xs
+counted k g xs others is = sym (length-filter (λ l. same_kind l.kind k) others) ∙ ap length is ∙ length-map xs g
+
+-- a call of composition leaves the display's handles, and so what it shows
+shown_composed : (d : DisplayState) (core : CoreState) (store now : StoreView) → KeepsRest store now → Fits core now → Shows d store
+    → Shows d now
+shown_composed d core store now rest fits shows =
+    record {
+      handles = record {
+        rising = fits.handles.rising;
+        sources = same now.others ∙ ap (of_kind lives.DisplaySource) rest.others
+            ∙ sym (same store.others) ∙ shows.handles.sources;
+      };
+      streams = rw rest.streams shows.streams;
+    }
+  where
+    same : (others : List Live) → of_kind lives.DisplaySource others ≡ of_kind lives.DisplaySource (beside others)
+    same others = sym (of_kind_beside lives.DisplaySource _ others (λ l is. rw is refl))
+
+and_true : (b : Bool) → (b && true) ≡ b
+and_true true = refl
+and_true false = refl
+
+-- a call of the display leaves those of composition
+composed_shown : (core : CoreState) (d : DisplayState) (store now : StoreView) → displays.KeepsRest store now → Shows d now
+    → Fits core store → Fits core now
+composed_shown core d store now rest shows fits =
+    record {
+      handles = record {
+        rising = shows.handles.rising;
+        devices = kept lives.Device (λ l is. rw is refl) ∙ fits.handles.devices;
+        contexts = kept lives.Context (λ l is. rw is refl) ∙ fits.handles.contexts;
+        sources = kept lives.Source (λ l is. rw is refl) ∙ fits.handles.sources;
+        masks = kept lives.Mask (λ l is. rw is refl) ∙ fits.handles.masks;
+        elements = each core.contexts fits.handles.elements;
+        owned = sym (owned now.others) ∙ ap (list_all (has_owner core.contexts)) rest.others ∙ owned store.others ∙ fits.handles.owned;
+      };
+      streams = rw rest.streams fits.streams;
+    }
+  where
+    kept : (k : Kind) → ((l : Live) → l.kind ≡ k → not (same_kind l.kind lives.DisplaySource) ≡ true)
+        → of_kind k now.others ≡ of_kind k store.others
+    kept k apart = sym (of_kind_beside k _ now.others apart) ∙ ap (of_kind k) rest.others ∙ of_kind_beside k _ store.others apart
+
+    -- the elements of a context
+    under : (handle : ℕ) (others : List Live) → elements_of handle (displays.beside others) ≡ elements_of handle others
+    under handle others = filter_twice _ _ _ both others
+      where
+        both : (l : Live) → ((same_kind l.kind lives.Element && (l.key == handle)) && not (same_kind l.kind lives.DisplaySource))
+            ≡ (same_kind l.kind lives.Element && (l.key == handle))
+        both l = of_test (same_kind l.kind lives.Element) refl
+          where
+            of_test : (b : Bool) → same_kind l.kind lives.Element ≡ b
+                → ((b && (l.key == handle)) && not (same_kind l.kind lives.DisplaySource)) ≡ (b && (l.key == handle))
+            of_test true is = (let at : l.kind ≡ lives.Element = same_is l.kind lives.Element is in rw at (and_true (l.key == handle)))
+            of_test false other = refl
+
+    each : (cs : List Context) → AllByRecursion (HasElements store.others) cs → AllByRecursion (HasElements now.others) cs
+    each [] has = tt
+    each (c ∷ cs) has = (
+      sym (under c.handle now.others) ∙ ap (elements_of c.handle) rest.others ∙ under c.handle store.others ∙ has.0,
+      each cs has.1,
+    )
+
+    -- a source of the display is no element
+    owned : (others : List Live) → list_all (has_owner core.contexts) (displays.beside others) ≡ list_all (has_owner core.contexts) others
+    owned [] = refl
+    owned (l ∷ others) = of_test (owned others) (same_kind l.kind lives.DisplaySource) refl
+      where
+        of_test : list_all (has_owner core.contexts) (displays.beside others) ≡ list_all (has_owner core.contexts) others → (b : Bool)
+            → same_kind l.kind lives.DisplaySource ≡ b
+            → list_all (has_owner core.contexts) (displays.beside (l ∷ others)) ≡ list_all (has_owner core.contexts) (l ∷ others)
+        of_test rest true is =
+            let at : l.kind ≡ lives.DisplaySource = same_is l.kind lives.DisplaySource is in
+            rw (is, at) rest
+        of_test rest false other = rw other (ap (λ b. has_owner core.contexts l && b) rest)
+
+-- what calls see of the machine is what they see of its state
+
+core_side_is : (m : Inside) → IsSound m → side_of m.core m.store ≡ core_side (state_of m)
+core_side_is m sound = ap (λ n. record { made = m.store.made; streams = m.store.streams; core = m.core; display_sources = n })
+    (counted lives.DisplaySource shown_live m.display.sources m.store.others sound.shows.handles.sources)
+
+display_side_is : (m : Inside) → IsSound m → displays.side_of m.display m.store ≡ display_side (state_of m)
+display_side_is m sound = ap (λ n. record { made = m.store.made; streams = m.store.streams; display = m.display; composition_sources = n })
+    (ap (λ n. n + live_count lives.Mask m.store.others)
+    (counted lives.Source source_live m.core.sources m.store.others sound.fits.handles.sources)
+    ∙ ap (λ n. length m.core.sources + n) (counted lives.Mask mask_live m.core.masks m.store.others sound.fits.handles.masks))
+
+-- calls of composition
 
 module _ (inside : Inside) (h : State) (seen : state_of inside ≡ h) (sound : IsSound inside) (core : CoreState) (store : StoreView)
     (rest : KeepsRest inside.store store) where
@@ -122,10 +222,10 @@ module _ (inside : Inside) (h : State) (seen : state_of inside ≡ h) (sound : I
   sound_composed fits =
       record {
         fits = fits;
-        others = rest.others ∙ sound.others;
+        shows = shown_composed inside.display core inside.store store rest fits sound.shows;
         numbered = rw (rest.streams, rest.numbered) sound.numbered;
         few = sound.few;
-        screens = rw rest.numbered sound.screens;
+        modes = sound.modes;
         ports = sound.ports;
         small = rw rest.streams sound.small;
         streams = rw rest.streams sound.streams;
@@ -153,7 +253,7 @@ module _ (inside : Inside) (h : State) (seen : state_of inside ≡ h) (sound : I
       acts = rw (of_core (part_of c) ours) refl
 
       side : side_of inside.core inside.store ≡ core_side h
-      side = side_is inside sound ∙ ap core_side seen
+      side = core_side_is inside sound ∙ ap core_side seen
 
       there : core_answer (device_of c) (core_side h) (core_call (screen_of c h) m c (core_side h)) ≡ (side_of core store, a)
       there =
@@ -167,3 +267,57 @@ module _ (inside : Inside) (h : State) (seen : state_of inside ≡ h) (sound : I
           ap (λ s. with_side (side_of core store) s) (sym seen)
           ∙ ap (λ n. record (state_of inside) { made = store.made; numbered = n; streams = store.streams; core = core })
           (sym rest.numbered)
+
+-- calls of the display
+
+module _ (inside : Inside) (h : State) (seen : state_of inside ≡ h) (sound : IsSound inside) (d : DisplayState) (store : StoreView)
+    (c : Call)
+    (a : Answer) (steps : does.Steps (λ m. display_call m c) displays.KeepsRest inside.display d inside.store store (bare a)) where
+  -- what holds of the machine holds after a call of the display, which changes no modes
+  pub sound_displayed : IsSound (record inside { display = d; store = store })
+  sound_displayed =
+      let rest = steps.kept in
+      let side = displays.side_of inside.display inside.store in
+      let same : modes_of d ≡ modes_of inside.display =
+      sym (ap (λ x. modes_in x.0) steps.step) ∙ modes_stay (is_out_of_memory a.code) c side in
+      record {
+        fits = composed_shown inside.core d inside.store store rest steps.fits sound.fits;
+        shows = steps.fits;
+        numbered = rw (rest.streams, rest.numbered) sound.numbered;
+        few = sound.few;
+        modes = sound.modes ∙ sym same;
+        ports = sound.ports;
+        small = rw rest.streams sound.small;
+        streams = rw rest.streams sound.streams;
+        frame = rw rest.streams sound.frame;
+        once = sound.once;
+        known = rw rest.numbered sound.known;
+      }
+
+  -- a call of the display did and answered as the plain call
+  pub as_displayed : part_of c ≡ part.Display → IsAct h c (state_of (record inside { display = d; store = store })) (bare a)
+  unfolding act
+  as_displayed ours =
+      as_act h left c c (bare a) refl (acts ∙ ap (λ x. (with_display_side x.0 h, bare x.1)) there
+      ∙ ap (λ t. (t, bare a)) left_is) (plain_answer a)
+    where
+      m : Bool
+      m = is_out_of_memory a.code
+
+      left : State
+      left = state_of (record inside { display = d; store = store })
+
+      acts : act h c m ≡ displayed (display_call m c) h
+      acts = rw ours refl
+
+      side : displays.side_of inside.display inside.store ≡ display_side h
+      side = display_side_is inside sound ∙ ap display_side seen
+
+      there : display_answer (display_side h) (display_call m c (display_side h)) ≡ (displays.side_of d store, a)
+      there = ap (λ w. display_answer w (display_call m c w)) (sym side) ∙ steps.step
+
+      left_is : with_display_side (displays.side_of d store) h ≡ left
+      left_is =
+          ap (λ s. with_display_side (displays.side_of d store) s) (sym seen)
+          ∙ ap (λ n. record (state_of inside) { made = store.made; numbered = n; streams = store.streams; display = d })
+          (sym steps.kept.numbered)

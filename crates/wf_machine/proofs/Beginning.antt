@@ -2,10 +2,11 @@
 use Rattle.wf_machine.proofs.Common.{◌≡◌, ℕ, ◌+◌, ◌-◌, ◌^◌, ◌<◌, true, false, not, List, [], length, map, Option, Some, None, refl, sym, ap}
 use Rattle.wf_machine.proofs.Common.{subst, ◌∙◌, arith, is_some, nat_lt, option_map, lt-ltb, length-map, Size, Format, is_a8, blank}
 use Rattle.wf_machine.proofs.Common.{Buffers, acquired, KeptStream, StoreView, IsNumbered, buffers_at, held, Job, JobKind, gives_job}
-use Rattle.wf_machine.proofs.Common.{Content, Port, Running, State, CoreState, content_shape, drawing, Beginning, is_running, job_of, latch}
+use Rattle.wf_machine.proofs.Common.{Content, DisplayState, Running, State, CoreState, content_shape, drawing, Beginning, is_running}
+use Rattle.wf_machine.proofs.Common.{job_of, latch}
 use Rattle.wf_machine.proofs.Common.{latched_among, newest_images, scene_streams, start, layer_names, Images, Frame, Inside, AllFit}
 use Rattle.wf_machine.proofs.Common.{KindFits, PortsFit, contents_of, IsSound, state_of, AreShapedAs, IsAnswer, IsOfSomePort, SameImage}
-use Rattle.wf_machine.proofs.Common.{port_of, running_of}
+use Rattle.wf_machine.proofs.Common.{modes_of, running_of, sizes_of}
 use Rattle.std.proofs.Common.{flat_map}
 use Rattle.wf_calls.specs.declared.call.JobKind.TheVariants as kind
 use Rattle.wf_model.specs.Frames.{running_of as shape_of_job}
@@ -14,6 +15,7 @@ use Rattle.wf_machine.proofs.Begun.{all_latched, all_numbered, taken_once}
 use Rattle.wf_machine.proofs.Latches.{numbered_latch}
 use Rattle.wf_machine.proofs.Mapped.{SeenSame, bytes_mapped, changed_at, changed_keeps, latch_keeps, numbered_mapped, seen_mapped}
 use Rattle.wf_machine.proofs.StillComposed.{still_fits}
+use Rattle.wf_machine.proofs.StillShown.{still_shown}
 use Rattle.wf_machine.proofs.StillFitting.{acquired_keeps, all_kept, shape_kept}
 
 -- streams while a frame draws, of which the write buffer of a context's target is out
@@ -28,10 +30,9 @@ drawn_bytes (kind.Context handle target) ss = bytes_mapped (changed_at target ac
     (changed_keeps target acquired (shape_kept acquired acquired_keeps)) ss
 drawn_bytes (kind.Port port) ss = refl
 
-drawn_fit : (k : JobKind) (ports : List Port) (cs : List Content) (ss : List KeptStream) → AllFit ports cs ss
-    → AllFit ports cs (drawing k ss)
-drawn_fit (kind.Context handle target) ports cs ss fit = all_kept acquired target ports cs ss acquired_keeps fit
-drawn_fit (kind.Port port) ports cs ss fit = fit
+drawn_fit : (k : JobKind) (cs : List Content) (ss : List KeptStream) → AllFit cs ss → AllFit cs (drawing k ss)
+drawn_fit (kind.Context handle target) cs ss fit = all_kept acquired target cs ss acquired_keeps fit
+drawn_fit (kind.Port port) cs ss fit = fit
 
 drawn_seen : (k : JobKind) (n : ℕ) (ss : List KeptStream) → SeenSame (buffers_at n ss) (buffers_at n (drawing k ss))
 drawn_seen (kind.Context handle target) n ss = seen_mapped (changed_at target acquired)
@@ -58,8 +59,10 @@ pub record HasBegun (was now : Inside) (b : Beginning) (frame : Frame) (contents
   pub store : now.store ≡ record was.store { streams = drawing b.kind (latch (scene_streams b.scene) was.store.streams) }
   pub core : now.core ≡ was.core
   pub shaped : AreShapedAs (latch (scene_streams b.scene) was.store.streams) contents
-  pub modes : map port_of now.ports.items ≡ map port_of was.ports.items
-  pub fit : PortsFit (Some (running_of frame)) 1 now.ports.items
+  pub display : now.display ≡ was.display
+  pub shown : b.display ≡ was.display
+  pub modes : map sizes_of now.ports.items ≡ map sizes_of was.ports.items
+  pub fit : PortsFit (Some frame) 1 now.ports.items
   pub begun : now.begun ≡ was.begun + 1
   pub frame_is : now.frame ≡ Some frame
   pub number : frame.number ≡ was.begun + 1
@@ -67,7 +70,7 @@ pub record HasBegun (was now : Inside) (b : Beginning) (frame : Frame) (contents
   pub size : frame.size ≡ b.scene.size
   pub format_is : frame.format ≡ b.format
   pub shapes : frame.contents.items ≡ map content_shape contents
-  pub own : KindFits (map port_of was.ports.items) (drawing b.kind (latch (scene_streams b.scene) was.store.streams))
+  pub own : KindFits (map sizes_of was.ports.items) frame.mode (drawing b.kind (latch (scene_streams b.scene) was.store.streams))
       b.scene.size b.format b.kind
 
 module _ (was now : Inside) (b : Beginning) (frame : Frame) (contents : Images) (begun : HasBegun was now b frame contents)
@@ -95,7 +98,7 @@ module _ (was now : Inside) (b : Beginning) (frame : Frame) (contents : Images) 
   shaped_now = subst (λ c. AreShapedAs (latch names streams) c) begun.taken begun.shaped
 
   as_many : length now.ports.items ≡ length was.ports.items
-  as_many = omega (arith, length-map now.ports.items port_of, length-map was.ports.items port_of, ap length begun.modes)
+  as_many = omega (arith, length-map now.ports.items sizes_of, length-map was.ports.items sizes_of, ap length begun.modes)
 
   numbered_now : now.store.numbered ≡ was.store.numbered
   numbered_now = ap (λ v. v.numbered) begun.store
@@ -109,20 +112,21 @@ module _ (was now : Inside) (b : Beginning) (frame : Frame) (contents : Images) 
   latched_numbered : IsNumbered 0 (latch names streams) was.store.numbered
   latched_numbered = numbered_latch names 0 was.store.numbered streams sound.numbered
 
-  pub latched_fit : AllFit (map port_of was.ports.items) (map content_shape (newest_images names streams)) (latch names streams)
+  pub latched_fit : AllFit (map content_shape (newest_images names streams)) (latch names streams)
   latched_fit =
-      let fit = subst (λ cs. AllFit (map port_of was.ports.items) cs streams) no_contents sound.streams in
-      all_latched names (map port_of was.ports.items) was.store.numbered streams sound.numbered shaped_now fit
+      let fit = subst (λ cs. AllFit cs streams) no_contents sound.streams in
+      all_latched names was.store.numbered streams sound.numbered shaped_now fit
 
   pub sound_begun : IsSound now
   sound_begun =
       record {
         fits = rw begun.core (still_fits was.core was.store now.store others_now (omega (arith, made_now))
             (λ n within. rw streams_are (begun_seen b.kind names n streams)) sound.fits);
-        others = rw others_now sound.others;
+        shows = rw begun.display (still_shown was.display was.store now.store others_now (omega (arith, made_now)) sound.numbered
+            (λ n within. rw streams_are (begun_seen b.kind names n streams)) sound.shows);
         numbered = rw (streams_are, numbered_now) (drawn_numbered b.kind was.store.numbered (latch names streams) latched_numbered);
         few = omega (arith, as_many, sound.few);
-        screens = omega (arith, as_many, numbered_now, sound.screens);
+        modes = begun.modes ∙ sound.modes ∙ ap modes_of (sym begun.display);
         ports = rw begun.frame_is begun.fit;
         small = rw streams_are (omega (
           arith,
@@ -130,9 +134,8 @@ module _ (was now : Inside) (b : Beginning) (frame : Frame) (contents : Images) 
           drawn_bytes b.kind (latch names streams),
           bytes_mapped (latched_among names) (latch_keeps names) streams,
         ));
-        streams = rw (contents_are, begun.modes, streams_are)
-            (drawn_fit b.kind (map port_of was.ports.items) (map content_shape (newest_images names streams)) (latch names streams)
-            latched_fit);
+        streams = rw (contents_are, streams_are)
+            (drawn_fit b.kind (map content_shape (newest_images names streams)) (latch names streams) latched_fit);
         frame = rw (begun.frame_is, begun.kind_is, begun.size, begun.format_is, begun.modes, streams_are) begun.own;
         once = rw contents_are (taken_once (flat_map layer_names b.scene.layers.items) streams);
         known = rw (contents_are, numbered_now) (all_numbered was.store.numbered (latch names streams) (newest_images names streams)
@@ -145,25 +148,22 @@ module _ (was now : Inside) (b : Beginning) (frame : Frame) (contents : Images) 
 
   pub left_begun : state_of now ≡ (start b (state_of was)).0
   left_begun =
-      let state : ℕ → StoreView → CoreState → List Port → Option Running → State = λ n v core ps f.
+      let state : ℕ → StoreView → CoreState → DisplayState → Option Running → State = λ n v core display f.
       record {
         made = v.made;
         numbered = v.numbered;
         begun = n;
         streams = v.streams;
         core = core;
-        display = record { ports = ps };
-        frame =
-            f;
+        display = display;
+        frame = f;
       } in
       let left : StoreView = record was.store { streams = after } in
-      let ps = map port_of was.ports.items in
-      ap (λ v. state now.begun v now.core (map port_of now.ports.items) (option_map running_of now.frame)) begun.store
-      ∙ ap (λ n. state n left now.core (map port_of now.ports.items) (option_map running_of now.frame)) begun.begun
-      ∙ ap (λ core. state (was.begun + 1) left core (map port_of now.ports.items) (option_map running_of now.frame))
-      begun.core
-      ∙ ap (λ qs. state (was.begun + 1) left was.core qs (option_map running_of now.frame)) begun.modes
-      ∙ ap (λ o. state (was.begun + 1) left was.core ps o) frame_is
+      ap (λ v. state now.begun v now.core now.display (option_map running_of now.frame)) begun.store
+      ∙ ap (λ n. state n left now.core now.display (option_map running_of now.frame)) begun.begun
+      ∙ ap (λ core. state (was.begun + 1) left core now.display (option_map running_of now.frame)) begun.core
+      ∙ ap (λ d. state (was.begun + 1) left was.core d (option_map running_of now.frame)) (begun.display ∙ sym begun.shown)
+      ∙ ap (λ o. state (was.begun + 1) left was.core b.display o) frame_is
     where
       frame_is : option_map running_of now.frame ≡ Some (shape_of_job job)
       frame_is =

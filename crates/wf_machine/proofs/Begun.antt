@@ -1,10 +1,10 @@
 -- What holds of the streams once a frame has taken their images.
 use Rattle.wf_machine.proofs.Common.{◌≡◌, ℕ, ◌+◌, ◌<◌, ◌≤◌, Bool, true, false, cond, ◌==◌, List, [], ◌∷◌, map, Option, Some, None, refl}
-use Rattle.wf_machine.proofs.Common.{sym, ap, subst, ◌∙◌, arith, find, option_map, IfSome, IsSomeAnd, eq-eqb, nat_tests, is_in, nth, once}
+use Rattle.wf_machine.proofs.Common.{sym, ap, subst, ◌∙◌, arith, find, option_map, IsSomeAnd, eq-eqb, nat_tests, is_in, once}
 use Rattle.wf_machine.proofs.Common.{Bitmap, image_of, Buffers, HasShape, latched, newest, KeptStream, IsNumbered, buffers_at, stream_at}
-use Rattle.wf_machine.proofs.Common.{Content, Port, content_shape, latch, latched_among, newest_images, newest_of, Images, AreAtHome}
-use Rattle.wf_machine.proofs.Common.{AreShapedAs, IsShapedAs, Inside, AllFit, AreNumbered, AreOnce, IsRead, IsScreen, StreamFits}
-use Rattle.wf_machine.proofs.Common.{content_at, contents_of, IsSound, port_of, running_of, by_number, NoneTwice, once_none_twice}
+use Rattle.wf_machine.proofs.Common.{Content, content_shape, latch, latched_among, newest_images, newest_of, Images, AreAtHome}
+use Rattle.wf_machine.proofs.Common.{AreShapedAs, IsShapedAs, Inside, AllFit, AreNumbered, AreOnce, IsRead, StreamFits}
+use Rattle.wf_machine.proofs.Common.{content_at, contents_of, IsSound, running_of, by_number, NoneTwice, once_none_twice}
 use Rattle.wf_machine.proofs.Latches.{image_newest, latched_keeps}
 use Rattle.wf_machine.proofs.Mapped.{found_mapped, latch_keeps}
 
@@ -38,14 +38,6 @@ stream_latched ns n streams = found_mapped (latched_among ns) (latch_keeps ns) n
 latched_size : (b : Buffers) → (latched b).size ≡ b.size
 latched_size b = latched_keeps.size b
 
-latched_format : (b : Buffers) → (latched b).format ≡ b.format
-latched_format b = latched_keeps.format b
-
--- a screen that is latched is a screen
-screen_latched : (b : Buffers) (o : Option Port) → IfSome o (IsScreen b) → IfSome o (IsScreen (latched b))
-screen_latched b None is = tt
-screen_latched b (Some p) is = (latched_size b ∙ is.0, latched_format b ∙ is.1)
-
 -- the read image of a stream that is latched
 read_latched : (b : Buffers) (n : ℕ) (o : Option Bitmap) → newest b ≡ o → IsRead b None
     → ((image : Bitmap) → o ≡ Some image → HasShape (latched b).size (latched b).format image)
@@ -55,15 +47,15 @@ read_latched b n (Some image) is home shape =
     let has = shape image refl in
     (rw is refl, sym has.size_is, sym has.format_is)
 
-module _ (ns : List ℕ) (ports : List Port) (whole : List KeptStream) (shaped : AreShapedAs (latch ns whole) (newest_images ns whole)) where
+module _ (ns : List ℕ) (whole : List KeptStream) (shaped : AreShapedAs (latch ns whole) (newest_images ns whole)) where
   abbrev taken : List Content
   taken = map content_shape (newest_images ns whole)
 
-  one_fits : (s : KeptStream) → stream_at s.number whole ≡ Some s → StreamFits ports [] s → StreamFits ports taken (latched_among ns s)
+  one_fits : (s : KeptStream) → stream_at s.number whole ≡ Some s → StreamFits [] s → StreamFits taken (latched_among ns s)
   one_fits s found fits = by_member (is_in s.number ns) refl
     where
       Fits : Bool → Type 0
-      Fits b = StreamFits ports taken (cond b (record s { buffers = latched s.buffers }) s)
+      Fits b = StreamFits taken (cond b (record s { buffers = latched s.buffers }) s)
 
       image_is : (b : Bool) → is_in s.number ns ≡ b → image_of s.number (newest_images ns whole) ≡ cond b (newest s.buffers) None
       image_is b is = image_newest ns s.number whole ∙ ap (λ c. cond c (newest_of (stream_at s.number whole)) None) is
@@ -84,11 +76,10 @@ module _ (ns : List ℕ) (ports : List Port) (whole : List KeptStream) (shaped :
           rw here at has
 
       by_member : (b : Bool) → is_in s.number ns ≡ b → Fits b
-      by_member false is = record { sides = fits.sides; screen = fits.screen; read = rw (content_is false is) fits.read }
+      by_member false is = record { sides = fits.sides; read = rw (content_is false is) fits.read }
       by_member true is =
           record {
             sides = rw (latched_size s.buffers) fits.sides;
-            screen = screen_latched s.buffers (nth s.number ports) fits.screen;
             read = rw (content_is true is) (read_latched s.buffers s.number (newest s.buffers) refl fits.read (shape is));
           }
 
@@ -111,15 +102,15 @@ all_found low high (s ∷ streams) rising =
     (rw here refl, found_behind s s.number high streams streams (omega arith) rising.1 (all_found s.number high streams rising.1))
 
 -- all streams fit beside the frame that took their images
-pub all_latched : (ns : List ℕ) (ports : List Port) (high : ℕ) (streams : List KeptStream) → IsNumbered 0 streams high
-    → AreShapedAs (latch ns streams) (newest_images ns streams) → AllFit ports [] streams
-    → AllFit ports (map content_shape (newest_images ns streams)) (latch ns streams)
-all_latched ns ports high streams rising shaped fit = each streams (all_found 0 high streams rising) fit
+pub all_latched : (ns : List ℕ) (high : ℕ) (streams : List KeptStream) → IsNumbered 0 streams high
+    → AreShapedAs (latch ns streams) (newest_images ns streams) → AllFit [] streams
+    → AllFit (map content_shape (newest_images ns streams)) (latch ns streams)
+all_latched ns high streams rising shaped fit = each streams (all_found 0 high streams rising) fit
   where
-    each : (ss : List KeptStream) → AllFound streams ss → AllFit ports [] ss
-        → AllFit ports (map content_shape (newest_images ns streams)) (latch ns ss)
+    each : (ss : List KeptStream) → AllFound streams ss → AllFit [] ss
+        → AllFit (map content_shape (newest_images ns streams)) (latch ns ss)
     each [] found fits = tt
-    each (s ∷ ss) found fits = (one_fits ns ports streams shaped s found.0 fits.0, each ss found.1 fits.1)
+    each (s ∷ ss) found fits = (one_fits ns streams shaped s found.0 fits.0, each ss found.1 fits.1)
 
 contents_once : (ns : List ℕ) (streams : List KeptStream) → NoneTwice ns → AreOnce (map content_shape (newest_images ns streams))
 contents_once [] streams none = tt
@@ -165,12 +156,11 @@ all_numbered high streams (pair ∷ contents) rising shaped =
     (shaped_numbered pair.0 high pair.1 streams rising shaped.0, all_numbered high streams contents rising shaped.1)
 
 -- while no frame runs all streams are at home
-pub all_home : (ports : List Port) (streams : List KeptStream) → AllFit ports [] streams → AreAtHome streams
-all_home ports [] fit = tt
-all_home ports (s ∷ streams) fit = (fit.0.read, all_home ports streams fit.1)
+pub all_home : (streams : List KeptStream) → AllFit [] streams → AreAtHome streams
+all_home [] fit = tt
+all_home (s ∷ streams) fit = (fit.0.read, all_home streams fit.1)
 
 pub home_without : (m : Inside) → m.frame ≡ None → IsSound m → AreAtHome m.store.streams
 home_without m free sound =
-    all_home (map port_of m.ports.items) m.store.streams
-    (subst (λ f. AllFit (map port_of m.ports.items) (contents_of (option_map running_of f)) m.store.streams) free
-    sound.streams)
+    all_home m.store.streams
+    (subst (λ f. AllFit (contents_of (option_map running_of f)) m.store.streams) free sound.streams)

@@ -14,7 +14,7 @@ pub use Rattle.std.specs.List.{AllByRecursion, list_all, list_any, range_with_le
 pub use Rattle.std.specs.Option.{IfSome, IsSomeAnd, option_map}
 pub use Rattle.std.specs.Prelude.{find, flat_map, is_some, nat_le, nat_lt, negsuc, pos, slice_get, sum_by, ℤ}
 pub use Rattle.wf_calls.specs.Codes.{is_ok_code, is_out_of_memory}
-pub use Rattle.wf_calls.specs.Parts.{Register, no_register, of_device, register_of}
+pub use Rattle.wf_calls.specs.Parts.{Register, no_register, of_device, of_display, register_of}
 pub use Rattle.wf_calls.specs.Replies.{bare, done, gives_job, refusal, refused}
 pub use Rattle.wf_calls.specs.declared.call.Call.{Call}
 pub use Rattle.wf_calls.specs.declared.call.Job.{Job}
@@ -27,33 +27,36 @@ pub use Rattle.wf_image.specs.Bitmap.{Bitmap, blank}
 pub use Rattle.wf_image.specs.Contents.{image_of}
 pub use Rattle.wf_image.specs.declared.canvas.Canvas.{Canvas}
 pub use Rattle.wf_life.specs.Handles.{Live}
-pub use Rattle.wf_machine.specs.Fitting.{AllFit, AreNumbered, AreOnce, FrameFits, IsComposable, IsDue, IsOfTarget, IsRead, IsScreen}
+pub use Rattle.wf_machine.specs.Fitting.{AllFit, AreNumbered, AreOnce, FrameFits, IsComposable, IsDue, IsOfMode, IsOfTarget, IsRead}
 pub use Rattle.wf_machine.specs.Fitting.{KindFits, PortFits, PortsFit, StreamFits, away_of, content_at, contents_of, is_of_running}
+pub use Rattle.wf_machine.specs.Fitting.{mode_of}
 pub use Rattle.wf_machine.specs.Inside.{IsSound, state_of}
 pub use Rattle.wf_machine.specs.Latching.{AreAtHome, AreAwaited, AreShapedAs, Awaits, IsShapedAs}
 pub use Rattle.wf_machine.specs.Object.{IsAct, IsAnswer, IsOfSomePort, IsSettled, IsStep, SameImage}
-pub use Rattle.wf_machine.specs.Ports.{HoldsBut, IsFrameImage, port_of, running_of}
+pub use Rattle.wf_machine.specs.Ports.{HoldsBut, IsFrameImage, running_of, sizes_of}
 pub use Rattle.wf_machine.specs.Starting.{IsReady, MayStart, beginning_of}
 pub use Rattle.wf_machine.specs.declared.frame.Frame.{Frame}
 pub use Rattle.wf_machine.specs.declared.parts.Parts.TheInside.{Inside}
 pub use Rattle.wf_model.specs.Composing.{screen_of}
-pub use Rattle.wf_model.specs.Display.{scene_of_port, screen_layer}
+pub use Rattle.wf_model.specs.Display.{begun_display, port_scene}
 pub use Rattle.wf_model.specs.Effects.{Effect, effect}
 pub use Rattle.wf_model.specs.Frames.{Beginning, begin_port, brought_home, content_shape, delivered, drawing, end, has_shape, home_if}
 pub use Rattle.wf_model.specs.Frames.{is_of_frame, is_running, is_target, job_of, latch, latched_among, newest_images, newest_of}
 pub use Rattle.wf_model.specs.Frames.{scene_streams, start, target_ready}
+pub use Rattle.wf_model.specs.Kept.{modes_of}
 pub use Rattle.wf_model.specs.Names.{all_names, core_names, display_names, frame_names, kept, layer_names, own_names, settle, settle_if}
 pub use Rattle.wf_model.specs.Names.{target_names}
 pub use Rattle.wf_model.specs.Objects.{Context, CoreState}
 pub use Rattle.wf_model.specs.Picture.{Images}
 pub use Rattle.wf_model.specs.Registers.{offered}
-pub use Rattle.wf_model.specs.State.{Port, Running, State, initial_port, mode_size, opening, screen}
+pub use Rattle.wf_model.specs.State.{DisplayState, Running, State, mode_size, opening, screen}
 unfoldable pub use Rattle.wf_model.specs.Step.{act, step}
 pub use Rattle.wf_model.specs.Streams.{acquirable, acquire_step, canvas_back, canvas_of, is_out_at_client, new_buffers, size_from}
 pub use Rattle.wf_model.specs.Streams.{stream_new, stream_step, with_stream}
 pub use Rattle.wf_model.specs.declared.Content.{Content}
-pub use Rattle.wf_objects.specs.Fits.{ContextFits, Fits, IsOfPixels, LayerFits}
-pub use Rattle.wf_objects.specs.Marks.{Marks}
+pub use Rattle.wf_objects.specs.Fits.{ContextFits, Fits}
+pub use Rattle.wf_model.specs.Fitting.{IsOfPixels, LayerFits}
+pub use Rattle.wf_stream.specs.Marks.{Marks}
 pub use Rattle.wf_objects.specs.Shows.{next_shown}
 pub use Rattle.wf_pixel.specs.Choice.{has_sides, is_a8, is_side, same_format, same_size}
 pub use Rattle.wf_pixel.specs.Place.{IsDrawn}

@@ -3,7 +3,7 @@ use Rattle.wf_machine.proofs.Common.{◌≡◌, ◌≢◌, ℕ, ◌<◌, Bool, t
 use Rattle.wf_machine.proofs.Common.{ap, subst, ◌∙◌, arith, IsTrue, nat_le, nat_lt, ℤ, pos, negsuc, AllByRecursion, option_map, IfSome}
 use Rattle.wf_machine.proofs.Common.{IsSomeAnd, and_parts, leb-true, ints, All-cons, All-nil, Size, Format, Rgba8, Rgba8Pre, Rgbx8, A8}
 use Rattle.wf_machine.proofs.Common.{has_sides, is_a8, is_side, IsDrawn, Bitmap, image_of, Buffers, HasShape, KeptStream, buffers_at}
-use Rattle.wf_machine.proofs.Common.{stream_at, Layer, Scene, holds_rect, LayerFits, Content, Port, Images, AllFit, IsComposable}
+use Rattle.wf_machine.proofs.Common.{stream_at, Layer, Scene, holds_rect, LayerFits, Content, Images, AllFit}
 use Rattle.wf_machine.proofs.Common.{AreShapedAs}
 use Rattle.std.proofs.Common.{T}
 use lib.Signed.{le_z_yes}
@@ -96,15 +96,24 @@ is_mask Rgba8Pre is = absurd cc
 is_mask Rgbx8 is = absurd cc
 
 -- the sides of a stream that is kept
-pub sides_at : (ports : List Port) (cs : List Content) (n : ℕ) (ss : List KeptStream) → AllFit ports cs ss
+pub sides_at : (cs : List Content) (n : ℕ) (ss : List KeptStream) → AllFit cs ss
     → IfSome (buffers_at n ss) (λ b. has_sides b.size ≡ true)
-sides_at ports cs n [] fit = tt
-sides_at ports cs n (s ∷ ss) fit =
+sides_at cs n [] fit = tt
+sides_at cs n (s ∷ ss) fit =
     elim (s.number == n) as (λ b. IfSome (option_map (λ t. t.buffers) (cond b (Some s) (stream_at n ss)))
-    (λ c. has_sides c.size ≡ true)) [ true ↦ fit.0.sides | false ↦ sides_at ports cs n ss fit.1 ]
+    (λ c. has_sides c.size ≡ true)) [ true ↦ fit.0.sides | false ↦ sides_at cs n ss fit.1 ]
 
-module _ (ports : List Port) (cs : List Content) (ss : List KeptStream) (contents : Images) (fit : AllFit ports cs ss)
-    (shaped : AreShapedAs ss contents) where
+-- a target of a scene's size has sides, and so has the scene
+pub target_sides : (cs : List Content) (target : ℕ) (scene : Scene) (ss : List KeptStream) → AllFit cs ss
+    → IsSomeAnd (buffers_at target ss) (λ b. (b.size ≡ scene.size) × (is_a8 b.format ≡ false)) → has_sides scene.size ≡ true
+target_sides cs target scene ss fit is = of_buffers (buffers_at target ss) (sides_at cs target ss fit) is
+  where
+    of_buffers : (o : Option Buffers) → IfSome o (λ b. has_sides b.size ≡ true)
+        → IsSomeAnd o (λ b. (b.size ≡ scene.size) × (is_a8 b.format ≡ false)) → has_sides scene.size ≡ true
+    of_buffers None sides is = absurd is
+    of_buffers (Some b) sides is = subst (λ s. has_sides s ≡ true) is.0 sides
+
+module _ (cs : List Content) (ss : List KeptStream) (contents : Images) (fit : AllFit cs ss) (shaped : AreShapedAs ss contents) where
   -- an image of a stream has its shape
   shape_of : (n : ℕ) (i : Bitmap) (P : Buffers → Type 0) → image_of n contents ≡ Some i → IsSomeAnd (buffers_at n ss) P → (b : Buffers)
       × (HasShape b.size b.format i) × (P b)
@@ -117,7 +126,7 @@ module _ (ports : List Port) (cs : List Content) (ss : List KeptStream) (content
 
   -- the source rectangle lies inside a stream with sides
   src_of : (l : Layer) → LayerFits ss l → (size : Size) × (has_sides size ≡ true) × (holds_rect size l.src ≡ true)
-  src_of l fits = of_buffers (buffers_at l.stream ss) (sides_at ports cs l.stream ss fit) fits.source
+  src_of l fits = of_buffers (buffers_at l.stream ss) (sides_at cs l.stream ss fit) fits.source
     where
       of_buffers : (o : Option Buffers) → IfSome o (λ b. has_sides b.size ≡ true)
           → IsSomeAnd o (λ b. (is_a8 b.format ≡ false) × (holds_rect b.size l.src ≡ true)) → (size : Size) × (has_sides size ≡ true)
@@ -157,17 +166,8 @@ module _ (ports : List Port) (cs : List Content) (ss : List KeptStream) (content
   layers_show [] fits = All-nil (Shows contents)
   layers_show (l ∷ ls) fits = All-cons (Shows contents) l ls (layer_shows l fits.0) (layers_show ls fits.1)
 
-  -- the scene of a context, and the images of its streams
-  pub scene_shows : (target : ℕ) (scene : Scene) → IsComposable ss target scene → Fits scene contents
-  scene_shows target scene fits =
-      let sides = target_sides target scene fits in
+  -- a scene with sides whose layers fit, and the images of its streams
+  pub scene_shows : (scene : Scene) → has_sides scene.size ≡ true → AllByRecursion (LayerFits ss) scene.layers.items → Fits scene contents
+  scene_shows scene sides fit =
       let each = and_parts (is_side scene.size.w) (is_side scene.size.h) sides in
-      record { w = each.0; h = each.1; layers = layers_show scene.layers.items fits.layers }
-    where
-      target_sides : (target : ℕ) (scene : Scene) → IsComposable ss target scene → has_sides scene.size ≡ true
-      target_sides target scene fits = of_buffers (buffers_at target ss) (sides_at ports cs target ss fit) fits.target_is
-        where
-          of_buffers : (o : Option Buffers) → IfSome o (λ b. has_sides b.size ≡ true)
-              → IsSomeAnd o (λ b. (b.size ≡ scene.size) × (is_a8 b.format ≡ false)) → has_sides scene.size ≡ true
-          of_buffers None sides is = absurd is
-          of_buffers (Some b) sides is = subst (λ s. has_sides s ≡ true) is.0 sides
+      record { w = each.0; h = each.1; layers = layers_show scene.layers.items fit }

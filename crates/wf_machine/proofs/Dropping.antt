@@ -2,11 +2,14 @@
 use Rattle.wf_machine.proofs.Common.{◌≡◌, ℕ, zero, suc, ◌+◌, ◌<◌, ◌≤◌, Bool, true, false, cond, ◌==◌, ◌||◌, List, [], ◌∷◌, ◌++◌, length}
 use Rattle.wf_machine.proofs.Common.{map, filter, Option, Some, None, refl, sym, ap, subst, ◌∙◌, arith, flat_map, sum_by, range_with_len}
 use Rattle.wf_machine.proofs.Common.{option_map, IfSome, eqb-true, nat_tests, length-map, list_any-append, sum_by-cons, is_in, buffer_bytes}
-use Rattle.wf_machine.proofs.Common.{KeptStream, StoreView, IsNumbered, buffers_at, held, stream_at, JobKind, Content, Port, Running, State}
-use Rattle.wf_machine.proofs.Common.{initial_port, opening, screen, all_names, core_names, display_names, frame_names, kept, own_names}
+use Rattle.wf_machine.proofs.Common.{KeptStream, StoreView, IsNumbered, buffers_at, held, stream_at, JobKind, Content, Size, Frame, State}
+use Rattle.wf_machine.proofs.Common.{opening, screen, all_names, core_names, display_names, frame_names, kept, own_names}
 use Rattle.wf_machine.proofs.Common.{settle, target_names, Modes, Ports, Inside, AllFit, FrameFits, IsOfTarget, KindFits, contents_of}
-use Rattle.wf_machine.proofs.Common.{IsSound, state_of, IsSettled, port_of, running_of}
+use Rattle.wf_machine.proofs.Common.{IsSound, state_of, IsSettled, running_of, sizes_of}
 use Rattle.wf_calls.specs.declared.call.JobKind.TheVariants as kind
+use Rattle.wf_model.specs.Names.{pipeline_names}
+use Rattle.wf_model.specs.State.{initial_port}
+use Rattle.wf_machine.proofs.StillShown.{still_shown}
 use Rattle.wf_machine.proofs.Opening.{screens}
 use Rattle.wf_machine.proofs.StillComposed.{in_back, in_first, in_front, still_fits}
 
@@ -53,15 +56,12 @@ bytes_among ns (s ∷ ss) =
       | false ↦ omega (arith, later, sum_by-cons each s ss)
     ]
 
-fit_among : (ns : List ℕ) (ports : List Port) (cs : List Content) (ss : List KeptStream) → AllFit ports cs ss
-    → AllFit ports cs (among ns ss)
-fit_among ns ports cs [] fit = tt
-fit_among ns ports cs (s ∷ ss) fit = elim (is_in s.number ns)
-    as (λ b. AllFit ports cs (cond b (s ∷ among ns ss) (among ns ss))) [
-      | true ↦ (fit.0, fit_among ns ports cs ss fit.1)
-      | false ↦ fit_among
-          ns ports cs ss fit.1
-    ]
+fit_among : (ns : List ℕ) (cs : List Content) (ss : List KeptStream) → AllFit cs ss → AllFit cs (among ns ss)
+fit_among ns cs [] fit = tt
+fit_among ns cs (s ∷ ss) fit = elim (is_in s.number ns) as (λ b. AllFit cs (cond b (s ∷ among ns ss) (among ns ss))) [
+  | true ↦ (fit.0, fit_among ns cs ss fit.1)
+  | false ↦ fit_among ns cs ss fit.1
+]
 
 -- the names of a state
 
@@ -71,20 +71,25 @@ core_named h n within =
     (in_front n (flat_map own_names h.streams ++ core_names h.core) (display_names h.display)
     (in_back n (flat_map own_names h.streams) (core_names h.core) within))
 
+display_named : (h : State) (n : ℕ) → is_in n (display_names h.display) ≡ true → is_in n (all_names h) ≡ true
+display_named h n within =
+    in_front n ((flat_map own_names h.streams ++ core_names h.core) ++ display_names h.display) (frame_names h.frame)
+    (in_back n (flat_map own_names h.streams ++ core_names h.core) (display_names h.display) within)
+
 frame_named : (h : State) (n : ℕ) → is_in n (frame_names h.frame) ≡ true → is_in n (all_names h) ≡ true
 frame_named h n within = in_back n ((flat_map own_names h.streams ++ core_names h.core) ++ display_names h.display) (frame_names h.frame)
     within
 
 -- the target of the running frame is left
-frame_among : (ns : List ℕ) (ports : List Port) (ss : List KeptStream) (o : Option Running)
-    → ((n : ℕ) → is_in n (frame_names o) ≡ true → is_in n ns ≡ true) → IfSome o (FrameFits ports ss)
-    → IfSome o (FrameFits ports (among ns ss))
-frame_among ns ports ss None named fits = tt
-frame_among ns ports ss (Some f) named fits = of_kind f.kind
-    (λ n within. named n (in_back n (map (λ c. c.stream) f.contents) (target_names f.kind) within)) fits
+frame_among : (ns : List ℕ) (modes : List (List Size)) (ss : List KeptStream) (o : Option Frame)
+    → ((n : ℕ) → is_in n (frame_names (option_map running_of o)) ≡ true → is_in n ns ≡ true) → IfSome o (FrameFits modes ss)
+    → IfSome o (FrameFits modes (among ns ss))
+frame_among ns modes ss None named fits = tt
+frame_among ns modes ss (Some f) named fits = of_kind f.kind
+    (λ n within. named n (in_back n (map (λ c. c.stream) f.contents.items) (target_names f.kind) within)) fits
   where
-    of_kind : (k : JobKind) → ((n : ℕ) → is_in n (target_names k) ≡ true → is_in n ns ≡ true) → KindFits ports ss f.size f.format k
-        → KindFits ports (among ns ss) f.size f.format k
+    of_kind : (k : JobKind) → ((n : ℕ) → is_in n (target_names k) ≡ true → is_in n ns ≡ true) → KindFits modes f.mode ss f.size f.format k
+        → KindFits modes f.mode (among ns ss) f.size f.format k
     of_kind (kind.Context handle target) named fits = subst (λ o. IsOfTarget o f.size f.format)
         (sym (seen_among ns target ss (named target (in_first target [])))) fits
     of_kind (kind.Port port) named fits = fits
@@ -99,14 +104,22 @@ sound_settled m store streams others made numbered sound =
       fits = still_fits m.core m.store store others (omega (arith, made))
           (λ n within b found. (b, ap (buffers_at n) streams ∙ seen_among ns n ss (core_named (state_of m) n within) ∙ found, refl, refl))
           sound.fits;
-      others = rw others sound.others;
+      shows = still_shown m.display m.store store others (omega (arith, made)) sound.numbered
+          (λ n within b found. (
+            b,
+            ap (buffers_at n) streams ∙ seen_among ns n ss (display_named (state_of m) n within)
+                ∙ found,
+            refl,
+            refl,
+          ))
+          sound.shows;
       numbered = rw (streams, numbered) (numbered_among ns 0 m.store.numbered ss sound.numbered);
       few = sound.few;
-      screens = rw numbered sound.screens;
+      modes = sound.modes;
       ports = sound.ports;
       small = rw streams (omega (arith, sound.small, bytes_among ns ss));
-      streams = rw streams (fit_among ns (map port_of m.ports.items) (contents_of (option_map running_of m.frame)) ss sound.streams);
-      frame = rw streams (frame_among ns (map port_of m.ports.items) ss (option_map running_of m.frame) (frame_named (state_of m))
+      streams = rw streams (fit_among ns (contents_of (option_map running_of m.frame)) ss sound.streams);
+      frame = rw streams (frame_among ns (map sizes_of m.ports.items) ss m.frame (frame_named (state_of m))
           sound.frame);
       once = sound.once;
       known = rw numbered sound.known;
@@ -210,8 +223,10 @@ opening_settled ports =
     let ms = ports.modes.items in
     let h = opening ports in
     sym (screens_left (all_names h) 1 ms (λ n from to. (
-    let many : length (map initial_port ms) ≡ length ms = length-map ms initial_port in
-    let named : is_in n (display_names h.display) ≡ true = ap (λ k. is_in n (range_with_len 1 k)) many
+    let many : length h.display.ports ≡ length ms = length-map ms initial_port in
+    let screen : is_in n (range_with_len 1 (length h.display.ports)) ≡ true = ap (λ k. is_in n (range_with_len 1 k)) many
     ∙ in_range n 1 (length ms) from to in
-    in_front n ((flat_map own_names h.streams ++ core_names h.core) ++ display_names h.display) (frame_names h.frame)
-    (in_back n (flat_map own_names h.streams ++ core_names h.core) (display_names h.display) named))))
+    let sources = map (λ s. s.stream) h.display.sources in
+    let pipelines = flat_map pipeline_names h.display.pipelines in
+    display_named h n (in_front n (range_with_len 1 (length h.display.ports) ++ sources) pipelines
+    (in_front n (range_with_len 1 (length h.display.ports)) sources screen)))))

@@ -1,17 +1,17 @@
 -- The machine once its frame has ended.
-use Rattle.wf_machine.proofs.Common.{◌≡◌, ℕ, ◌+◌, ◌-◌, ◌<◌, ◌≤◌, true, cond, ◌==◌, List, [], ◌∷◌, length, map, Option, Some, None, refl}
-use Rattle.wf_machine.proofs.Common.{sym, ap, subst, ◌∙◌, arith, zero, suc, slice_get, list_all, option_map, IfSome, IsSomeAnd, and_parts}
-use Rattle.wf_machine.proofs.Common.{eqb-true, length-map, nth, Rgba8Pre, same_format, same_size, Bitmap, image_of, Buffers, HasShape, away}
-use Rattle.wf_machine.proofs.Common.{posted, returned, KeptStream, StoreView, IsNumbered, buffers_at, held, stream_at, Job, JobKind, Reply}
-use Rattle.wf_machine.proofs.Common.{Content, Port, Running, State, mode_size, brought_home, delivered, end, has_shape, home_if}
-use Rattle.wf_machine.proofs.Common.{is_of_frame, CoreState, bare, done, Images, Frame, Inside, AllFit, AreOnce, FrameFits, IsDue}
-use Rattle.wf_machine.proofs.Common.{IsOfTarget, IsRead, IsScreen, KindFits, PortsFit, StreamFits, away_of, content_at, contents_of}
-use Rattle.wf_machine.proofs.Common.{is_of_running, IsSound, state_of, AreAwaited, Awaits, HoldsBut, IsFrameImage, port_of, running_of}
-use Rattle.wf_machine.proofs.Common.{by_number}
+use Rattle.wf_machine.proofs.Common.{◌≡◌, ℕ, ◌+◌, ◌-◌, true, cond, ◌==◌, List, [], ◌∷◌, length, map, Option, Some, None, refl}
+use Rattle.wf_machine.proofs.Common.{sym, ap, subst, ◌∙◌, arith, slice_get, list_all, option_map, IfSome, IsSomeAnd, and_parts}
+use Rattle.wf_machine.proofs.Common.{eqb-true, length-map, nth, Size, Rgba8Pre, same_format, same_size, Bitmap, image_of, Buffers}
+use Rattle.wf_machine.proofs.Common.{HasShape, away}
+use Rattle.wf_machine.proofs.Common.{posted, KeptStream, StoreView, IsNumbered, buffers_at, held, stream_at, Job, JobKind, Reply}
+use Rattle.wf_machine.proofs.Common.{Content, DisplayState, Running, State, brought_home, delivered, end, has_shape, home_if}
+use Rattle.wf_machine.proofs.Common.{is_of_frame, CoreState, bare, done, Images, Frame, Inside, AllFit, AreOnce, FrameFits, IsDue, IsOfMode}
+use Rattle.wf_machine.proofs.Common.{IsOfTarget, IsRead, KindFits, PortsFit, StreamFits, away_of, content_at, contents_of}
+use Rattle.wf_machine.proofs.Common.{is_of_running, IsSound, state_of, AreAwaited, Awaits, HoldsBut, running_of, sizes_of}
+use Rattle.wf_machine.proofs.Common.{by_number, mode_of, modes_of}
 use Rattle.wf_calls.specs.declared.call.JobKind.TheVariants as kind
 use Rattle.wf_model.specs.Frames.{end_frame, same_kind}
 use Rattle.wf_machine.specs.declared.port.Port as declared
-use Rattle.wf_machine.specs.Fitting.{IsOfPort}
 use Rattle.wf_machine.proofs.Buffering.{format_is, size_is}
 use Rattle.wf_machine.proofs.Beginning.{seen_twice}
 use Rattle.wf_machine.proofs.Drawing.{frame_home}
@@ -20,7 +20,9 @@ use Rattle.wf_machine.proofs.Mapped.{SeenSame, bytes_mapped, changed_at, changed
 use Rattle.wf_machine.proofs.Mapped.{seen_mapped}
 use Rattle.wf_machine.proofs.Shapes.{AreOf, Apart, IsOfShape, all_of, none_there}
 use Rattle.wf_machine.proofs.StillComposed.{still_fits}
+use Rattle.wf_machine.proofs.StillShown.{still_shown}
 use Rattle.wf_machine.proofs.StillFitting.{all_kept, posted_keeps, shape_kept}
+use Rattle.wf_machine.proofs.PortFrames.{at_place}
 
 -- what a Job shares with the running frame that it is of
 pub record IsEnd (job : Job) (f : Running) : Type 0 where
@@ -40,14 +42,14 @@ end_parts job f is =
     record { kind_is = second.1; size = third.1; format = fourth.1; many = eqb-true _ _ fifth.1; there = sixth.1 }
 
 -- the image of a stream's content comes home
-awaits_one : (cs : List Content) (ports : List Port) (streams : List KeptStream) (p : ℕ × Bitmap) → AllFit ports cs streams
+awaits_one : (cs : List Content) (streams : List KeptStream) (p : ℕ × Bitmap) → AllFit cs streams
     → IsSomeAnd (content_at p.0 cs) (λ c. IsOfShape c p.1) → Awaits streams p
-awaits_one cs ports [] p fit of = tt
-awaits_one cs ports (s ∷ streams) p fit of =
+awaits_one cs [] p fit of = tt
+awaits_one cs (s ∷ streams) p fit of =
     by_number (IfSome (option_map (λ t. t.buffers) (cond (s.number == p.0) (Some s) (stream_at p.0 streams)))
     (λ b. (b.read ≡ away) × HasShape b.size b.format p.1)) s.number p.0
     (λ here same. rw here (of_content (content_at p.0 cs) (subst (λ k. IsRead s.buffers (content_at k cs)) same fit.0.read) of))
-    (λ apart. rw apart (awaits_one cs ports streams p fit.1 of))
+    (λ apart. rw apart (awaits_one cs streams p fit.1 of))
   where
     of_content : (o : Option Content) → IsRead s.buffers o → IsSomeAnd o (λ c. IsOfShape c p.1) → (s.buffers.read ≡ away)
         × HasShape s.buffers.size s.buffers.format p.1
@@ -61,34 +63,27 @@ awaits_one cs ports (s ∷ streams) p fit of =
           },
         )
 
-all_await : (cs : List Content) (ports : List Port) (streams : List KeptStream) (xs : Images) → AllFit ports cs streams → AreOf cs xs
-    → Apart xs → AreAwaited streams xs
-all_await cs ports streams [] fit are apart = tt
-all_await cs ports streams (p ∷ xs) fit are apart =
-    (awaits_one cs ports streams p fit are.0, apart.0, all_await cs ports streams xs fit are.1 apart.1)
-
-screen_home : (image : Bitmap) (b : Buffers) (o : Option Port) → IfSome o (IsScreen b) → IfSome o (IsScreen (returned image b))
-screen_home image b None is = tt
-screen_home image b (Some p) is = is
+all_await : (cs : List Content) (streams : List KeptStream) (xs : Images) → AllFit cs streams → AreOf cs xs → Apart xs
+    → AreAwaited streams xs
+all_await cs streams [] fit are apart = tt
+all_await cs streams (p ∷ xs) fit are apart = (awaits_one cs streams p fit are.0, apart.0, all_await cs streams xs fit are.1 apart.1)
 
 -- all streams fit once the images are home and no frame runs
-all_back : (cs : List Content) (ports : List Port) (streams : List KeptStream) (xs : Images)
-    → list_all (λ c. has_shape (image_of c.stream xs) c) cs ≡ true → AllFit ports cs streams → AllFit ports [] (brought_home xs streams)
-all_back cs ports [] xs there fit = tt
-all_back cs ports (s ∷ streams) xs there fit = (of_image (image_of s.number xs) refl, all_back cs ports streams xs there fit.1)
+all_back : (cs : List Content) (streams : List KeptStream) (xs : Images)
+    → list_all (λ c. has_shape (image_of c.stream xs) c) cs ≡ true → AllFit cs streams → AllFit [] (brought_home xs streams)
+all_back cs [] xs there fit = tt
+all_back cs (s ∷ streams) xs there fit = (of_image (image_of s.number xs) refl, all_back cs streams xs there fit.1)
   where
-    of_image : (o : Option Bitmap) → image_of s.number xs ≡ o → StreamFits ports [] (home_if (image_of s.number xs) s)
+    of_image : (o : Option Bitmap) → image_of s.number xs ≡ o → StreamFits [] (home_if (image_of s.number xs) s)
     of_image None is =
         let none = none_there s.number cs xs there is in
         rw is (record {
           sides = fit.0.sides;
-          screen = fit.0.screen;
           read = subst (λ o. IsRead s.buffers o) none fit.0.read;
         })
     of_image (Some image) is =
         rw is (record {
           sides = fit.0.sides;
-          screen = screen_home image s.buffers (nth s.number ports) fit.0.screen;
           read = λ h. absurd cc;
         })
 
@@ -108,10 +103,10 @@ delivered_bytes (kind.Context handle target) image ss =
     bytes_mapped (changed_at target (posted image)) (changed_keeps target (posted image) (delivered_keeps image)) ss
 delivered_bytes (kind.Port port) image ss = refl
 
-delivered_fit : (k : JobKind) (image : Bitmap) (ports : List Port) (cs : List Content) (ss : List KeptStream) → AllFit ports cs ss
-    → AllFit ports cs (delivered k image ss)
-delivered_fit (kind.Context handle target) image ports cs ss fit = all_kept (posted image) target ports cs ss (posted_keeps image) fit
-delivered_fit (kind.Port port) image ports cs ss fit = fit
+delivered_fit : (k : JobKind) (image : Bitmap) (cs : List Content) (ss : List KeptStream) → AllFit cs ss
+    → AllFit cs (delivered k image ss)
+delivered_fit (kind.Context handle target) image cs ss fit = all_kept (posted image) target cs ss (posted_keeps image) fit
+delivered_fit (kind.Port port) image cs ss fit = fit
 
 delivered_seen : (k : JobKind) (image : Bitmap) (n : ℕ) (ss : List KeptStream)
     → SeenSame (buffers_at n ss) (buffers_at n (delivered k image ss))
@@ -150,13 +145,12 @@ same_kind_is (kind.Context handle target) (kind.Port q) is = absurd cc
 same_kind_is (kind.Port p) (kind.Context other into) is = absurd cc
 
 -- a context's frame has no image of a port away
-none_away : (f : Running) (handle target : ℕ) → f.kind ≡ kind.Context handle target → (k : ℕ) (ps : List declared.Port)
+none_away : (f : Frame) (handle target : ℕ) → f.kind ≡ kind.Context handle target → (k : ℕ) (ps : List declared.Port)
     → PortsFit (Some f) k ps → PortsFit None k ps
 none_away f handle target is k [] fit = tt
 none_away f handle target is k (p ∷ ps) fit =
     let none : away_of (Some f) k ≡ 0 = rw is refl in (
       record {
-        some = fit.0.some;
         sides = fit.0.sides;
         images = subst (λ n. HoldsBut n p.modes.items p.images.items) none fit.0.images;
       },
@@ -173,20 +167,20 @@ module _ (m : Inside) (job : Job) (is : is_of_running job (option_map running_of
   parts : IsEnd job (running_of f)
   parts = end_parts job (running_of f) (running_frame m job is).2
 
-  abbrev ports : List Port
-  ports = map port_of m.ports.items
+  abbrev modes : List (List Size)
+  modes = map sizes_of m.ports.items
 
   contents_are : contents_of (option_map running_of m.frame) ≡ f.contents.items
   contents_are = ap (λ o. contents_of (option_map running_of o)) runs
 
-  fit : AllFit ports f.contents.items m.store.streams
-  fit = subst (λ cs. AllFit ports cs m.store.streams) contents_are sound.streams
+  fit : AllFit f.contents.items m.store.streams
+  fit = subst (λ cs. AllFit cs m.store.streams) contents_are sound.streams
 
   of-frame : AreOf f.contents.items job.contents × Apart job.contents
   of-frame = all_of f.contents.items job.contents (subst AreOnce contents_are sound.once) parts.many parts.there
 
   pub ending_awaited : AreAwaited m.store.streams job.contents
-  ending_awaited = all_await f.contents.items ports m.store.streams job.contents fit of-frame.0 of-frame.1
+  ending_awaited = all_await f.contents.items m.store.streams job.contents fit of-frame.0 of-frame.1
 
   kind_is : f.kind ≡ job.kind
   kind_is = same_kind_is job.kind f.kind parts.kind_is
@@ -195,15 +189,15 @@ module _ (m : Inside) (job : Job) (is : is_of_running job (option_map running_of
   home = brought_home job.contents m.store.streams
 
   -- the frame draws into the image that comes, as it did when it ran
-  fits_home : KindFits ports home f.size f.format job.kind
+  fits_home : KindFits modes f.mode home f.size f.format job.kind
   fits_home =
-      let runs_so : IfSome (Some (running_of f)) (FrameFits ports m.store.streams) =
-      subst (λ o. IfSome (option_map running_of o) (FrameFits ports m.store.streams)) runs sound.frame in
-      subst (λ k. KindFits ports home f.size f.format k) kind_is
-      (frame_home job.contents ports m.store.streams (Some (running_of f)) runs_so)
+      let runs_so : IfSome (Some f) (FrameFits modes m.store.streams) =
+      subst (λ o. IfSome o (FrameFits modes m.store.streams)) runs sound.frame in
+      subst (λ k. KindFits modes f.mode home f.size f.format k) kind_is
+      (frame_home job.contents modes m.store.streams (Some f) runs_so)
 
-  ports_fit : PortsFit (Some (running_of f)) 1 m.ports.items
-  ports_fit = subst (λ o. PortsFit (option_map running_of o) 1 m.ports.items) runs sound.ports
+  ports_fit : PortsFit (Some f) 1 m.ports.items
+  ports_fit = subst (λ o. PortsFit o 1 m.ports.items) runs sound.ports
 
   image_size : job.image.size ≡ f.size
   image_size = size_is job.image.size f.size parts.size
@@ -213,53 +207,39 @@ module _ (m : Inside) (job : Job) (is : is_of_running job (option_map running_of
 
   -- the write buffer of a context's target
   due_target : (handle target : ℕ) → f.kind ≡ kind.Context handle target → IsOfTarget (buffers_at target home) f.size f.format
-      → IsDue home m.ports.items (kind.Context handle target) job.image
+      → IsDue home m.ports.items f.mode (kind.Context handle target) job.image
   due_target handle target is fits = (
     of_buffers (buffers_at target home) fits,
-    none_away (running_of f) handle target is 1 m.ports.items ports_fit,
+    none_away f handle target is 1 m.ports.items ports_fit,
   )
     where
       of_buffers : (o : Option Buffers) → IsOfTarget o f.size f.format → IfSome o (λ b. (b.out ≡ true) × HasShape b.size b.format job.image)
       of_buffers None fits = tt
       of_buffers (Some b) fits = (fits.0, record { size_is = image_size ∙ fits.1; format_is = image_format ∙ fits.2 })
 
-  at_place : (n : ℕ) (ps : List Port) (P : Port → Type 0) → IsSomeAnd (nth n ps) P → (1 ≤ n) × (n - 1 < length ps)
-      × IfSome (slice_get ps (n - 1)) P
-  at_place zero ps P some = absurd some
-  at_place (suc n) ps P some =
-      let same : n ≡ suc n - 1 = omega arith in
-      (omega arith, omega (arith, of_place n ps some), subst (λ i. IfSome (slice_get ps i) P) same (of_slice (slice_get ps n) some))
-    where
-      of_place : (i : ℕ) (qs : List Port) → IsSomeAnd (slice_get qs i) P → i < length qs
-      of_place i [] some = absurd some
-      of_place zero (q ∷ qs) some = omega arith
-      of_place (suc i) (q ∷ qs) some = (let rest = of_place i qs some in omega (arith, rest))
-
-      of_slice : (o : Option Port) → IsSomeAnd o P → IfSome o P
-      of_slice None some = tt
-      of_slice (Some q) some = some
-
   -- the image of a port
-  due_port : (port : ℕ) → f.kind ≡ kind.Port port → IsOfPort (nth port ports) f.size f.format
-      → IsDue home m.ports.items (kind.Port port) job.image
+  due_port : (port : ℕ) → f.kind ≡ kind.Port port → IsSomeAnd (nth port modes) (IsOfMode f.mode f.size) × (f.format ≡ Rgba8Pre)
+      → IsDue home m.ports.items f.mode (kind.Port port) job.image
   due_port port is fits =
-      let found = at_place port ports (λ p. (f.size ≡ mode_size 1 p.modes) × (f.format ≡ Rgba8Pre)) fits in
+      let found = at_place port modes (IsOfMode f.mode f.size) fits.0 in
       let back : port ≡ port - 1 + 1 = omega (arith, found.0) in (
         found.0,
-        omega (arith, found.1, length-map m.ports.items port_of),
-        (running_of f, is ∙ ap (λ n. kind.Port n) back, ports_fit),
-        of_place (slice_get ports (port - 1)) found.2,
+        omega (arith, found.1, length-map m.ports.items sizes_of),
+        (f, is ∙ ap (λ n. kind.Port n) back, refl, ports_fit),
+        of_place (slice_get modes (port - 1)) found.2,
       )
     where
-      of_place : (o : Option Port) → IfSome o (λ p. (f.size ≡ mode_size 1 p.modes) × (f.format ≡ Rgba8Pre))
-          → IfSome o (λ p. IsFrameImage (mode_size 1 p.modes) (Some job.image))
+      of_place : (o : Option (List Size)) → IsSomeAnd o (IsOfMode f.mode f.size)
+          → IfSome o (λ sizes. IsOfMode f.mode job.image.size sizes × (job.image.format ≡ Rgba8Pre))
       of_place None shape = tt
-      of_place (Some p) shape = (image_size ∙ shape.0, image_format ∙ shape.1)
+      of_place (Some sizes) shape =
+          (record { some = shape.some; within = shape.within; size_is = image_size ∙ shape.size_is }, image_format ∙ fits.1)
 
-  pub ending_due : IsDue home m.ports.items job.kind job.image
-  ending_due = of_kind job.kind kind_is fits_home
+  pub ending_due : (mode : ℕ) → mode ≡ mode_of m.frame → IsDue home m.ports.items mode job.kind job.image
+  ending_due mode is = subst (λ n. IsDue home m.ports.items n job.kind job.image) (sym (is
+      ∙ ap mode_of runs)) (of_kind job.kind kind_is fits_home)
     where
-      of_kind : (k : JobKind) → f.kind ≡ k → KindFits ports home f.size f.format k → IsDue home m.ports.items k job.image
+      of_kind : (k : JobKind) → f.kind ≡ k → KindFits modes f.mode home f.size f.format k → IsDue home m.ports.items f.mode k job.image
       of_kind (kind.Context handle target) is fits = due_target handle target is fits
       of_kind (kind.Port port) is fits = due_port port is fits
 
@@ -267,12 +247,12 @@ module _ (m : Inside) (job : Job) (is : is_of_running job (option_map running_of
   module _ (left : StoreView) (lent : List declared.Port) (reply : Reply) where
     pub record HasEnded : Type 0 where
       pub store : left ≡ record m.store { streams = delivered job.kind job.image home }
-      pub modes : map port_of lent ≡ ports
+      pub modes : map sizes_of lent ≡ modes
       pub fit : PortsFit None 1 lent
       pub reply_is : reply ≡ bare (done 0)
 
     module _ (now : Inside) (store-is : now.store ≡ left) (ports-are : now.ports.items ≡ lent) (core-is : now.core ≡ m.core)
-        (begun-is : now.begun ≡ m.begun) (free : now.frame ≡ None) (ended : HasEnded) where
+        (display-is : now.display ≡ m.display) (begun-is : now.begun ≡ m.begun) (free : now.frame ≡ None) (ended : HasEnded) where
       abbrev after : List KeptStream
       after = delivered job.kind job.image home
 
@@ -288,11 +268,11 @@ module _ (m : Inside) (job : Job) (is : is_of_running job (option_map running_of
       now_others : now.store.others ≡ m.store.others
       now_others = ap (λ v. v.others) now_store
 
-      now_ports : map port_of now.ports.items ≡ ports
-      now_ports = ap (λ ps. map port_of ps) ports-are ∙ ended.modes
+      now_modes : map sizes_of now.ports.items ≡ modes
+      now_modes = ap (λ ps. map sizes_of ps) ports-are ∙ ended.modes
 
       as_many : length now.ports.items ≡ length m.ports.items
-      as_many = omega (arith, length-map now.ports.items port_of, length-map m.ports.items port_of, ap length now_ports)
+      as_many = omega (arith, length-map now.ports.items sizes_of, length-map m.ports.items sizes_of, ap length now_modes)
 
       no_contents : contents_of (option_map running_of now.frame) ≡ []
       no_contents = ap (λ o. contents_of (option_map running_of o)) free
@@ -305,10 +285,15 @@ module _ (m : Inside) (job : Job) (is : is_of_running job (option_map running_of
           record {
             fits = rw core-is (still_fits m.core m.store now.store now_others (omega (arith, ap (λ v. v.made) now_store))
                 (λ n within. rw now_streams (ended_seen job.kind job.image job.contents n m.store.streams)) sound.fits);
-            others = rw now_others sound.others;
+            shows = rw display-is (still_shown m.display m.store now.store now_others (omega (
+              arith,
+              ap
+                  (λ v. v.made) now_store,
+            )) sound.numbered
+                (λ n within. rw now_streams (ended_seen job.kind job.image job.contents n m.store.streams)) sound.shows);
             numbered = rw (now_streams, now_numbered) (delivered_numbered job.kind job.image m.store.numbered home home_numbered);
             few = omega (arith, as_many, sound.few);
-            screens = omega (arith, as_many, now_numbered, sound.screens);
+            modes = now_modes ∙ sound.modes ∙ ap modes_of (sym display-is);
             ports = rw (free, ports-are) ended.fit;
             small = rw now_streams (omega (
               arith,
@@ -316,9 +301,8 @@ module _ (m : Inside) (job : Job) (is : is_of_running job (option_map running_of
               delivered_bytes job.kind job.image home,
               bytes_mapped (home_among job.contents) (home_keeps job.contents) m.store.streams,
             ));
-            streams = rw (no_contents, now_ports, now_streams)
-                (delivered_fit job.kind job.image ports [] home (all_back f.contents.items ports m.store.streams job.contents parts.there
-                fit));
+            streams = rw (no_contents, now_streams)
+                (delivered_fit job.kind job.image [] home (all_back f.contents.items m.store.streams job.contents parts.there fit));
             frame = rw free tt;
             once = rw no_contents tt;
             known = rw no_contents tt;
@@ -326,22 +310,22 @@ module _ (m : Inside) (job : Job) (is : is_of_running job (option_map running_of
 
       state_is : state_of now ≡ record (state_of m) { streams = after; frame = None }
       state_is =
-          let state : ℕ → StoreView → CoreState → List Port → Option Frame → State = λ n v core ps o.
+          let state : ℕ → StoreView → CoreState → DisplayState → Option Frame → State = λ n v core display o.
           record {
             made = v.made;
             numbered = v.numbered;
             begun = n;
             streams = v.streams;
             core = core;
-            display = record { ports = ps };
+            display = display;
             frame = option_map running_of o;
           } in
           let store : StoreView = record m.store { streams = after } in
-          ap (λ n. state n now.store now.core (map port_of now.ports.items) now.frame) begun-is
-          ∙ ap (λ v. state m.begun v now.core (map port_of now.ports.items) now.frame) now_store
-          ∙ ap (λ core. state m.begun store core (map port_of now.ports.items) now.frame) core-is
-          ∙ ap (λ ps. state m.begun store m.core ps now.frame) now_ports
-          ∙ ap (λ o. state m.begun store m.core ports o) free
+          ap (λ n. state n now.store now.core now.display now.frame) begun-is
+          ∙ ap (λ v. state m.begun v now.core now.display now.frame) now_store
+          ∙ ap (λ core. state m.begun store core now.display now.frame) core-is
+          ∙ ap (λ d. state m.begun store m.core d now.frame) display-is
+          ∙ ap (λ o. state m.begun store m.core m.display o) free
 
       pub left_ended : (s : State) → state_of m ≡ s → end job s ≡ (state_of now, reply)
       left_ended s seen =

@@ -1,6 +1,7 @@
 -- The images that ports keep for their frames.
-use Rattle.wf_machine.proofs.Common.{◌≡◌, ℕ, ◌-◌, List, [], ◌∷◌, ◌++◌, Option, Some, ap, sym, subst, ◌∙◌, ◌<◌, ◌+◌, length, take, get_or}
-use Rattle.wf_machine.proofs.Common.{None, refl, arith, slice_set, take_more, Size, Rgba8Pre, Bitmap, blank, mode_size, HoldsBut}
+use Rattle.wf_machine.proofs.Common.{◌≡◌, ℕ, zero, suc, ◌-◌, ◌≤◌, List, [], ◌∷◌, ◌++◌, Option, Some, ap, sym, subst, ◌∙◌, ◌<◌, ◌+◌, length}
+use Rattle.wf_machine.proofs.Common.{take, get_or, None, refl, arith, slice_set, take_more, Size, Rgba8Pre, Bitmap, blank, mode_size}
+use Rattle.wf_machine.proofs.Common.{HoldsBut}
 use Rattle.wf_machine.proofs.Common.{IsFrameImage}
 
 pub holds_more : (sizes : List Size) (places : List (Option Bitmap)) (size : Size) (place : Option Bitmap) → HoldsBut 0 sizes places
@@ -26,27 +27,55 @@ as_many away [] (p ∷ places) holds = absurd holds
 as_many away (s ∷ sizes) [] holds = absurd holds
 as_many away (s ∷ sizes) (p ∷ places) holds = omega (arith, as_many (away - 1) sizes places holds.1)
 
--- the image of the first mode, which is taken and comes back
+-- the image at a place, which is taken and comes back
 
-first_there : (sizes : List Size) (places : List (Option Bitmap)) (d : Option Bitmap) → HoldsBut 0 sizes places → 0 < length sizes
-    → IsFrameImage (mode_size 1 sizes) (get_or places 0 d)
-first_there [] places d holds some = absurd (omega (arith, some))
-first_there (s ∷ sizes) [] d holds some = absurd holds
-first_there (s ∷ sizes) (p ∷ places) d holds some = holds.0
+there_at : (i : ℕ) (sizes : List Size) (places : List (Option Bitmap)) (d : Option Bitmap) → HoldsBut 0 sizes places → i < length sizes
+    → IsFrameImage (mode_size (suc i) sizes) (get_or places i d)
+there_at i [] places d holds within = absurd (omega (arith, within))
+there_at i (s ∷ sizes) [] d holds within = absurd holds
+there_at zero (s ∷ sizes) (p ∷ places) d holds within = holds.0
+there_at (suc i) (s ∷ sizes) (p ∷ places) d holds within = there_at i sizes places d holds.1 (omega (arith, within))
 
-pub first_is : (sizes : List Size) (places : List (Option Bitmap)) (place : Option Bitmap) → HoldsBut 0 sizes places → 0 < length sizes
-    → place ≡ get_or places 0 place → IsFrameImage (mode_size 1 sizes) place
-first_is sizes places place holds some is = subst (λ o. IsFrameImage (mode_size 1 sizes) o) (sym is)
-    (first_there sizes places place holds some)
+taken_at : (i : ℕ) (sizes : List Size) (places : List (Option Bitmap)) → HoldsBut 0 sizes places → i < length sizes
+    → HoldsBut (suc i) sizes (slice_set places i None)
+taken_at i [] places holds within = absurd (omega (arith, within))
+taken_at i (s ∷ sizes) [] holds within = absurd holds
+taken_at zero (s ∷ sizes) (p ∷ places) holds within = (refl, holds.1)
+taken_at (suc i) (s ∷ sizes) (p ∷ places) holds within =
+    let lower : suc i ≡ suc (suc i) - 1 = omega arith in
+    (holds.0, subst (λ m. HoldsBut m sizes (slice_set places i None)) lower (taken_at i sizes places holds.1 (omega (arith, within))))
 
-pub first_taken : (sizes : List Size) (places : List (Option Bitmap)) → HoldsBut 0 sizes places → 0 < length sizes
-    → HoldsBut 1 sizes (slice_set places 0 None)
-first_taken [] places holds some = absurd (omega (arith, some))
-first_taken (s ∷ sizes) [] holds some = absurd holds
-first_taken (s ∷ sizes) (p ∷ places) holds some = (refl, holds.1)
+put_at : (i : ℕ) (sizes : List Size) (places : List (Option Bitmap)) (image : Bitmap) → HoldsBut (suc i) sizes places → i < length sizes
+    → IsFrameImage (mode_size (suc i) sizes) (Some image) → HoldsBut 0 sizes (slice_set places i (Some image))
+put_at i [] places image holds within shape = absurd (omega (arith, within))
+put_at i (s ∷ sizes) [] image holds within shape = absurd holds
+put_at zero (s ∷ sizes) (p ∷ places) image holds within shape = (shape, holds.1)
+put_at (suc i) (s ∷ sizes) (p ∷ places) image holds within shape =
+    let lower : suc (suc i) - 1 ≡ suc i = omega arith in
+    (holds.0, put_at i sizes places image (subst (λ m. HoldsBut m sizes places) lower holds.1) (omega (arith, within)) shape)
 
-pub first_put : (sizes : List Size) (places : List (Option Bitmap)) (image : Bitmap) → HoldsBut 1 sizes places → 0 < length sizes
-    → IsFrameImage (mode_size 1 sizes) (Some image) → HoldsBut 0 sizes (slice_set places 0 (Some image))
-first_put [] places image holds some shape = absurd (omega (arith, some))
-first_put (s ∷ sizes) [] image holds some shape = absurd holds
-first_put (s ∷ sizes) (p ∷ places) image holds some shape = (shape, holds.1)
+-- the image of a mode, which is counted from 1
+
+module _ (mode : ℕ) (sizes : List Size) (places : List (Option Bitmap)) (some : 1 ≤ mode) (within : mode ≤ length sizes) where
+  next : suc (mode - 1) ≡ mode
+  next = omega (arith, some)
+
+  inside : mode - 1 < length sizes
+  inside = omega (arith, some, within)
+
+  pub image_there : (place : Option Bitmap) → HoldsBut 0 sizes places → place ≡ get_or places (mode - 1) place
+      → IsFrameImage (mode_size mode sizes) place
+  image_there place holds is =
+      subst (λ o. IsFrameImage (mode_size mode sizes) o) (sym is)
+      (subst (λ m. IsFrameImage (mode_size m sizes) (get_or places (mode - 1) place)) next
+      (there_at (mode - 1) sizes places place holds inside))
+
+  pub image_taken : HoldsBut 0 sizes places → HoldsBut mode sizes (slice_set places (mode - 1) None)
+  image_taken holds = subst (λ m. HoldsBut m sizes (slice_set places (mode - 1) None)) next
+      (taken_at (mode - 1) sizes places holds inside)
+
+  pub image_put : (image : Bitmap) → HoldsBut mode sizes places → IsFrameImage (mode_size mode sizes) (Some image)
+      → HoldsBut 0 sizes (slice_set places (mode - 1) (Some image))
+  image_put image holds shape =
+      put_at (mode - 1) sizes places image (subst (λ m. HoldsBut m sizes places) (sym next) holds) inside
+      (subst (λ m. IsFrameImage (mode_size m sizes) (Some image)) (sym next) shape)

@@ -3,7 +3,7 @@ use Rattle.wf_machine.proofs.Common.{◌≡◌, ◌∙◌, ℕ, ◌+◌, Bool, t
 use Rattle.wf_machine.proofs.Common.{sym, ap, subst, IsSomeAnd, eqb-true, list_any-append, is_in, Canvas, Buffers, acquired, KeptStream}
 use Rattle.wf_machine.proofs.Common.{change_stream, stream_at, unnamed, Call, Job, Code, Reply, is_ok_code, Effect, effect, is_running}
 use Rattle.wf_machine.proofs.Common.{all_names, core_names, display_names, frame_names, own_names, settle_if, Register, no_register}
-use Rattle.wf_machine.proofs.Common.{of_device, register_of, offered, Running, State, act, step}
+use Rattle.wf_machine.proofs.Common.{of_device, of_display, register_of, offered, Running, State, act, step}
 use Rattle.std.proofs.Common.{flat_map}
 use Rattle.std.proofs.Common.{inl, inr}
 use Rattle.std.specs.Option.{is_some}
@@ -11,7 +11,7 @@ use Rattle.wf_words.specs.Found.{or_true}
 use Rattle.wf_calls.specs.declared.call.Call.TheVariants as call
 use Rattle.wf_machine.specs.LeftAlone.{IsLeftAlone, ends_frame}
 use Rattle.wf_model.specs.Effects.{IsReturn}
-use Rattle.wf_model.specs.Effects.Effect.{acquires, begins, composes, ends, makes, refuses, returns, tells, unnames}
+use Rattle.wf_model.specs.Effects.Effect.{acquires, begins, composes, displays, ends, makes, refuses, returns, tells, unnames}
 
 -- streams
 
@@ -106,6 +106,7 @@ module _ (h : State) (c : Call) (x : State × Reply) (f : Running) (runs : h.fra
   offered_leaves : (register : Register) (refused : Code) → ((offered register refused h).frame ≡ h.frame)
       × ((offered register refused h).streams ≡ h.streams)
   offered_leaves (of_device d) refused = (refl, refl)
+  offered_leaves of_display refused = (refl, refl)
   offered_leaves no_register refused = (refl, refl)
 
   runs_not : is_running h ≡ false → {A : Type 0} → A
@@ -117,6 +118,7 @@ module _ (h : State) (c : Call) (x : State × Reply) (f : Running) (runs : h.fra
   frame_left : Effect h c x → x.0.frame ≡ h.frame
   frame_left (refuses honest left) = ap (λ s. s.frame) left ∙ (offered_leaves (register_of c) x.1.code).0
   frame_left (composes made core value is) = ap (λ y. y.0.frame) is
+  frame_left (displays made display value is) = ap (λ y. y.0.frame) is
   frame_left (makes new is) = ap (λ y. y.0.frame) is
   frame_left (unnames handle is) = ap (λ y. y.0.frame) is
   frame_left (acquires handle s at is) = ap (λ y. y.0.frame) is
@@ -137,6 +139,8 @@ module _ (h : State) (c : Call) (x : State × Reply) (f : Running) (runs : h.fra
         by_streams h.streams (ap (λ t. t.streams) left ∙ (offered_leaves (register_of c) x.1.code).1)
         (same_read n s h.streams found)
     read_left (composes made core value is) =
+        by_streams h.streams (ap (λ y. y.0.streams) is) (same_read n s h.streams found)
+    read_left (displays made display value is) =
         by_streams h.streams (ap (λ y. y.0.streams) is) (same_read n s h.streams found)
     read_left (makes new is) =
         let made : KeptStream = record { number = h.numbered + 1; handle = h.made + 1; buffers = new } in

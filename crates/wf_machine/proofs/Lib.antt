@@ -3,6 +3,7 @@ pub mod Changes
 pub mod Latches
 pub mod Mapped
 pub mod StillComposed
+pub mod StillShown
 pub mod Drawing
 pub mod Homes
 pub mod Shapes

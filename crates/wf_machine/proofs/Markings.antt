@@ -1,49 +1,13 @@
 -- Marks that add up.
-use Rattle.wf_machine.proofs.Common.{◌≡◌, ℕ, zero, suc, ◌+◌, Bool, true, false, not, cond, ◌==◌, ◌||◌, ◌&&◌, List, [], ◌∷◌, ◌++◌, refl, sym}
-use Rattle.wf_machine.proofs.Common.{ap, subst, ◌∙◌, arith, flat_map, range_with_len, list_any-append, is_in, KeptStream, StoreView}
+use Rattle.wf_machine.proofs.Common.{◌≡◌, ℕ, Bool, true, false, not, cond, ◌==◌, ◌||◌, ◌&&◌, List, [], ◌∷◌, ◌++◌, refl, sym}
+use Rattle.wf_machine.proofs.Common.{ap, subst, ◌∙◌, flat_map, list_any-append, is_in, KeptStream, StoreView}
 use Rattle.wf_machine.proofs.Common.{IsNumbered, stream_at, all_names, core_names, display_names, frame_names, kept, own_names, State}
 use Rattle.wf_machine.proofs.Common.{Inside, state_of, Marks}
 use Rattle.std.specs.Option.{IsSome}
+use Rattle.wf_stream.specs.Marks.{more_marked, or_false, streams_of}
 use Rattle.wf_stream.specs.Streams.{has_own_name, is_own, swept}
 use Rattle.wf_machine.proofs.Begun.{AllFound, all_found}
 use Rattle.wf_machine.proofs.Dropping.{among}
-
-or_false : (b : Bool) → b ≡ (b || false)
-or_false true = refl
-or_false false = refl
-
-or_assoc : (a b c : Bool) → ((a || b) || c) ≡ (a || (b || c))
-or_assoc true b c = refl
-or_assoc false b c = refl
-
-pub none_marked : (v : StoreView) → Marks v v []
-none_marked v = record { marked = λ n kept. or_false (is_in n v.marked); rest = refl }
-
--- the streams are those of before
-pub streams_of : (before now : StoreView) → record now { marked = [] } ≡ record before { marked = [] } → now.streams ≡ before.streams
-streams_of before now rest = ap (λ v. v.streams) rest
-
-pub more_marked : (a b c : StoreView) (ns ms : List ℕ) → Marks a b ns → Marks b c ms → Marks a c (ns ++ ms)
-more_marked a b c ns ms first second =
-    record {
-      marked = λ n kept. (
-          let there : IsSome (stream_at n b.streams) = subst (λ ss. IsSome (stream_at n ss))
-          (sym (streams_of a b first.rest)) kept in
-          second.marked n there ∙ ap (λ x. x || is_in n ms) (first.marked n kept)
-          ∙ or_assoc (is_in n a.marked) (is_in n ns) (is_in n ms)
-          ∙ ap (λ x. is_in n a.marked || x) (sym (list_any-append (λ x. x == n) ns ms)));
-      rest = second.rest ∙ first.rest;
-    }
-
--- one more number of a range
-pub range_more : (low many : ℕ) → range_with_len low (many + 1) ≡ range_with_len low many ++ (low + many) ∷ []
-range_more low many = (let next : many + 1 ≡ suc many = omega arith in ap (range_with_len low) next ∙ of_many many low)
-  where
-    of_many : (many low : ℕ) → range_with_len low (suc many) ≡ range_with_len low many ++ (low + many) ∷ []
-    of_many zero low = ap (λ n. n ∷ []) (omega arith)
-    of_many (suc many) low =
-        let later : low + 1 + many ≡ low + suc many = omega arith in
-        ap (λ ns. low ∷ ns) (of_many many (low + 1) ∙ ap (λ n. range_with_len (low + 1) many ++ n ∷ []) later)
 
 -- the marks of a settling are the names
 

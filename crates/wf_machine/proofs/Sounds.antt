@@ -1,10 +1,11 @@
 -- What holds of the machine holds after each call on streams.
 use Rattle.wf_machine.proofs.Common.{◌≡◌, ℕ, ◌+◌, ◌≤◌, true, false, ◌||◌, ◌==◌, List, [], ◌∷◌, ◌++◌, length, map, cond, Option, Some, None}
 use Rattle.wf_machine.proofs.Common.{refl, sym, ap, subst, ◌∙◌, arith, nat_le, nat_lt, ℤ, pos, negsuc, option_map, IfSome, and_parts}
-use Rattle.wf_machine.proofs.Common.{length-map, count_of, Size, Format, has_sides, is_side, Buffers, buffer_bytes, fresh, KeptStream}
-use Rattle.wf_machine.proofs.Common.{StoreView, buffers_at, change_stream, held, stream_at, unnamed, with_live_stream, JobKind, Reply, Port}
-use Rattle.wf_machine.proofs.Common.{Running, State, bare, done, refusal, refused, new_buffers, size_from, stream_new, stream_step, Inside}
-use Rattle.wf_machine.proofs.Common.{FrameFits, IsOfTarget, KindFits, contents_of, IsSound, state_of, port_of, running_of}
+use Rattle.wf_machine.proofs.Common.{count_of, Size, Format, has_sides, is_side, Buffers, buffer_bytes, fresh, KeptStream}
+use Rattle.wf_machine.proofs.Common.{StoreView, buffers_at, change_stream, held, stream_at, unnamed, with_live_stream, JobKind, Reply}
+use Rattle.wf_machine.proofs.Common.{Frame}
+use Rattle.wf_machine.proofs.Common.{State, bare, done, refusal, refused, new_buffers, size_from, stream_new, stream_step, Inside}
+use Rattle.wf_machine.proofs.Common.{FrameFits, IsOfTarget, KindFits, contents_of, IsSound, state_of, running_of, sizes_of}
 use Rattle.std.specs.Prelude.{◌&&◌}
 use Rattle.std.proofs.lemmas.Bool.{and_from, ltb-false}
 use Rattle.std.proofs.lemmas.List.Sums.{sum_by_push}
@@ -17,6 +18,7 @@ use Rattle.wf_model.specs.Streams.{may_make, is_wide_side, stream_made}
 use Rattle.wf_machine.proofs.Drawing.{frame_unnamed}
 use Rattle.wf_machine.proofs.Mapped.{SeenSame, bytes_mapped, changed_at, changed_keeps, numbered_mapped, seen_mapped, unnamed_keeps}
 use Rattle.wf_machine.proofs.StillComposed.{still_fits}
+use Rattle.wf_machine.proofs.StillShown.{still_shown}
 use Rattle.wf_machine.proofs.StillFitting.{KeepsRead, all_kept, all_push, all_unnamed, known_more, new_fits, numbered_push, shape_kept}
 
 -- the machine with other buffers of a stream
@@ -24,20 +26,21 @@ abbrev pub with_buffers : Inside → ℕ → (Buffers → Buffers) → Inside
 with_buffers m n f = record m { store = record m.store { streams = change_stream n f m.store.streams } }
 
 pub sound_kept : (m : Inside) (n : ℕ) (f : Buffers → Buffers) → KeepsRead f
-    → IfSome (option_map running_of m.frame) (FrameFits (map port_of m.ports.items) (change_stream n f m.store.streams)) → IsSound m
+    → IfSome m.frame (FrameFits (map sizes_of m.ports.items) (change_stream n f m.store.streams)) → IsSound m
     → IsSound (with_buffers m n f)
 sound_kept m n f keeps frame sound =
     let shape = changed_keeps n f (shape_kept f keeps) in
     record {
       fits = still_fits m.core m.store (with_buffers m n f).store refl (omega arith)
           (λ k within. seen_mapped (changed_at n f) shape k m.store.streams) sound.fits;
-      others = sound.others;
+      shows = still_shown m.display m.store (with_buffers m n f).store refl (omega arith) sound.numbered
+          (λ k within. seen_mapped (changed_at n f) shape k m.store.streams) sound.shows;
       numbered = numbered_mapped (changed_at n f) shape 0 m.store.numbered m.store.streams sound.numbered;
       few = sound.few;
-      screens = sound.screens;
+      modes = sound.modes;
       ports = sound.ports;
       small = omega (arith, sound.small, bytes_mapped (changed_at n f) shape m.store.streams);
-      streams = all_kept f n (map port_of m.ports.items) (contents_of (option_map running_of m.frame)) m.store.streams keeps sound.streams;
+      streams = all_kept f n (contents_of (option_map running_of m.frame)) m.store.streams keeps sound.streams;
       frame = frame;
       once = sound.once;
       known = sound.known;
@@ -51,14 +54,15 @@ sound_unnamed m handle sound =
     record {
       fits = still_fits m.core m.store (record m.store { streams = map (unnamed handle) m.store.streams }) refl (omega arith)
           (λ k within. seen_mapped (unnamed handle) keeps k m.store.streams) sound.fits;
-      others = sound.others;
+      shows = still_shown m.display m.store (record m.store { streams = map (unnamed handle) m.store.streams }) refl (omega arith)
+          sound.numbered (λ k within. seen_mapped (unnamed handle) keeps k m.store.streams) sound.shows;
       numbered = numbered_mapped (unnamed handle) keeps 0 m.store.numbered m.store.streams sound.numbered;
       few = sound.few;
-      screens = sound.screens;
+      modes = sound.modes;
       ports = sound.ports;
       small = omega (arith, sound.small, bytes_mapped (unnamed handle) keeps m.store.streams);
-      streams = all_unnamed handle (map port_of m.ports.items) (contents_of (option_map running_of m.frame)) m.store.streams sound.streams;
-      frame = frame_unnamed handle (map port_of m.ports.items) m.store.streams (option_map running_of m.frame) sound.frame;
+      streams = all_unnamed handle (contents_of (option_map running_of m.frame)) m.store.streams sound.streams;
+      frame = frame_unnamed handle (map sizes_of m.ports.items) m.store.streams m.frame sound.frame;
       once = sound.once;
       known = sound.known;
     }
@@ -82,10 +86,10 @@ found_pushed n (s ∷ ss) t b found =
       | false ↦ λ is. found_pushed n ss t b is
     ] found
 
-frame_pushed : (ports : List Port) (ss : List KeptStream) (t : KeptStream) (o : Option Running) → IfSome o (FrameFits ports ss)
-    → IfSome o (FrameFits ports (ss ++ t ∷ []))
-frame_pushed ports ss t None fits = tt
-frame_pushed ports ss t (Some f) fits = of_kind f.kind fits
+frame_pushed : (modes : List (List Size)) (ss : List KeptStream) (t : KeptStream) (o : Option Frame) → IfSome o (FrameFits modes ss)
+    → IfSome o (FrameFits modes (ss ++ t ∷ []))
+frame_pushed modes ss t None fits = tt
+frame_pushed modes ss t (Some f) fits = of_kind f.kind fits
   where
     of_target : (target : ℕ) (us : List KeptStream) → IsOfTarget (buffers_at target us) f.size f.format
         → IsOfTarget (buffers_at target (us ++ t ∷ [])) f.size f.format
@@ -98,7 +102,7 @@ frame_pushed ports ss t (Some f) fits = of_kind f.kind fits
           | false ↦ λ at. of_target target us at
         ] is
 
-    of_kind : (k : JobKind) → KindFits ports ss f.size f.format k → KindFits ports (ss ++ t ∷ []) f.size f.format k
+    of_kind : (k : JobKind) → KindFits modes f.mode ss f.size f.format k → KindFits modes f.mode (ss ++ t ∷ []) f.size f.format k
     of_kind (kind.Context handle target) is = of_target target ss is
     of_kind (kind.Port port) is = is
 
@@ -108,25 +112,23 @@ pub sound_made : (m : Inside) (size : Size) (format : Format) (buffers : ℕ) �
     → IsSound (record m { store = with_live_stream (fresh size format buffers) m.store })
 sound_made m size format buffers sides free sound =
     let new : KeptStream = record { number = m.store.numbered + 1; handle = m.store.made + 1; buffers = fresh size format buffers } in
-    let ports = map port_of m.ports.items in
     let contents = contents_of (option_map running_of m.frame) in
-    let few : length ports ≤ m.store.numbered = omega (arith, sound.screens, length-map m.ports.items port_of) in
     record {
       fits = still_fits m.core m.store (with_live_stream (fresh size format buffers) m.store) refl (omega arith)
           (λ k within. found_pushed k m.store.streams new) sound.fits;
-      others = sound.others;
+      shows = still_shown m.display m.store (with_live_stream (fresh size format buffers) m.store) refl (omega arith) sound.numbered
+          (λ k within. found_pushed k m.store.streams new) sound.shows;
       numbered = numbered_push 0 m.store.numbered m.store.streams new sound.numbered refl;
       few = sound.few;
-      screens = omega (arith, sound.screens);
+      modes = sound.modes;
       ports = sound.ports;
       small = omega (
         arith,
         room (fresh size format buffers) m.store.streams free,
         sum_by_push (λ s. buffer_bytes s.buffers) m.store.streams new,
       );
-      streams = all_push ports contents m.store.streams new sound.streams
-          (new_fits ports contents m.store.numbered new few sound.known refl sides refl);
-      frame = frame_pushed ports m.store.streams new (option_map running_of m.frame) sound.frame;
+      streams = all_push contents m.store.streams new sound.streams (new_fits contents m.store.numbered new sound.known refl sides refl);
+      frame = frame_pushed (map sizes_of m.ports.items) m.store.streams new m.frame sound.frame;
       once = sound.once;
       known = known_more m.store.numbered contents sound.known;
     }

@@ -1,6 +1,7 @@
 -- What is done, and then dropped where it was carried out, is the step.
 use Rattle.wf_machine.proofs.Common.{◌≡◌, ℕ, Bool, true, false, not, refl, sym, ap, subst, ◌∙◌, Call, Reply, Code, is_ok_code}
-use Rattle.wf_machine.proofs.Common.{is_out_of_memory, Register, no_register, of_device, register_of, settle_if, offered, State, act, step}
+use Rattle.wf_machine.proofs.Common.{is_out_of_memory, Register, no_register, of_device, of_display, register_of, settle_if, offered}
+use Rattle.wf_machine.proofs.Common.{State, act, step}
 use Rattle.wf_machine.proofs.Common.{IsAct, IsSettled, IsStep}
 use Rattle.wf_model.specs.Effects.{refused_leaves}
 use Rattle.wf_machine.specs.Object.{IsRefusal}
@@ -19,6 +20,7 @@ refusal_of h c left r acts refused =
 -- what has a name still has it where a register takes a code
 settled_offered : (register : Register) (refused : Code) (h : State) → IsSettled h → IsSettled (offered register refused h)
 settled_offered (of_device d) refused h settled = settled
+settled_offered of_display refused h settled = settled
 settled_offered no_register refused h settled = settled
 
 module _ (h : State) (client : ℕ) (c : Call) (left : State) (r : Reply) (acts : IsAct h c left r) where

@@ -49,7 +49,7 @@ module _ (old new : List KeptStream) where
         sources_kept mask ss (λ n within. keeps n (in_behind n s.stream behind within)) fit.1,
       )
 
-  layer_kept : (l : Layer) → KeepsNamed (layer_names l) old new → LayerFits old l → LayerFits new l
+  pub layer_kept : (l : Layer) → KeepsNamed (layer_names l) old new → LayerFits old l → LayerFits new l
   layer_kept l keeps fit =
       record {
         source = some_kept _ _ (buffers_at l.stream old) (buffers_at l.stream new) (keeps l.stream (in_first l.stream (l.mask ∷ [])))
@@ -101,7 +101,7 @@ module _ (old new : List KeptStream) where
         contexts = contexts_kept core.contexts (λ n within. keeps n (in_back n (sources ++ masks) contexts within)) fit.contexts;
       }
 
-rising_more : (low high more : ℕ) (live : List Live) → high ≤ more → IsRising low live high → IsRising low live more
+pub rising_more : (low high more : ℕ) (live : List Live) → high ≤ more → IsRising low live high → IsRising low live more
 rising_more low high more [] under rising = omega (arith, rising)
 rising_more low high more (l ∷ live) under rising = (rising.0, rising_more l.handle high more live under rising.1)
 

@@ -1,10 +1,8 @@
 -- Streams fit still when one is added or its buffers change.
-use Rattle.wf_machine.proofs.Common.{◌≡◌, ℕ, zero, suc, ◌+◌, ◌<◌, ◌≤◌, true, false, cond, ◌==◌, List, [], ◌∷◌, ◌++◌, length, map, Option}
-use Rattle.wf_machine.proofs.Common.{Some, None, refl, sym, ◌∙◌, arith, nat_tests, nth, has_sides, Buffers, acquired, discarded, posted}
-use Rattle.wf_machine.proofs.Common.{KeptStream, IsNumbered, change_stream, unnamed, Bitmap, Content, Port, AllFit, AreNumbered, IsRead}
-use Rattle.wf_machine.proofs.Common.{IsScreen, StreamFits, content_at}
-use Rattle.std.specs.Prelude.{IfSome}
-use Rattle.std.proofs.lemmas.Option.{slice_get_past}
+use Rattle.wf_machine.proofs.Common.{◌≡◌, ℕ, ◌+◌, ◌<◌, true, false, cond, ◌==◌, List, [], ◌∷◌, ◌++◌, map, Option}
+use Rattle.wf_machine.proofs.Common.{Some, None, refl, sym, ◌∙◌, arith, nat_tests, has_sides, Buffers, acquired, discarded, posted}
+use Rattle.wf_machine.proofs.Common.{KeptStream, IsNumbered, change_stream, unnamed, Bitmap, Content, AllFit, AreNumbered, IsRead}
+use Rattle.wf_machine.proofs.Common.{StreamFits, content_at}
 use Rattle.wf_stream.specs.Buffers.{never}
 use Rattle.wf_machine.proofs.Latches.{KeepsShape}
 
@@ -32,29 +30,23 @@ read_kept : (f : Buffers → Buffers) (b : Buffers) (o : Option Content) → Kee
 read_kept f b None keeps read = λ h. read (sym (keeps.read b) ∙ h)
 read_kept f b (Some c) keeps read = (keeps.read b ∙ read.0, keeps.size b ∙ read.1, keeps.format b ∙ read.2)
 
-screen_kept : (f : Buffers → Buffers) (b : Buffers) (o : Option Port) → KeepsRead f → IfSome o (IsScreen b) → IfSome o (IsScreen (f b))
-screen_kept f b None keeps is = tt
-screen_kept f b (Some p) keeps is = (keeps.size b ∙ is.0, keeps.format b ∙ is.1)
-
-fits_kept : (f : Buffers → Buffers) (ports : List Port) (contents : List Content) (s : KeptStream) → KeepsRead f
-    → StreamFits ports contents s → StreamFits ports contents (record s { buffers = f s.buffers })
-fits_kept f ports contents s keeps fits =
+fits_kept : (f : Buffers → Buffers) (contents : List Content) (s : KeptStream) → KeepsRead f → StreamFits contents s
+    → StreamFits contents (record s { buffers = f s.buffers })
+fits_kept f contents s keeps fits =
     record {
       sides = rw (keeps.size s.buffers) fits.sides;
-      screen = screen_kept f s.buffers (nth s.number ports) keeps fits.screen;
       read = read_kept f s.buffers (content_at s.number contents) keeps fits.read;
     }
 
-pub all_kept : (f : Buffers → Buffers) (n : ℕ) (ports : List Port) (contents : List Content) (streams : List KeptStream) → KeepsRead f
-    → AllFit ports contents streams → AllFit ports contents (change_stream n f streams)
-all_kept f n ports contents [] keeps fit = tt
-all_kept f n ports contents (s ∷ streams) keeps fit = (
-  elim (s.number == n) as (λ b. StreamFits ports contents (cond b (record s { buffers = f s.buffers }) s)) [
-    | true ↦ fits_kept f ports
-        contents s keeps fit.0
+pub all_kept : (f : Buffers → Buffers) (n : ℕ) (contents : List Content) (streams : List KeptStream) → KeepsRead f
+    → AllFit contents streams → AllFit contents (change_stream n f streams)
+all_kept f n contents [] keeps fit = tt
+all_kept f n contents (s ∷ streams) keeps fit = (
+  elim (s.number == n) as (λ b. StreamFits contents (cond b (record s { buffers = f s.buffers }) s)) [
+    | true ↦ fits_kept f contents s keeps fit.0
     | false ↦ fit.0
   ],
-  all_kept f n ports contents streams keeps fit.1,
+  all_kept f n contents streams keeps fit.1,
 )
 
 -- no content is of a number above all
@@ -68,38 +60,30 @@ pub known_more : (numbered : ℕ) (contents : List Content) → AreNumbered numb
 known_more numbered [] known = tt
 known_more numbered (c ∷ contents) known = (omega (arith, known.0), known_more numbered contents known.1)
 
--- no port has a number above their count
-nth_above : (n : ℕ) (ports : List Port) → length ports < n → nth n ports ≡ None
-nth_above zero ports above = refl
-nth_above (suc n) ports above = slice_get_past ports n (omega (arith, above))
-
-pub all_push : (ports : List Port) (contents : List Content) (streams : List KeptStream) (s : KeptStream) → AllFit ports contents streams
-    → StreamFits ports contents s → AllFit ports contents (streams ++ s ∷ [])
-all_push ports contents [] s fit new = (new, tt)
-all_push ports contents (t ∷ streams) s fit new = (fit.0, all_push ports contents streams s fit.1 new)
+pub all_push : (contents : List Content) (streams : List KeptStream) (s : KeptStream) → AllFit contents streams → StreamFits contents s
+    → AllFit contents (streams ++ s ∷ [])
+all_push contents [] s fit new = (new, tt)
+all_push contents (t ∷ streams) s fit new = (fit.0, all_push contents streams s fit.1 new)
 
 -- a new stream
-pub new_fits : (ports : List Port) (contents : List Content) (numbered : ℕ) (s : KeptStream) → length ports ≤ numbered
-    → AreNumbered numbered contents → s.number ≡ numbered + 1 → has_sides s.buffers.size ≡ true → s.buffers.read ≡ never
-    → StreamFits ports contents s
-new_fits ports contents numbered s many known number sides never-is =
+pub new_fits : (contents : List Content) (numbered : ℕ) (s : KeptStream) → AreNumbered numbered contents → s.number ≡ numbered + 1
+    → has_sides s.buffers.size ≡ true → s.buffers.read ≡ never → StreamFits contents s
+new_fits contents numbered s known number sides never-is =
     record {
       sides = sides;
-      screen = rw (nth_above s.number ports (omega (arith, number))) tt;
       read = rw (content_above s.number numbered contents known (omega (arith, number))) (λ h. (let no = sym never-is ∙ h in cc));
     }
 
 -- a stream whose handle is dead
-pub all_unnamed : (handle : ℕ) (ports : List Port) (contents : List Content) (streams : List KeptStream) → AllFit ports contents streams
-    → AllFit ports contents (map (unnamed handle) streams)
-all_unnamed handle ports contents [] fit = tt
-all_unnamed handle ports contents (s ∷ streams) fit = (
-  elim (s.handle == handle) as (λ b. StreamFits ports contents (cond b (record s { handle = 0 }) s)) [
-    | true ↦ record
-        { sides = fit.0.sides; screen = fit.0.screen; read = fit.0.read }
+pub all_unnamed : (handle : ℕ) (contents : List Content) (streams : List KeptStream) → AllFit contents streams
+    → AllFit contents (map (unnamed handle) streams)
+all_unnamed handle contents [] fit = tt
+all_unnamed handle contents (s ∷ streams) fit = (
+  elim (s.handle == handle) as (λ b. StreamFits contents (cond b (record s { handle = 0 }) s)) [
+    | true ↦ record { sides = fit.0.sides; read = fit.0.read }
     | false ↦ fit.0
   ],
-  all_unnamed handle ports contents streams fit.1,
+  all_unnamed handle contents streams fit.1,
 )
 
 pub numbered_push : (low high : ℕ) (streams : List KeptStream) (s : KeptStream) → IsNumbered low streams high → s.number ≡ high + 1

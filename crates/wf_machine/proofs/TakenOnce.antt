@@ -1,11 +1,12 @@
 -- The images that a frame takes are of streams that stand once each.
 use Rattle.wf_machine.proofs.Common.{◌≡◌, ◌∙◌, ℕ, Bool, true, false, ◌==◌, ◌||◌, List, [], ◌∷◌, map, Option, Some, None, refl, sym, ap}
 use Rattle.wf_machine.proofs.Common.{subst, is_in, NoneTwice, once_none_twice, Bitmap, KeptStream, stream_at, Call, Code, Reply, Register}
-use Rattle.wf_machine.proofs.Common.{no_register, of_device, register_of, Effect, effect, Beginning, content_shape, job_of, newest_images}
+use Rattle.wf_machine.proofs.Common.{no_register, of_device, of_display, register_of, Effect, effect, Beginning, content_shape, job_of}
+use Rattle.wf_machine.proofs.Common.{newest_images}
 use Rattle.wf_machine.proofs.Common.{newest_of, scene_streams, layer_names, offered, Running, State, act, step}
 use Rattle.std.proofs.Common.{flat_map}
 use Rattle.wf_machine.specs.Begun.{TakesOnce}
-use Rattle.wf_model.specs.Effects.{acquires, begins, composes, ends, makes, refuses, returns, tells, unnames}
+use Rattle.wf_model.specs.Effects.{acquires, begins, composes, displays, ends, makes, refuses, returns, tells, unnames}
 use Rattle.wf_model.specs.Frames.{running_of}
 
 -- the numbers of the images that streams of these numbers have
@@ -45,6 +46,7 @@ begun_once b h = taken_once (scene_streams b.scene) h.streams (once_none_twice (
 module _ (h : State) (c : Call) (x : State × Reply) (free : h.frame ≡ None) (f : Running) (runs : x.0.frame ≡ Some f) where
   offered_frame : (register : Register) (refused : Code) → (offered register refused h).frame ≡ h.frame
   offered_frame (of_device d) refused = refl
+  offered_frame of_display refused = refl
   offered_frame no_register refused = refl
 
   not_so : x.0.frame ≡ h.frame → TakesOnce f
@@ -53,6 +55,7 @@ module _ (h : State) (c : Call) (x : State × Reply) (free : h.frame ≡ None) (
   by_effect : Effect h c x → TakesOnce f
   by_effect (refuses honest left) = not_so (ap (λ s. s.frame) left ∙ offered_frame (register_of c) x.1.code)
   by_effect (composes made core value is) = not_so (ap (λ y. y.0.frame) is)
+  by_effect (displays made display value is) = not_so (ap (λ y. y.0.frame) is)
   by_effect (makes new is) = not_so (ap (λ y. y.0.frame) is)
   by_effect (unnames handle is) = not_so (ap (λ y. y.0.frame) is)
   by_effect (acquires handle s at is) = not_so (ap (λ y. y.0.frame) is)

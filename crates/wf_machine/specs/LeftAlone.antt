@@ -17,7 +17,8 @@ ends_frame c = is_end (part_of c)
     is_end part.Streams = false
     is_end part.Buffers = false
     is_end (part.Composition d) = false
-    is_end part.Begin = false
+    is_end part.Display = false
+    is_end (part.Begin d) = false
     is_end part.End = true
 
 -- the running frame goes on, and each stream that it names is kept, with its read buffer where it was

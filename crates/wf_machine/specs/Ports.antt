@@ -1,11 +1,11 @@
--- The images that a port keeps for its frames.
+-- The images that are kept for the frames of ports.
 use Rattle.std.specs.Prelude.{◌≡◌, ℕ, zero, suc, ◌-◌, List, [], ◌∷◌, Option, None, IsSomeAnd}
 use Rattle.wf_pixel.specs.declared.Size.{Size}
 use Rattle.wf_pixel.specs.declared.Format.TheVariants.{Rgba8Pre}
 use Rattle.wf_image.specs.Bitmap.{Bitmap}
-use Rattle.wf_model.specs.State.{Port, Running}
+use Rattle.wf_model.specs.State.{Running}
 use Rattle.wf_machine.specs.declared.frame.Frame.{Frame}
-use Rattle.wf_machine.specs.declared.port.Port as declared
+use Rattle.wf_machine.specs.declared.port.Port.{Port}
 
 -- an image for the frames of a mode is there
 abbrev pub IsFrameImage : Size → Option Bitmap → Type 0
@@ -22,9 +22,9 @@ HoldsBut mode [] [] = Unit {0}
 HoldsBut mode (size ∷ sizes) (place ∷ places) = HoldsAt mode size place × HoldsBut (mode - 1) sizes places
 HoldsBut mode _ _ = ⊥
 
--- a port's modes
-abbrev pub port_of : declared.Port → Port
-port_of p = record { modes = p.modes.items }
+-- the sizes of a port's images
+abbrev pub sizes_of : Port → List Size
+sizes_of p = p.modes.items
 
 abbrev pub running_of : Frame → Running
 running_of f = record { number = f.number; kind = f.kind; size = f.size; format = f.format; contents = f.contents.items }

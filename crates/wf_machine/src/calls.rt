@@ -18,7 +18,8 @@ impl Parts {
         match call.part() {
             Part::Streams => Some(self.act_on_streams(call)),
             Part::Composition { .. } => Some(self.act_on_objects(call)),
-            Part::Buffers | Part::Begin | Part::End => None,
+            Part::Display => Some(self.act_on_display(call)),
+            Part::Buffers | Part::Begin { .. } | Part::End => None,
         }
     }
 
@@ -49,6 +50,14 @@ impl Parts {
         self.core.run(&mut self.store, call, screen)
     }
 
+    /// Does what a call of the display asks for.
+    fn act_on_display(&mut self, call: &Call) -> Answer
+        requires { part_of call.now ≡ Part.Display }
+        ensures { IsAct self.old call.now self.new (bare result) }
+    {
+        self.display.run(&mut self.store, call)
+    }
+
     /// Does what a call asks for that may bring a write buffer or a Job, or takes one. A function of its own, so that the
     /// other calls move none.
     #[inline(never)]
@@ -62,6 +71,7 @@ impl Parts {
             Call::Discard(canvas) => self.discard(canvas),
             Call::BeginNext { after } => self.begin_next(after),
             Call::BeginPort { port } => self.begin_port(port),
+            Call::BeginContext { device, context } => self.begin_composed(device, context),
             Call::End(job) => self.end(job),
             _ => unreachable!(),
         }

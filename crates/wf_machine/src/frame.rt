@@ -4,6 +4,7 @@ ghost use Rattle.std.specs.Prelude.{◌≡◌, option_map};
 ghost use Rattle.std.specs.List.{list_all};
 ghost use Rattle.wf_model.specs.Frames.{has_shape, is_of_frame, is_target, same_kind};
 ghost use Rattle.wf_image.specs.Contents.{image_of};
+ghost use Rattle.wf_machine.specs.Fitting.{mode_of};
 ghost use Rattle.wf_machine.specs.Ports.{running_of};
 
 use arrayvec::ArrayVec;
@@ -12,11 +13,13 @@ use wf_image::Contents;
 use wf_model::Content;
 use wf_pixel::{Format, Size};
 
-/// The running frame: its number and kind, the size and format of its image, and what it holds of each stream.
+/// The running frame: its number and kind, the mode of its port whose image it draws into, counted from 1, or 0 for a
+/// context's; the size and format of its image, and what it holds of each stream.
 #[derive(Drop)]
 pub(crate) struct Frame {
     pub number: u64,
     pub kind: JobKind,
+    pub mode: u32,
     pub size: Size,
     pub format: Format,
     pub contents: ArrayVec<Content, 64>,
@@ -50,6 +53,16 @@ fn is_same_kind(first: JobKind, second: JobKind) -> bool
         ) => handle == other && target == into,
         (JobKind::Port { port }, JobKind::Port { port: other }) => port == other,
         _ => false,
+    }
+}
+
+/// The mode of its port whose image the running frame draws into, or 0.
+pub(crate) fn mode_of(frame: &Option<Frame>) -> u32
+    ensures { result ≡ mode_of frame.now }
+{
+    match frame {
+        Some(frame) => frame.mode,
+        None => 0,
     }
 }
 

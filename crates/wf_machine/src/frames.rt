@@ -2,22 +2,23 @@
 
 ghost use Rattle.std.specs.Prelude.{◌≡◌, ◌<◌, ◌+◌, ◌-◌, ◌^◌, None, Ok, IfSome, IsSome, MatchOption, Some, length, map};
 ghost use Rattle.wf_words.specs.Keyed.{nth};
+ghost use Rattle.wf_calls.specs.Parts.{no_register};
 ghost use Rattle.wf_stream.specs.Streams.{buffers_at};
 ghost use Rattle.wf_words.specs.Whole.{count_of};
-ghost use Rattle.wf_model.specs.State.{Running};
-ghost use Rattle.wf_model.specs.Frames.{begin_context, begin_next, begin_port, delivered, drawing, end, start, started, target_ready};
+ghost use Rattle.wf_model.specs.Display.{begun_display, port_scene};
+ghost use Rattle.wf_model.specs.Frames.{begin_context, begin_next, begin_port, delivered, drawing, end, is_running, start, started};
+ghost use Rattle.wf_model.specs.Frames.{target_ready};
 ghost use Rattle.wf_machine.specs.Fitting.{IsComposable, IsDue, PortsFit, is_of_running};
 ghost use Rattle.wf_machine.specs.Latching.{AreAtHome};
 ghost use Rattle.wf_machine.specs.Object.{IsAnswer};
-ghost use Rattle.wf_machine.specs.Ports.{port_of};
+ghost use Rattle.wf_machine.specs.Ports.{sizes_of};
 ghost use Rattle.wf_machine.specs.Starting.{IsReady, IsTargetOf, MayStart, beginning_of};
 
-use crate::frame::Frame;
+use crate::frame::{Frame, mode_of};
 use crate::latching::{bring_home, latch_scene, names};
 use crate::parts::Parts;
 use crate::port::{Port, put_image, take_image};
 use crate::replies::refused;
-use crate::scenes::scene_of_port;
 use crate::streams::{acquire_image, post_to};
 use wf_calls::{Answer, Code, Job, JobKind, Refusal, Reply};
 use wf_core::Shown;
@@ -25,25 +26,26 @@ use wf_image::{Canvas, Image};
 use wf_scene::Scene;
 use wf_stream::Store;
 
-/// Takes the image that a frame draws into: the write buffer of its context's target, or the image that its port keeps.
-fn take_target(store: &mut Store, ports: &mut Vec<Port>, kind: JobKind) -> Image
-    requires { IsReady store.old.streams ports.old.items kind }
+/// Takes the image that a frame draws into: the write buffer of its context's target, or the image that is kept for its
+/// port's mode.
+fn take_target(store: &mut Store, ports: &mut Vec<Port>, kind: JobKind, mode: u32) -> Image
+    requires { IsReady store.old.streams ports.old.items mode kind }
     ensures store { store.new ≡ record store.old { streams = drawing kind store.old.streams } }
-    ensures modes { map port_of ports.new.items ≡ map port_of ports.old.items }
-    ensures away { (frame : Running) → frame.kind ≡ kind → PortsFit (Some frame) 1 ports.new.items }
-    ensures image { IsTargetOf store.old.streams (map port_of ports.old.items) kind result }
+    ensures modes { map sizes_of ports.new.items ≡ map sizes_of ports.old.items }
+    ensures away { (frame : Frame) → frame.kind ≡ kind → frame.mode ≡ mode → PortsFit (Some frame) 1 ports.new.items }
+    ensures image { IsTargetOf store.old.streams ports.old.items mode kind result }
 {
     match kind {
         JobKind::Context { target, .. } => acquire_image(store, target),
-        JobKind::Port { port } => take_image(ports, (port - 1) as usize),
+        JobKind::Port { port } => take_image(ports, (port - 1) as usize, mode),
     }
 }
 
 /// Hands the image of a frame that ends on: to the target of its context, as the newest image, or back to its port.
-fn deliver(store: &mut Store, ports: &mut Vec<Port>, kind: JobKind, image: Image)
-    requires { IsDue store.old.streams ports.old.items kind image }
+fn deliver(store: &mut Store, ports: &mut Vec<Port>, kind: JobKind, mode: u32, image: Image)
+    requires { IsDue store.old.streams ports.old.items mode kind image }
     ensures store { store.new ≡ record store.old { streams = delivered kind image store.old.streams } }
-    ensures modes { map port_of ports.new.items ≡ map port_of ports.old.items }
+    ensures modes { map sizes_of ports.new.items ≡ map sizes_of ports.old.items }
     ensures there { PortsFit None 1 ports.new.items }
 {
     match kind {
@@ -54,50 +56,57 @@ fn deliver(store: &mut Store, ports: &mut Vec<Port>, kind: JobKind, image: Image
                 image,
             },
         ),
-        JobKind::Port { port } => put_image(ports, (port - 1) as usize, image),
+        JobKind::Port { port } => put_image(ports, (port - 1) as usize, mode, image),
     }
 }
 
 impl Parts {
+    /// Whether a frame runs.
+    pub(crate) fn is_busy(&self) -> bool
+        ensures { result ≡ is_running self.now }
+    {
+        self.frame.is_some()
+    }
+
     /// Begins a frame of the next active context, if there is one.
     #[inline(never)]
     pub(crate) fn begin_next(&mut self, after: u32) -> Reply
-        ensures left { self.new ≡ (started self.old (begin_next after self.old)).0 }
-        ensures answer { IsAnswer (started self.old (begin_next after self.old)).1 result }
+        ensures left { self.new ≡ (started no_register self.old (begin_next after self.old)).0 }
+        ensures answer { IsAnswer (started no_register self.old (begin_next after self.old)).1 result }
     {
-        if self.frame.is_some() {
+        if self.is_busy() {
             return refused(Code::Busy);
         }
         match self.core.next(after) {
-            Some((handle, shown)) => self.begin_context(handle, shown),
+            Some((handle, shown)) => self.begin_context(handle, handle, shown),
             None => Reply::bare(Answer::done(0)),
         }
     }
 
-    /// Begins a frame of a context that is live, while none runs.
-    fn begin_context(&mut self, handle: u32, shown: Shown) -> Reply
+    /// Begins a frame of a context that is live, while none runs. A refusal has this value.
+    pub(crate) fn begin_context(&mut self, value: u32, handle: u32, shown: Shown) -> Reply
         requires free { self.old.frame ≡ None }
         requires home { AreAtHome self.old.streams }
         requires fits { IsComposable self.old.streams shown.target shown.scene }
-        ensures left { self.new ≡ (started self.old (begin_context handle shown.target shown.scene self.old)).0 }
-        ensures answer { IsAnswer (started self.old (begin_context handle shown.target shown.scene self.old)).1 result }
+        ensures left { self.new ≡ (started no_register self.old (begin_context value handle shown.target shown.scene self.old)).0 }
+        ensures answer { IsAnswer (started no_register self.old (begin_context value handle shown.target shown.scene self.old)).1 result }
     {
-        if let Err(refusal) = self.target_ready(handle, &shown) {
+        if let Err(refusal) = self.target_ready(value, &shown) {
             return Reply::bare(Answer::refused(refusal));
         }
         let kind = JobKind::Context {
             handle,
             target: shown.target,
         };
-        self.start_frame(kind, shown.scene, handle)
+        self.start_frame(kind, 0, shown.scene, handle)
     }
 
-    /// A frame of a context may be drawn into its target, which is kept.
-    fn target_ready(&self, handle: u32, shown: &Shown) -> Result<(), Refusal>
+    /// A frame of a context may be drawn into its target, which is kept. A refusal has this value.
+    fn target_ready(&self, value: u32, shown: &Shown) -> Result<(), Refusal>
         requires kept { IsSome (buffers_at shown.now.target self.now.streams) }
         requires home { AreAtHome self.now.streams }
         ensures { IfSome (buffers_at shown.now.target self.now.streams)
-            (λ b. result ≡ target_ready handle shown.now.target shown.now.scene b self.now) }
+            (λ b. result ≡ target_ready value shown.now.target shown.now.scene b self.now) }
     {
         let Some(stream) = self.store.get(shown.target) else {
             unreachable!()
@@ -111,59 +120,67 @@ impl Parts {
         } else {
             return Ok(());
         };
-        Err(Refusal {
-            code,
-            value: handle,
-        })
+        Err(Refusal { code, value })
     }
 
-    /// The place of a port, which is counted from 1 in calls and from 0 here.
-    fn place_of(&self, port: i64) -> Option<usize>
-        ensures { MatchOption result (nth (count_of port) self.now.display.ports ≡ None) (λ place. (count_of port ≡ place + 1)
-            × (place < length self.now.display.ports)) }
-    {
-        if 1 <= port && port <= self.ports.len() as i64 {
-            Some((port - 1) as usize)
-        } else {
-            None
-        }
-    }
-
-    /// Begins a frame of a port, which is counted from 1.
+    /// Begins a frame of a port, which is counted from 1, where it gives frames.
     #[inline(never)]
     pub(crate) fn begin_port(&mut self, port: i64) -> Reply
-        ensures left { self.new ≡ (started self.old (begin_port port self.old)).0 }
-        ensures answer { IsAnswer (started self.old (begin_port port self.old)).1 result }
+        ensures left { self.new ≡ (started no_register self.old (begin_port port self.old)).0 }
+        ensures answer { IsAnswer (started no_register self.old (begin_port port self.old)).1 result }
     {
-        let Some(place) = self.place_of(port) else {
+        let Some(number) = self.declared_screen(port) else {
             return refused(Code::BadHandle);
         };
-        if !self.frame.is_none() {
+        if self.is_busy() {
             return refused(Code::Busy);
+        }
+        if !self.display.gives_frames(number) {
+            return Reply::bare(Answer::done(0));
         }
         if self.begun == u64::MAX {
             return refused(Code::Limit);
         }
-        let number = place as u32 + 1;
-        let scene = scene_of_port(number, &self.ports[place]);
-        self.start_frame(JobKind::Port { port: number }, scene, number)
+        self.display.begin(&mut self.store, number);
+        self.start_port(number)
+    }
+
+    /// Begins a frame of a port that gives frames, once what waited at its pipelines is current, while no frame runs.
+    fn start_port(&mut self, port: u32) -> Reply
+        requires free { self.old.frame ≡ None }
+        requires few { self.old.begun < 2 ^ 64 - 1 }
+        requires shows { IsSome (port_scene port self.old.display) }
+        requires begun { begun_display port self.old.display ≡ self.old.display }
+        ensures left { IfSome (port_scene port self.old.display)
+            (λ scene. self.new ≡ (start (beginning_of (JobKind.Port port) scene port self.old) self.old).0) }
+        ensures answer { IfSome (port_scene port self.old.display)
+            (λ scene. IsAnswer (start (beginning_of (JobKind.Port port) scene port self.old) self.old).1 result) }
+    {
+        let Some(mode) = self.display.mode(port) else {
+            unreachable!()
+        };
+        let Some(scene) = self.display.scene(port) else {
+            unreachable!()
+        };
+        self.start_frame(JobKind::Port { port }, mode, scene, port)
     }
 
     /// Begins a frame that may begin, while none runs: the newest images of its scene's streams go into its Job, which is
     /// answered with a value.
-    fn start_frame(&mut self, kind: JobKind, scene: Scene, value: u32) -> Reply
+    fn start_frame(&mut self, kind: JobKind, mode: u32, scene: Scene, value: u32) -> Reply
         requires free { self.old.frame ≡ None }
         requires few { self.old.begun < 2 ^ 64 - 1 }
-        requires may { MayStart kind scene self.old }
+        requires may { MayStart kind mode scene self.old }
         ensures left { self.new ≡ (start (beginning_of kind scene value self.old) self.old).0 }
         ensures answer { IsAnswer (start (beginning_of kind scene value self.old) self.old).1 result }
     {
         let (contents, shapes) = latch_scene(&mut self.store, &scene).into_parts();
-        let image = take_target(&mut self.store, &mut self.ports, kind);
+        let image = take_target(&mut self.store, &mut self.ports, kind, mode);
         self.begun += 1;
         self.frame = Some(Frame {
             number: self.begun,
             kind,
+            mode,
             size: image.size(),
             format: image.format(),
             contents: shapes,
@@ -195,8 +212,9 @@ impl Parts {
         if !self.is_of_running(&job) {
             return Reply::giving_back_job(job);
         }
+        let mode = mode_of(&self.frame);
         bring_home(&mut self.store, job.contents);
-        deliver(&mut self.store, &mut self.ports, job.kind, job.image);
+        deliver(&mut self.store, &mut self.ports, job.kind, mode, job.image);
         self.frame = None;
         Reply::bare(Answer::done(0))
     }

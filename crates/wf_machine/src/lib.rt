@@ -2,6 +2,7 @@
 #![tactic(auto)]
 
 mod calls;
+mod composing;
 mod frame;
 mod frames;
 mod latching;
@@ -10,7 +11,6 @@ mod machine;
 mod parts;
 mod port;
 mod replies;
-mod scenes;
 mod screens;
 mod settling;
 mod streams;

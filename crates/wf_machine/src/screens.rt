@@ -21,12 +21,12 @@ impl Parts {
     }
 
     /// The screen of a port, which counts from 1: the stream of its number. None where the port was not declared.
-    fn declared_screen(&self, port: i64) -> Option<u32>
+    pub(crate) fn declared_screen(&self, port: i64) -> Option<u32>
         ensures screen { result ≡ declared_screen port self.now }
         ensures within { IsSome result → IsTrue (is_between (pos 1) (pos 4) port) }
     {
-        if 1 <= port && port <= self.ports.len() as i64 {
-            Some(port as u32)
+        if 1 <= port && port <= 4 {
+            self.display.screen(port as u32)
         } else {
             None
         }

@@ -1,28 +1,15 @@
 //! What is dropped after a call: the streams without a name.
 
-ghost use Rattle.std.specs.Prelude.{◌≡◌, ◌≤◌, [], ◌∷◌, length, map, option_map};
-ghost use Rattle.std.specs.List.{range_with_len};
+ghost use Rattle.std.specs.Prelude.{◌≡◌, map, option_map};
 ghost use Rattle.wf_model.specs.Names.{frame_names, settle, settle_if, target_names};
 ghost use Rattle.wf_machine.specs.Ports.{running_of};
-ghost use Rattle.wf_objects.specs.Marks.{Marks};
+ghost use Rattle.wf_stream.specs.Marks.{Marks};
 
 use crate::frame::Frame;
 use crate::parts::Parts;
-use crate::port::Port;
 use wf_calls::JobKind;
 use wf_model::Content;
-use wf_objects::mark_kept;
-use wf_stream::Store;
-
-/// Marks the screens of the ports.
-fn mark_screens(store: &mut Store, ports: &[Port])
-    requires { length ports.now ≤ 4 }
-    ensures { Marks store.old store.new (range_with_len 1 (length ports.now)) }
-{
-    for port in 0..ports.len() as u32 {
-        mark_kept(store, port + 1);
-    }
-}
+use wf_stream::{Store, mark_kept};
 
 /// Marks the streams of a frame's contents.
 fn mark_contents(store: &mut Store, contents: &[Content])
@@ -69,7 +56,7 @@ impl Parts {
         self.store.unmark();
         self.store.mark_own();
         self.core.mark(&mut self.store);
-        mark_screens(&mut self.store, &self.ports);
+        self.display.mark(&mut self.store);
         mark_frame(&mut self.store, &self.frame);
         self.store.sweep();
     }

@@ -1,8 +1,10 @@
 -- What a call of composition sees, how it finds and changes objects, and what it answers.
-use Rattle.std.specs.Prelude.{ℕ, ◌+◌, Bool, ◌&&◌, ◌==◌, List, find, Option, Some, None, Result, Ok, Err}
+use Rattle.std.proofs.Common.{◌≡◌, ◌∙◌, refl, sym, ap}
+use Rattle.std.specs.Prelude.{ℕ, ◌+◌, Bool, not, ◌&&◌, ◌==◌, List, find, option_map, Option, Some, None, Result, Ok, Err}
 use Rattle.std.specs.List.{list_any}
 use Rattle.wf_words.specs.Keyed.{at_key, change}
-use Rattle.wf_stream.specs.Streams.{KeptStream, stream_at, stream_of}
+use Rattle.wf_words.specs.Rising.{found_above}
+use Rattle.wf_stream.specs.Streams.{IsNumbered, KeptStream, number_of, rises_streams, stream_at, stream_of}
 use Rattle.wf_scene.specs.declared.look.Seen.{Seen}
 use Rattle.wf_scene.specs.Cached.{CachedScene, has_element}
 use Rattle.wf_scene.specs.Sight.{Sight}
@@ -43,6 +45,20 @@ is_of_device d core handle = list_any (λ c. (c.handle == handle) && (c.device =
 -- the stream of a live handle
 abbrev pub live_stream : ℕ → List KeptStream → Result KeptStream Refusal
 live_stream handle streams = found code.BadHandle (stream_of handle streams)
+
+-- the stream of a live handle is that of its number
+pub by_handle : (handle n high : ℕ) (streams : List KeptStream) → IsNumbered 0 streams high → Some n ≡ number_of handle streams
+    → stream_at n streams ≡ stream_of handle streams
+by_handle handle n high streams rising is = of_stream (stream_of handle streams) refl is
+  where
+    of_stream : (o : Option KeptStream) → stream_of handle streams ≡ o → Some n ≡ option_map (λ s. s.number) o
+        → stream_at n streams ≡ o
+    of_stream None at same = absurd cc
+    of_stream (Some s) at same =
+        let here : s.number ≡ n = cc in
+        let found = found_above (λ x. x.number) (λ x. (x.handle == handle) && not (handle == 0)) 0 streams s
+        (rises_streams 0 high streams rising) at in
+        ap (λ m. stream_at m streams) (sym here) ∙ found.1
 
 -- what a source or a mask shows
 

@@ -4,6 +4,8 @@ use Rattle.std.specs.Prelude.{Option, None, Some, Result, Ok, Err, if◌then◌e
 use Rattle.std.specs.List.{list_any}
 use Rattle.wf_words.specs.Refusals.{◌>>=◌}
 use Rattle.wf_words.specs.Whole.{count_of}
+use Rattle.wf_pixel.specs.declared.Format.{Format}
+use Rattle.wf_pixel.specs.declared.Format.TheVariants.{Rgba8Pre, Rgbx8}
 use Rattle.wf_pixel.specs.declared.Size.{Size}
 use Rattle.wf_pixel.specs.declared.Rotation.TheVariants.{R0}
 use Rattle.wf_pixel.specs.Choice.{is_a8, black}
@@ -101,6 +103,27 @@ screen_context d port screen memory_refused w = do
   let new : Context = new_context (w.made + 1) d (count_of port) target in
       Ok (created (record w.core { contexts = w.core.contexts ++ new ∷ [] }) w)
 
+-- a format of pixels that a context may draw: premultiplied, or without an alpha of their own
+abbrev pub is_drawable : Format → Bool
+is_drawable Rgba8Pre = true
+is_drawable Rgbx8 = true
+is_drawable _ = false
+
+-- a stream into which a context draws
+abbrev pub has_target : ℕ → CoreSide → Bool
+has_target stream w = list_any (λ c. c.target == stream) w.core.contexts
+
+-- an off-screen context, which draws into the stream of a live handle
+abbrev pub stream_context : ℕ → ℕ → Bool → CoreSide → Outcome CoreSide
+stream_context d handle memory_refused w = do
+  _ ← device d w
+  target ← live_stream handle w.streams
+  _ ← refuse code.Unsupported (not (is_drawable target.buffers.format))
+  _ ← refuse code.InUse (has_target target.number w)
+  _ ← room (contexts_full w) memory_refused w
+  let new : Context = new_context (w.made + 1) d 0 target in
+      Ok (created (record w.core { contexts = w.core.contexts ++ new ∷ [] }) w)
+
 abbrev pub context_set : ℕ → ℕ → ContextAttr → List ℤ → CoreSide → Outcome CoreSide
 context_set d handle attr value w = do
   _ ← device d w
@@ -116,8 +139,8 @@ context_get d handle attr index w = do
   Ok (w, n)
 
 -- the fault of a commit, told as one number
-abbrev pub fault_as_refusal : Result Scene Fault → Result Scene Refusal
-fault_as_refusal (Ok scene) = Ok scene
+abbrev pub fault_as_refusal : {A : Type 0} → Result A Fault → Result A Refusal
+fault_as_refusal (Ok x) = Ok x
 fault_as_refusal (Err f) = Err (record { code = code.Inconsistency; value = f.place * 16 + f.rule })
 
 abbrev pub with_committed : Scene → Context → Context
@@ -316,6 +339,7 @@ core_call screen memory_refused call.DeviceNew = device_new memory_refused
 core_call screen memory_refused (call.DeviceDestroy d) = device_destroy d
 core_call screen memory_refused (call.GetError d) = get_error d
 core_call screen memory_refused (call.ScreenContext d port) = screen_context d port screen memory_refused
+core_call screen memory_refused (call.StreamContext d stream) = stream_context d stream memory_refused
 core_call screen memory_refused (call.ContextDestroy d c) = context_destroy d c
 core_call screen memory_refused (call.ElementNew d c) = element_new d c memory_refused
 core_call screen memory_refused (call.ElementDestroy d e) = element_destroy d e

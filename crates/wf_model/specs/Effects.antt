@@ -1,5 +1,5 @@
 -- What a call does to the state, by the kinds of what calls do. A law on calls is a function of these few kinds.
-use Rattle.std.proofs.Common.{◌≡◌, ℕ, Bool, true, false, not, ◌||◌, ◌⊎◌, inl, inr, List, map, Option, Some, None, refl, sym, ap}
+use Rattle.std.proofs.Common.{◌≡◌, ℕ, Bool, true, false, not, ◌||◌, ◌==◌, ◌⊎◌, inl, inr, List, map, Option, Some, None, refl, sym, ap}
 use Rattle.std.proofs.Common.{subst, ◌∙◌}
 use Rattle.std.specs.Prelude.{ℤ, Result, Ok, Err}
 use Rattle.wf_words.specs.Refusals.{◌>>=◌}
@@ -10,7 +10,7 @@ use Rattle.wf_scene.specs.declared.Scene.{Scene}
 use Rattle.wf_stream.specs.Buffers.{Buffers, acquired, discarded, posted}
 use Rattle.wf_stream.specs.Streams.{KeptStream, buffers_at, has_no_room, held, stream_of, unnamed}
 use Rattle.wf_calls.specs.Codes.{is_ok_code}
-use Rattle.wf_calls.specs.Parts.{Register, of_device, no_register, part_of, recorded_by, register_of}
+use Rattle.wf_calls.specs.Parts.{Register, of_device, of_display, no_register, part_of, recorded_by, register_of}
 use Rattle.wf_calls.specs.Replies.{bare, done, gives_back_job, gives_canvas, refusal, refused}
 use Rattle.wf_calls.specs.declared.call.Call.{Call}
 use Rattle.wf_calls.specs.declared.call.Call.TheVariants as call
@@ -20,9 +20,18 @@ use Rattle.wf_calls.specs.declared.code.Code.TheVariants as code
 use Rattle.wf_calls.specs.declared.part.Part.TheVariants as part
 use Rattle.wf_calls.specs.declared.reply.Refusal.{Refusal}
 use Rattle.wf_calls.specs.declared.reply.Reply.{Reply}
-use Rattle.wf_model.specs.Beginnings.{next_free, port_is}
-use Rattle.wf_model.specs.Composing.{composed, core_side, screen_of}
+use Rattle.wf_model.specs.Beginnings.{composed_is, next_free, port_is}
+use Rattle.wf_model.specs.Composing.{composed, core_side, display_side, displayed, screen_of}
 use Rattle.wf_model.specs.Composition.{CoreSide, live_stream}
+use Rattle.wf_model.specs.DisplayCalls.{display_call}
+use Rattle.wf_model.specs.DisplaySides.{DisplaySide}
+use Rattle.wf_model.specs.Pipelines.{may_bind, pipeline_styled}
+use Rattle.wf_model.specs.Ports.{port_styled}
+use Rattle.wf_calls.specs.declared.display.PipeAttr.{PipeAttr}
+use Rattle.wf_calls.specs.declared.display.PipeAttr.TheVariants as pipe_attr
+use Rattle.wf_calls.specs.declared.display.PortAttr.{PortAttr}
+use Rattle.wf_calls.specs.declared.display.PortAttr.TheVariants as port_attr
+use Rattle.wf_scene.specs.declared.style.Style.{Style}
 use Rattle.wf_scene.specs.declared.attributes.ElementAttr.{ElementAttr}
 use Rattle.wf_scene.specs.declared.attributes.ElementAttr.TheVariants as element
 use Rattle.wf_scene.specs.declared.attributes.Refused.{Refused}
@@ -30,26 +39,16 @@ use Rattle.wf_scene.specs.declared.attributes.Refused.TheVariants as scene
 use Rattle.wf_scene.specs.declared.look.Fault.{Fault}
 use Rattle.wf_scene.specs.Values.{is_count}
 use Rattle.wf_model.specs.Core.{by_scene, checked_source, core_call, fault_as_refusal, linked}
-use Rattle.wf_model.specs.Frames.{Beginning, begin_call, begin_context, begin_shown, end, end_frame, is_of_frame, is_running, start}
+use Rattle.wf_model.specs.Frames.{Beginning, begin_call, begin_context, begin_lit, begin_shown, end, end_frame, is_of_frame, is_running}
+use Rattle.wf_model.specs.Frames.{start}
 use Rattle.wf_model.specs.Frames.{started}
 use Rattle.wf_model.specs.Objects.{Context, CoreState, Source}
-use Rattle.wf_model.specs.Outcome.{Outcome, found, refuse_with}
+use Rattle.wf_model.specs.Outcome.{Leaves, Outcome, behind, found, refuse_with}
 use Rattle.wf_model.specs.Registers.{offered}
-use Rattle.wf_model.specs.State.{Running, State}
+use Rattle.wf_model.specs.State.{DisplayState, Port, Running, State}
 use Rattle.wf_model.specs.Step.{act}
 use Rattle.wf_model.specs.Streams as streams
 use Rattle.wf_calls.specs.declared.part.Part.{Part}
-
--- what a call of composition leaves, if it leaves anything, has these streams
-abbrev pub Leaves : List KeptStream → Outcome CoreSide → Type 0
-Leaves streams (Ok x) = x.0.streams ≡ streams
-Leaves streams (Err r) = Unit {0}
-
--- so it is behind a step that may refuse
-behind : {A : Type 0} (ss : List KeptStream) (r : Result A Refusal) (f : A → Outcome CoreSide) → ((x : A) → Leaves ss (f x))
-    → Leaves ss (r >>= f)
-behind ss (Ok x) f leaves = leaves x
-behind ss (Err r) f leaves = tt
 
 -- a refusal tells no success
 abbrev pub IsHonest : {A : Type 0} → Result A Refusal → Type 0
@@ -75,7 +74,7 @@ honest_scene (Err scene.BadAttribute) = refl
 honest_scene (Err scene.IllegalArgument) = refl
 honest_scene (Err scene.Limit) = refl
 
-honest_fault : (r : Result Scene Fault) → IsHonest (fault_as_refusal r)
+honest_fault : {A : Type 0} (r : Result A Fault) → IsHonest (fault_as_refusal r)
 honest_fault (Ok x) = tt
 honest_fault (Err f) = refl
 
@@ -99,9 +98,43 @@ core_is_honest screen m (call.SourceNew d o s) w = search
 core_is_honest screen m _ w = search (after_honest, honest_refuse, honest_found, honest_scene, honest_fault, honest_link) depth 12
 
 -- no call of composition changes a stream
-pub core_leaves_streams : (screen : Option ℕ) (m : Bool) (c : Call) (w : CoreSide) → Leaves w.streams (core_call screen m c w)
+pub core_leaves_streams : (screen : Option ℕ) (m : Bool) (c : Call) (w : CoreSide)
+    → Leaves (λ (x : CoreSide). x.streams) w.streams (core_call screen m c w)
 core_leaves_streams screen m (call.SourceNew d o s) w = search (behind)
 core_leaves_streams screen m _ w = search (behind)
+
+honest_port_style : (a : PortAttr) (v : List ℤ) (p : Port) → IsHonest (port_styled a v p)
+honest_port_style port_attr.Mode v p = search (honest_found)
+honest_port_style port_attr.Background v p = search (honest_found)
+honest_port_style port_attr.Power v p = search (honest_found)
+honest_port_style port_attr.Width v p = refl
+honest_port_style port_attr.Height v p = refl
+honest_port_style port_attr.Attached v p = refl
+
+honest_style : (a : PipeAttr) (v : List ℤ) (s : Style) → IsHonest (pipeline_styled a v s)
+honest_style pipe_attr.Transparency v s = search (after_honest, honest_refuse, honest_found)
+honest_style pipe_attr.Port v s = refl
+honest_style pipe_attr.Pending v s = refl
+honest_style pipe_attr.Showing v s = refl
+honest_style _ v s = search (honest_found)
+
+honest_binding : (l : ℤ) (handle : ℕ) (d : DisplayState) → IsHonest (may_bind l handle d)
+honest_binding l handle d = of_test (handle == 0) refl
+  where
+    of_test : (b : Bool) → (handle == 0) ≡ b → IsHonest (may_bind l handle d)
+    of_test true is = rw is tt
+    of_test false is = rw is (search (after_honest, honest_refuse, honest_found))
+
+pub display_is_honest : (m : Bool) (c : Call) (w : DisplaySide) → IsHonest (display_call m c w)
+display_is_honest m call.DisplayError w = tt
+display_is_honest m _ w = search
+    (after_honest, honest_refuse, honest_found, honest_fault, honest_port_style, honest_style, honest_binding) depth 12
+
+-- no call of the display changes a stream
+pub display_leaves_streams : (m : Bool) (c : Call) (w : DisplaySide)
+    → Leaves (λ (x : DisplaySide). x.streams) w.streams (display_call m c w)
+display_leaves_streams m call.DisplayError w = refl
+display_leaves_streams m _ w = search (behind)
 
 -- how a write buffer comes back from a client: posted, or unseen
 abbrev pub IsReturn : Canvas → (Buffers → Buffers) → Type 0
@@ -113,6 +146,9 @@ pub data Effect (h : State) (c : Call) (x : State × Reply) : Type 0 where
   refuses : is_ok_code x.1.code ≡ false → x.0 ≡ offered (register_of c) x.1.code h → Effect h c x
   -- it was carried out on the objects of composition: no stream changes
   composes : (made : ℕ) (core : CoreState) (value : ℕ) → x ≡ (record h { made = made; core = core }, bare (done value)) → Effect h c x
+  -- it was carried out on the objects of the display: no stream changes
+  displays : (made : ℕ) (display : DisplayState) (value : ℕ) → x ≡ (record h { made = made; display = display }, bare (done value))
+      → Effect h c x
   -- it made a stream
   makes : (new : Buffers) → x ≡ ((streams.stream_made new h).0, bare (done (streams.stream_made new h).1)) → Effect h c x
   -- it ended the life of a stream's handle
@@ -149,7 +185,8 @@ composed_effect h c d m is =
     does : CoreSide → Outcome CoreSide
     does = core_call (screen_of c h) m c
 
-    of_outcome : (o : Outcome CoreSide) → does (core_side h) ≡ o → Leaves h.streams o → IsHonest o → Effect h c (composed d does h)
+    of_outcome : (o : Outcome CoreSide) → does (core_side h) ≡ o → Leaves (λ (x : CoreSide). x.streams) h.streams o → IsHonest o
+        → Effect h c (composed d does h)
     of_outcome (Ok x) at leaves honest =
         composes x.0.made x.0.core x.1
         (ap (λ (o : Outcome CoreSide). composed d (λ _. o) h) at
@@ -158,6 +195,25 @@ composed_effect h c d m is =
         let left : composed d does h ≡ (offered (of_device d) r.code h, bare (refused r)) =
         ap (λ (o : Outcome CoreSide). composed d (λ _. o) h) at in
         refuses_so h c (composed d does h) (of_device d) r (ap recorded_by is) honest left
+
+-- a call of the display
+displayed_effect : (h : State) (c : Call) (m : Bool) → part_of c ≡ part.Display → Effect h c (displayed (display_call m c) h)
+displayed_effect h c m is =
+    of_outcome (does (display_side h)) refl (display_leaves_streams m c (display_side h)) (display_is_honest m c (display_side h))
+  where
+    does : DisplaySide → Outcome DisplaySide
+    does = display_call m c
+
+    of_outcome : (o : Outcome DisplaySide) → does (display_side h) ≡ o → Leaves (λ (x : DisplaySide). x.streams) h.streams o → IsHonest o
+        → Effect h c (displayed does h)
+    of_outcome (Ok x) at leaves honest =
+        displays x.0.made x.0.display x.1
+        (ap (λ (o : Outcome DisplaySide). displayed (λ _. o) h) at
+        ∙ ap (λ (ss : List KeptStream). (record h { made = x.0.made; streams = ss; display = x.0.display }, bare (done x.1))) leaves)
+    of_outcome (Err r) at leaves honest =
+        let left : displayed does h ≡ (offered of_display r.code h, bare (refused r)) =
+        ap (λ (o : Outcome DisplaySide). displayed (λ _. o) h) at in
+        refuses_so h c (displayed does h) of_display r (ap recorded_by is) honest left
 
 -- a call on streams
 
@@ -217,17 +273,6 @@ module _ (h : State) (c : Call) (unregistered : register_of c ≡ no_register) w
       of_test true is = rw is (returns canvas f way is refl)
       of_test false is = rw is (refuses refl (rw unregistered refl))
 
-  -- a call that begins a frame
-
-  begin_effect : IsHonest (begin_call c h) → ((b : Beginning) → begin_call c h ≡ Ok (Some b) → is_running h ≡ false)
-      → Effect h c (started h (begin_call c h))
-  begin_effect honest free = of_beginning (begin_call c h) refl honest
-    where
-      of_beginning : (r : Result (Option Beginning) Refusal) → begin_call c h ≡ r → IsHonest r → Effect h c (started h r)
-      of_beginning (Ok None) is honest = tells 0 refl
-      of_beginning (Ok (Some b)) is honest = begins b (free b is) is refl
-      of_beginning (Err r) is honest = refuses_bare r honest
-
   -- the call that ends the running frame
 
   end_effect : (job : Job) → c ≡ call.End job → Effect h c (end job h)
@@ -249,16 +294,36 @@ module _ (h : State) (c : Call) (unregistered : register_of c ≡ no_register) w
 
 -- a refusal of a Begin
 
-context_honest : (handle target : ℕ) (scene : Scene) (h : State) → IsHonest (begin_context handle target scene h)
-context_honest handle target scene h = of_target (buffers_at target h.streams) refl
+context_honest : (value handle target : ℕ) (scene : Scene) (h : State) → IsHonest (begin_context value handle target scene h)
+context_honest value handle target scene h = of_target (buffers_at target h.streams) refl
   where
-    of_target : (o : Option Buffers) → buffers_at target h.streams ≡ o → IsHonest (begin_context handle target scene h)
+    of_target : (o : Option Buffers) → buffers_at target h.streams ≡ o → IsHonest (begin_context value handle target scene h)
     of_target None is = rw is tt
     of_target (Some b) is = rw is (search (after_honest, honest_refuse) depth 12)
 
 shown_honest : (o : Option Context) (h : State) → IsHonest (begin_shown o h)
 shown_honest None h = tt
-shown_honest (Some c) h = context_honest c.handle c.target c.committed h
+shown_honest (Some c) h = context_honest c.handle c.handle c.target c.committed h
+
+lit_honest : (p : ℤ) (d : DisplayState) (o : Option Scene) (h : State) → IsHonest (begin_lit p d o h)
+lit_honest p d None h = tt
+lit_honest p d (Some s) h = search (after_honest, honest_refuse)
+
+pub begin_is_honest : (c : Call) (h : State) → IsHonest (begin_call c h)
+begin_is_honest (call.BeginNext after) h = search (after_honest, honest_refuse, shown_honest) depth 8
+begin_is_honest (call.BeginPort port) h = search (after_honest, honest_refuse, honest_found, lit_honest) depth 12
+begin_is_honest (call.BeginContext d c) h = search (after_honest, honest_refuse, honest_found, context_honest) depth 12
+begin_is_honest _ h = tt
+
+-- a call that begins a frame
+begin_effect : (h : State) (c : Call) (register : Register) → register_of c ≡ register
+    → ((b : Beginning) → begin_call c h ≡ Ok (Some b) → is_running h ≡ false) → Effect h c (started register h (begin_call c h))
+begin_effect h c register own free = of_beginning (begin_call c h) refl (begin_is_honest c h)
+  where
+    of_beginning : (r : Result (Option Beginning) Refusal) → begin_call c h ≡ r → IsHonest r → Effect h c (started register h r)
+    of_beginning (Ok None) is honest = tells 0 refl
+    of_beginning (Ok (Some b)) is honest = begins b (free b is) is refl
+    of_beginning (Err r) is honest = refuses_so h c (offered register r.code h, bare (refused r)) register r own honest refl
 
 -- each call is of one of these kinds
 pub effect : (h : State) (c : Call) (m : Bool) → Effect h c (act h c m)
@@ -270,11 +335,25 @@ effect h (call.Post canvas) m = return_effect h (call.Post canvas) refl canvas (
 effect h (call.Discard canvas) m = return_effect h (call.Discard canvas) refl canvas discarded (inr refl)
 effect h (call.Stat what) m = tells (streams.stat what (held h.streams)) refl
 effect h (call.BeginNext after) m =
-    begin_effect h (call.BeginNext after) refl (search (after_honest, honest_refuse, shown_honest) depth 8) (next_free after h)
+    begin_effect h (call.BeginNext after) no_register refl (next_free after h)
 effect h (call.BeginPort port) m =
-    begin_effect h (call.BeginPort port) refl (search (after_honest, honest_refuse, honest_found) depth 12)
-    (λ b is. (port_is port h b is).free)
+    begin_effect h (call.BeginPort port) no_register refl (λ b is. (port_is port h b is).free)
+effect h (call.BeginContext d c) m =
+    begin_effect h (call.BeginContext d c) (of_device d) refl (λ b is. (composed_is d c h b is).free)
 effect h (call.End job) m = end_effect h (call.End job) refl job refl
+effect h (call.PortSet port a value) m = displayed_effect h (call.PortSet port a value) m refl
+effect h (call.PortGet port a index) m = displayed_effect h (call.PortGet port a index) m refl
+effect h (call.Attach port on) m = displayed_effect h (call.Attach port on) m refl
+effect h (call.PipeSet pipe a value) m = displayed_effect h (call.PipeSet pipe a value) m refl
+effect h (call.PipeGet pipe a index) m = displayed_effect h (call.PipeGet pipe a index) m refl
+effect h (call.PipeBindPort pipe port) m = displayed_effect h (call.PipeBindPort pipe port) m refl
+effect h (call.DisplaySource pipe stream) m = displayed_effect h (call.DisplaySource pipe stream) m refl
+effect h (call.DisplaySourceDestroy source) m = displayed_effect h (call.DisplaySourceDestroy source) m refl
+effect h (call.PipeBindSource pipe source transition) m = displayed_effect h (call.PipeBindSource pipe source transition) m refl
+effect h call.CommitDevice m = displayed_effect h call.CommitDevice m refl
+effect h (call.CommitPort port) m = displayed_effect h (call.CommitPort port) m refl
+effect h (call.CommitPipe pipe) m = displayed_effect h (call.CommitPipe pipe) m refl
+effect h call.DisplayError m = displayed_effect h call.DisplayError m refl
 effect h call.DeviceNew m = composed_effect h call.DeviceNew 0 m refl
 effect h _ m = composed_effect h _ _ m refl
 
@@ -285,6 +364,7 @@ pub carried_or_refused : (h : State) (c : Call) (x : State × Reply) → Effect 
     → (is_ok_code x.1.code ≡ true) ⊎ (x.0 ≡ offered (register_of c) x.1.code h)
 carried_or_refused h c x (refuses honest left) = inr left
 carried_or_refused h c x (composes made core value is) = inl (ap (λ (y : State × Reply). is_ok_code y.1.code) is)
+carried_or_refused h c x (displays made display value is) = inl (ap (λ (y : State × Reply). is_ok_code y.1.code) is)
 carried_or_refused h c x (makes new is) = inl (ap (λ (y : State × Reply). is_ok_code y.1.code) is)
 carried_or_refused h c x (unnames handle is) = inl (ap (λ (y : State × Reply). is_ok_code y.1.code) is)
 carried_or_refused h c x (acquires handle s at is) = inl (ap (λ (y : State × Reply). is_ok_code y.1.code) is)
@@ -308,23 +388,26 @@ abbrev pub moves_frame : Call → Bool
 moves_frame c = moves (part_of c)
   where
     moves : Part → Bool
-    moves part.Begin = true
+    moves (part.Begin d) = true
     moves part.End = true
     moves _ = false
 
-offered_frame : (register : Register) (refused : Code) (h : State) → (offered register refused h).frame ≡ h.frame
+pub offered_frame : (register : Register) (refused : Code) (h : State) → (offered register refused h).frame ≡ h.frame
 offered_frame (of_device d) refused h = refl
+offered_frame of_display refused h = refl
 offered_frame no_register refused h = refl
 
 begins_none : (h : State) (c : Call) → moves_frame c ≡ false → begin_call c h ≡ Ok None
 begins_none h (call.BeginNext after) still = absurd cc
 begins_none h (call.BeginPort port) still = absurd cc
+begins_none h (call.BeginContext d c) still = absurd cc
 begins_none h _ still = refl
 
 -- any other call leaves the running frame as it is
 pub frame_stays : (h : State) (c : Call) (x : State × Reply) → Effect h c x → moves_frame c ≡ false → x.0.frame ≡ h.frame
 frame_stays h c x (refuses honest left) still = ap (λ (s : State). s.frame) left ∙ offered_frame (register_of c) x.1.code h
 frame_stays h c x (composes made core value is) still = ap (λ (y : State × Reply). y.0.frame) is
+frame_stays h c x (displays made display value is) still = ap (λ (y : State × Reply). y.0.frame) is
 frame_stays h c x (makes new is) still = ap (λ (y : State × Reply). y.0.frame) is
 frame_stays h c x (unnames handle is) still = ap (λ (y : State × Reply). y.0.frame) is
 frame_stays h c x (acquires handle s at is) still = ap (λ (y : State × Reply). y.0.frame) is

@@ -14,6 +14,7 @@ use Rattle.wf_stream.specs.Buffers.{Buffers, acquired, is_blocked, latched, latc
 use Rattle.wf_stream.specs.Streams.{KeptStream, buffers_at, change_stream, stream_at}
 use Rattle.wf_scene.specs.declared.Scene.{Scene}
 use Rattle.wf_calls.specs.declared.code.Code.TheVariants as code
+use Rattle.wf_calls.specs.Parts.{Register}
 use Rattle.wf_calls.specs.Replies.{bare, done, gives_back_job, gives_job, refused}
 use Rattle.wf_calls.specs.declared.call.Call.{Call}
 use Rattle.wf_calls.specs.declared.call.Call.TheVariants as call
@@ -23,11 +24,15 @@ use Rattle.wf_calls.specs.declared.call.JobKind.TheVariants as kind
 use Rattle.wf_calls.specs.declared.reply.Refusal.{Refusal}
 use Rattle.wf_calls.specs.declared.reply.Reply.{Reply}
 use Rattle.wf_model.specs.Objects.{Context}
-use Rattle.wf_model.specs.State.{Content, Running, State}
+use Rattle.wf_model.specs.State.{Content, DisplayState, Running, State}
 use Rattle.wf_model.specs.Names.{layer_names, target_names}
-use Rattle.wf_model.specs.Outcome.{found, refuse, refuse_with}
+use Rattle.wf_model.specs.Outcome.{refuse, refuse_with}
+use Rattle.wf_model.specs.Composing.{core_side}
+use Rattle.wf_model.specs.Composition.{context, device}
+use Rattle.wf_model.specs.Registers.{offered}
 use Rattle.wf_model.specs.Picture.{Images}
-use Rattle.wf_model.specs.Display.{port_scene}
+use Rattle.wf_model.specs.Display.{begun_display, port_scene}
+use Rattle.wf_model.specs.DisplaySides.{port}
 
 -- the streams that a scene names, each once
 abbrev pub scene_streams : Scene → List ℕ
@@ -86,9 +91,11 @@ all_begun h = not (nat_lt h.begun (2 ^ 64 - 1))
 
 -- the beginning of a frame
 
--- a frame that may begin: what it is of, its scene, the format of its image, and the value that is answered with its Job
+-- a frame that may begin: what it is of, the display as the frame finds it, its scene, the format of its image, and the
+-- value that is answered with its Job
 pub record Beginning : Type 0 where
   pub kind : JobKind
+  pub display : DisplayState
   pub scene : Scene
   pub format : Format
   pub value : ℕ
@@ -109,36 +116,37 @@ job_of b h =
 abbrev pub is_short : ℕ → Scene → Buffers → Bool
 is_short target scene b = is_blocked (latched_if (is_in target (scene_streams scene)) b)
 
--- a frame of a context may be drawn into its target, which is kept; the refusal has the context's handle as value
+-- a frame of a context may be drawn into its target, which is kept; a refusal has this value
 abbrev pub target_ready : ℕ → ℕ → Scene → Buffers → State → Result (Unit {0}) Refusal
-target_ready handle target scene b h = do
-  _ ← refuse_with code.Busy handle b.out
-  _ ← refuse_with code.NoBuffer handle (is_short target scene b)
-  refuse_with code.Limit handle (all_begun h)
+target_ready value target scene b h = do
+  _ ← refuse_with code.Busy value b.out
+  _ ← refuse_with code.NoBuffer value (is_short target scene b)
+  refuse_with code.Limit value (all_begun h)
 
 -- a frame of a context, which composes a scene into a target
-abbrev pub context_beginning : ℕ → ℕ → Scene → Buffers → Beginning
-context_beginning handle target scene b =
-    record { kind = kind.Context handle target; scene = scene; format = b.format; value = handle }
+abbrev pub context_beginning : ℕ → ℕ → Scene → Buffers → State → Beginning
+context_beginning handle target scene b h =
+    record { kind = kind.Context handle target; display = h.display; scene = scene; format = b.format; value = handle }
 
-abbrev pub begin_context : ℕ → ℕ → Scene → State → Result (Option Beginning) Refusal
-begin_context handle target scene h = of_target (buffers_at target h.streams)
+-- a frame of a context that is asked for; a refusal has this value
+abbrev pub begin_context : ℕ → ℕ → ℕ → Scene → State → Result (Option Beginning) Refusal
+begin_context value handle target scene h = of_target (buffers_at target h.streams)
   where
     -- the target of a live context is always kept
     of_target : Option Buffers → Result (Option Beginning) Refusal
     of_target None = Ok None
     of_target (Some b) = do
-      _ ← target_ready handle target scene b h
-      Ok (Some (context_beginning handle target scene b))
+      _ ← target_ready value target scene b h
+      Ok (Some (context_beginning handle target scene b h))
 
 -- the active context above a handle: contexts stand by rising handle, so the first one has the least
 abbrev pub next_context : ℕ → List Context → Option Context
 next_context after contexts = find (λ c. c.active && nat_lt after c.handle) contexts
 
--- a frame of a context's committed scene, where there is a context
+-- a frame of a context's committed scene, where there is a context; a refusal tells its handle
 abbrev pub begin_shown : Option Context → State → Result (Option Beginning) Refusal
 begin_shown None h = Ok None
-begin_shown (Some c) h = begin_context c.handle c.target c.committed h
+begin_shown (Some c) h = begin_context c.handle c.handle c.target c.committed h
 
 -- a frame of the next active context, where there is one
 abbrev pub begin_next : ℕ → State → Result (Option Beginning) Refusal
@@ -146,32 +154,49 @@ begin_next after h = do
   _ ← refuse code.Busy (is_running h)
   begin_shown (next_context after h.core.contexts) h
 
--- a frame of a port, which is counted from 1
-abbrev pub port_beginning : ℤ → Scene → Beginning
-port_beginning p scene = record { kind = kind.Port (count_of p); scene = scene; format = Rgba8Pre; value = count_of p }
+-- a frame that a client composes, of a context of a device that is not active
+abbrev pub begin_composed : ℕ → ℕ → State → Result (Option Beginning) Refusal
+begin_composed d handle h = do
+  _ ← device d (core_side h)
+  c ← context d handle (core_side h)
+  _ ← refuse code.Unsupported c.active
+  _ ← refuse code.Busy (is_running h)
+  begin_context 0 c.handle c.target c.committed h
+
+-- a frame of a port, which is counted from 1: what waits at its pipelines becomes current, and then its scene is taken
+abbrev pub port_beginning : ℤ → DisplayState → Scene → Beginning
+port_beginning p d scene =
+    record { kind = kind.Port (count_of p); display = d; scene = scene; format = Rgba8Pre; value = count_of p }
+
+-- a frame of a port, where it gives frames
+abbrev pub begin_lit : ℤ → DisplayState → Option Scene → State → Result (Option Beginning) Refusal
+begin_lit p d None h = Ok None
+begin_lit p d (Some scene) h = do
+  _ ← refuse code.Limit (all_begun h)
+  Ok (Some (port_beginning p d scene))
 
 abbrev pub begin_port : ℤ → State → Result (Option Beginning) Refusal
 begin_port p h = do
-  scene ← found code.BadHandle (port_scene (count_of p) h.display)
+  _ ← port p h.display
   _ ← refuse code.Busy (is_running h)
-  _ ← refuse code.Limit (all_begun h)
-  Ok (Some (port_beginning p scene))
+  begin_lit p (begun_display (count_of p) h.display) (port_scene (count_of p) (begun_display (count_of p) h.display)) h
 
 -- the frame that a call begins, where it begins one, or its refusal; a call of another part begins none
 abbrev pub begin_call : Call → State → Result (Option Beginning) Refusal
 begin_call (call.BeginNext after) h = begin_next after h
 begin_call (call.BeginPort port) h = begin_port port h
+begin_call (call.BeginContext d c) h = begin_composed d c h
 begin_call _ h = Ok None
 
 -- a frame begins, and its Job is answered
 abbrev pub start : Beginning → State → State × Reply
-start b h = (with_job (job_of b h) h, gives_job b.value (job_of b h))
+start b h = (with_job (job_of b h) (record h { display = b.display }), gives_job b.value (job_of b h))
 
--- what a call that begins a frame leaves and answers
-abbrev pub started : State → Result (Option Beginning) Refusal → State × Reply
-started h (Ok None) = (h, bare (done 0))
-started h (Ok (Some b)) = start b h
-started h (Err r) = (h, bare (refused r))
+-- what a call that begins a frame leaves and answers; this register takes a refusal
+abbrev pub started : Register → State → Result (Option Beginning) Refusal → State × Reply
+started recorder h (Ok None) = (h, bare (done 0))
+started recorder h (Ok (Some b)) = start b h
+started recorder h (Err r) = (offered recorder r.code h, bare (refused r))
 
 -- the end of a frame
 

@@ -1,11 +1,18 @@
 -- The plain machine: its state, what a call does and answers, and the picture of a scene.
 pub mod Outcome
+pub mod Fitting
 pub mod Objects
 pub mod Composition
 pub mod Core
 pub mod State
 pub mod Names
 pub mod Picture
+pub mod Numbered
+pub mod DisplaySides
+pub mod Ports
+pub mod Pipelines
+pub mod DisplayCommits
+pub mod DisplayCalls
 pub mod Display
 pub mod Frames
 pub mod Streams
@@ -14,3 +21,4 @@ pub mod Registers
 pub mod Step
 pub mod Beginnings
 pub mod Effects
+pub mod Kept

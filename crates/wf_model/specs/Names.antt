@@ -1,5 +1,6 @@
 -- What names a stream. A stream without a name is dropped. The number 0 names none.
-use Rattle.std.specs.Prelude.{ℕ, Bool, ◌==◌, List, [], ◌∷◌, ◌++◌, length, map, flat_map, filter, Option, Some, None, if◌then◌else◌}
+use Rattle.std.specs.Prelude.{ℕ, Bool, ◌==◌, List, [], ◌∷◌, ◌++◌, length, map, flat_map, filter, option_to_list, Option, Some}
+use Rattle.std.specs.Prelude.{None, if◌then◌else◌}
 use Rattle.std.specs.List.{range_with_len}
 use Rattle.wf_words.specs.Keyed.{is_in}
 use Rattle.wf_stream.specs.Streams.{KeptStream}
@@ -7,7 +8,7 @@ use Rattle.wf_scene.specs.declared.Layer.{Layer}
 use Rattle.wf_calls.specs.declared.call.JobKind.{JobKind}
 use Rattle.wf_calls.specs.declared.call.JobKind.TheVariants as kind
 use Rattle.wf_model.specs.Objects.{Context, CoreState}
-use Rattle.wf_model.specs.State.{DisplayState, Running, State}
+use Rattle.wf_model.specs.State.{DisplayState, Pipeline, Running, State}
 
 -- a stream's live handle, and its write buffer that is out
 abbrev pub own_names : KeptStream → List ℕ
@@ -25,9 +26,14 @@ context_names c = c.target ∷ flat_map layer_names c.committed.layers.items
 abbrev pub core_names : CoreState → List ℕ
 core_names core = map (λ s. s.stream) core.sources ++ map (λ m. m.stream) core.masks ++ flat_map context_names core.contexts
 
--- the screens of the ports
+-- what a pipeline shows, and what waits there
+abbrev pub pipeline_names : Pipeline → List ℕ
+pipeline_names x = x.current ∷ option_to_list x.pending
+
+-- the screens of the ports, the live sources of the display, and what the pipelines are bound to
 abbrev pub display_names : DisplayState → List ℕ
-display_names d = range_with_len 1 (length d.ports)
+display_names d =
+    range_with_len 1 (length d.ports) ++ map (λ s. s.stream) d.sources ++ flat_map pipeline_names d.pipelines
 
 -- the target of a context's frame
 abbrev pub target_names : JobKind → List ℕ

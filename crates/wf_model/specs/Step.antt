@@ -1,13 +1,14 @@
 -- The step of the machine: for each call the state after it and the reply.
 use Rattle.std.specs.Prelude.{ℕ, Bool}
 use Rattle.wf_calls.specs.Codes.{is_ok_code}
-use Rattle.wf_calls.specs.Parts.{part_of}
+use Rattle.wf_calls.specs.Parts.{part_of, recorded_by}
 use Rattle.wf_calls.specs.declared.call.Call.{Call}
 use Rattle.wf_calls.specs.declared.part.Part.{Part}
 use Rattle.wf_calls.specs.declared.part.Part.TheVariants as part
 use Rattle.wf_calls.specs.declared.reply.Reply.{Reply}
-use Rattle.wf_model.specs.Composing.{composed, screen_of}
+use Rattle.wf_model.specs.Composing.{composed, displayed, screen_of}
 use Rattle.wf_model.specs.Core.{core_call}
+use Rattle.wf_model.specs.DisplayCalls.{display_call}
 use Rattle.wf_model.specs.Frames.{begin_call, end_call, started}
 use Rattle.wf_model.specs.Names.{settle_if}
 use Rattle.wf_model.specs.State.{State}
@@ -22,7 +23,8 @@ act h c memory_refused = of_part (part_of c)
     of_part part.Streams = stream_call memory_refused c h
     of_part part.Buffers = buffer_call c h
     of_part (part.Composition d) = composed d (core_call (screen_of c h) memory_refused c) h
-    of_part part.Begin = started h (begin_call c h)
+    of_part part.Display = displayed (display_call memory_refused c) h
+    of_part (part.Begin d) = started (recorded_by (part.Begin d)) h (begin_call c h)
     of_part part.End = end_call c h
 
 -- the step of a client's call: what it does, and then, where it was carried out, the streams without a name are dropped

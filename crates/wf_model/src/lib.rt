@@ -3,6 +3,11 @@
 //! against them.
 #![tactic(auto)]
 
+mod display;
+mod laws;
+
+pub use display::{DisplaySource, Extent, Pipeline, Port, PortStyle, Request};
+pub use laws::ports_stay_at_a_pipelines_commit;
 use wf_pixel::{Format, Size};
 
 /// What a running frame holds of a stream: an image of this size and format.

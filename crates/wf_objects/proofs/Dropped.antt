@@ -1,42 +1,33 @@
 -- An object that leaves with its handle: what is left fits.
 use Rattle.std.proofs.Common.{◌≡◌, ◌≢◌, ℕ, Bool, true, false, not, ◌==◌, ◌&&◌, ◌||◌, List, map, filter, find, set, slice_get, option_map}
-use Rattle.std.proofs.Common.{Option, Some, None, is_some, refl, sym, ap, subst, ◌∙◌, [], ◌∷◌, cond, arith}
+use Rattle.std.proofs.Common.{Option, Some, None, refl, sym, ap, subst, ◌∙◌, [], ◌∷◌, cond, arith}
 use Rattle.std.specs.List.{list_any, list_all, AllByRecursion}
 use Rattle.std.proofs.lemmas.Bool.{and_parts, eqb-true, ne_eqb, and_from}
 use Rattle.wf_words.specs.Keyed.{is_in}
 use Rattle.wf_life.specs.declared.Kind.{Kind}
 use Rattle.wf_life.specs.declared.Kind.TheVariants as kind
-use Rattle.wf_life.specs.Handles.{Live, IsRising, is_live, same_kind, without, rising_without, rises_live}
+use Rattle.wf_life.specs.Handles.{Live, same_kind, without, rising_without, rises_live}
 use Rattle.wf_stream.specs.Streams.{StoreView}
 use Rattle.wf_scene.specs.Cached as cached
 use Rattle.wf_scene.specs.Cached.{handle_of, handles, has_element}
 use Rattle.wf_model.specs.Objects.{Context, CoreState}
 use Rattle.wf_model.specs.Core.{without_source}
-use Rattle.wf_objects.specs.Fits.{ContextFits, Fits, HandlesFit, HasElements, Shows, context_live, element_live, has_owner, of_kind}
+use Rattle.wf_objects.specs.Fits.{ContextFits, Fits, HandlesFit, HasElements, Shows, context_live, element_live, has_owner}
+use Rattle.wf_life.specs.Living.{of_kind}
 use Rattle.wf_objects.specs.Fits.{device_live, elements_of}
 use Rattle.wf_objects.specs.Links.{link_kind, link_live, links, with_links}
 use Rattle.wf_objects.proofs.Fitting.{Housed, KindChanged, contexts_fit, devices_fit, links_fit, links_live, links_show}
 use Rattle.wf_objects.specs.Losses.{Loses, but_context}
 use Rattle.wf_objects.specs.Sides.{is_of_composition}
 use Rattle.wf_words.specs.Filtered.{all_filtered, filter_mapped, any_left}
-use Rattle.wf_objects.proofs.Leaving.{count_stays, left_out, taken_out}
+use Rattle.wf_life.specs.Living.{count_stays, left_out, taken_out}
 use Rattle.wf_words.specs.Each.{each_filtered, each_at, each_other, each_set}
-use Rattle.wf_words.specs.Found.{any_found, any_mapped, find_filtered, passes}
+use Rattle.wf_words.specs.Found.{any_mapped}
 use Rattle.wf_words.specs.Places.{map_set}
 use Rattle.wf_objects.proofs.Lookups.{has_by_key, is_named, rises_contexts}
-use Rattle.wf_words.specs.Rising.{each_replaced, found_above}
+use Rattle.wf_words.specs.Rising.{each_replaced}
 use Rattle.std.proofs.lemmas.Bool.Decides.{nat_tests}
-
--- the kinds that are one
-pub same_is : (k l : Kind) → same_kind k l ≡ true → k ≡ l
-same_is kind.Stream kind.Stream is = refl
-same_is kind.Device kind.Device is = refl
-same_is kind.Context kind.Context is = refl
-same_is kind.Element kind.Element is = refl
-same_is kind.Source kind.Source is = refl
-same_is kind.Mask kind.Mask is = refl
-same_is kind.DisplaySource kind.DisplaySource is = refl
-same_is _ _ is = absurd cc
+use Rattle.wf_life.specs.Living.{IsUnder, object_under, under}
 
 pub and_false : (b : Bool) → (b && false) ≡ false
 and_false true = refl
@@ -46,49 +37,10 @@ pub and_true : (b : Bool) → (b && true) ≡ b
 and_true true = refl
 and_true false = refl
 
--- what lives under a handle, with its kind
-pub record IsUnder (h : ℕ) (k : Kind) (others : List Live) : Type 0 where
-  pub object : Live
-  pub found : find (λ l. l.handle == h) others ≡ Some object
-  pub kind_is : object.kind ≡ k
-
--- a handle and a kind lead to it
-abbrev pub under : (h : ℕ) (k : Kind) (made : ℕ) (others : List Live) (l : Live) → IsRising 0 others made
-    → find (λ x. (x.handle == h) && same_kind x.kind k) others ≡ Some l → IsUnder h k others
-under h k made others l rising found =
-    let parts = and_parts (l.handle == h) (same_kind l.kind k)
-    (passes (λ x. (x.handle == h) && same_kind x.kind k) others l found) in
-    let there = found_above (λ x. x.handle) (λ x. (x.handle == h) && same_kind x.kind k) 0 others l
-    (rises_live 0 made others rising) found in
-    record {
-      object = l;
-      found = ap (λ n. find (λ x. x.handle == n) others) (sym (eqb-true l.handle h parts.0)) ∙ there.1;
-      kind_is = same_is l.kind k parts.1;
-    }
-
--- an object of a kind lives under its handle
-pub object_under : {A : Type 0} (k : Kind) (g : A → Live) (h made : ℕ) (xs : List A) (others : List Live) → IsRising 0 others made
-    → of_kind k others ≡ map g xs → list_any (λ x. (g x).handle == h) xs ≡ true → IsUnder h k others
-object_under k g h made xs others rising is any = of_found (find (λ x. (x.handle == h) && same_kind x.kind k) others) refl some
-  where
-    some : is_some (find (λ x. (x.handle == h) && same_kind x.kind k) others) ≡ true
-    some =
-        ap is_some (find_filtered (λ l. l.handle == h) (λ l. same_kind l.kind k) others
-        ∙ ap (find (λ l. l.handle == h)) is)
-        ∙ sym (any_found (λ l. l.handle == h) (map g xs)) ∙ any_mapped (λ l. l.handle == h) g xs ∙ any
-
-    of_found : (o : Option Live) → find (λ x. (x.handle == h) && same_kind x.kind k) others ≡ o → is_some o ≡ true → IsUnder h k others
-    of_found None at there = absurd cc
-    of_found (Some l) at there = under h k made others l rising at
-
 -- a link is no element
 no_element : (mask : Bool) → same_kind (link_kind mask) kind.Element ≡ false
 no_element false = refl
 no_element true = refl
-
--- what is under a handle lives
-pub lives : (h : ℕ) (k : Kind) (others : List Live) → IsUnder h k others → is_live h others ≡ true
-lives h k others u = any_found (λ l. l.handle == h) others ∙ ap is_some u.found
 
 -- without the object of a handle
 abbrev pub dead : ℕ → StoreView → StoreView

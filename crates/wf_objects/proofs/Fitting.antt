@@ -14,7 +14,7 @@ use Rattle.wf_model.specs.Core.{get_error, register_number}
 use Rattle.wf_objects.specs.Does.{Does}
 use Rattle.wf_objects.specs.Sides.{side_of}
 use Rattle.wf_objects.specs.Fits.{ContextFits, Fits, HandlesFit, HasElements, Shows, StreamsFit, context_live, device_live, has_owner}
-use Rattle.wf_objects.specs.Fits.{of_kind}
+use Rattle.wf_life.specs.Living.{of_kind}
 use Rattle.wf_objects.specs.Links.{link_kind, link_live, links, with_links}
 
 -- other registers

@@ -4,6 +4,5 @@ pub mod Owners
 pub mod Scenes
 pub mod Makings
 pub mod Keeping
-pub mod Leaving
 pub mod Dropped
 pub mod Remainders

@@ -13,8 +13,10 @@ use Rattle.wf_calls.specs.declared.code.Code.TheVariants as code
 use Rattle.wf_model.specs.Objects.{Context, CoreState, Device}
 use Rattle.wf_calls.specs.Replies.{refusal}
 use Rattle.wf_model.specs.Outcome.{found}
-use Rattle.wf_objects.specs.Sides.{side_of, without_value}
-use Rattle.wf_objects.specs.Fits.{HandlesFit, HasElements, keyed, of_kind, elements_of, device_live, context_live, element_live}
+use Rattle.wf_objects.specs.Sides.{side_of}
+use Rattle.wf_model.specs.Outcome.{without_value}
+use Rattle.wf_objects.specs.Fits.{HandlesFit, HasElements, elements_of, device_live, context_live, element_live}
+use Rattle.wf_life.specs.Living.{keyed, of_kind}
 use Rattle.wf_objects.specs.Owners.{live_device, of_device, of_element}
 use Rattle.wf_words.specs.Found.{find_filtered, any_found, any_mapped, get_position}
 use Rattle.wf_words.specs.Rising.{Rises, rises_filter, rises_map, find_tested}

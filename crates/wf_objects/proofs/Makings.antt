@@ -22,10 +22,11 @@ use Rattle.std.specs.Prelude.{nat_le}
 use Rattle.wf_objects.specs.Does.{Does, element_made, in_place}
 use Rattle.wf_objects.proofs.Scenes.{placed_is}
 use Rattle.wf_objects.specs.Links.{link_kind, link_live, links, with_links}
-use Rattle.wf_objects.specs.Sides.{is_of_composition, refused_handle, side_of}
+use Rattle.wf_objects.specs.Sides.{is_of_composition, side_of}
+use Rattle.wf_model.specs.Outcome.{refused_handle}
 use Rattle.wf_objects.proofs.Fitting.{Housed, KindChanged, contexts_fit, devices_fit, links_fit, links_live, links_show}
 use Rattle.wf_objects.specs.Fits.{ContextFits, Fits, HasElements, Shows, context_live, device_live, element_live, elements_of, has_owner}
-use Rattle.wf_objects.specs.Fits.{live, of_kind}
+use Rattle.wf_life.specs.Living.{live, of_kind}
 use Rattle.wf_words.specs.Each.{each_at, each_more, each_other, each_set}
 use Rattle.wf_words.specs.Places.{map_set}
 use Rattle.wf_objects.proofs.Lookups.{has_by_key, is_named, rises_contexts}

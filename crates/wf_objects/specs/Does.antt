@@ -20,8 +20,10 @@ use Rattle.wf_model.specs.Composition.{CoreSide, change_context, context, create
 use Rattle.wf_model.specs.Core.{blank_scene, by_scene, contexts_full, linked, refusal_code, room, sources_full}
 use Rattle.wf_objects.specs.Fits.{Fits}
 use Rattle.wf_objects.specs.Links.{links, with_links}
-use Rattle.wf_objects.specs.Owners.{StandsAt, at_place, joined, owned_context, owning_context}
-use Rattle.wf_objects.specs.Sides.{KeepsRest, done_by, lacks_memory, side_of}
+use Rattle.wf_objects.specs.Owners.{StandsAt, joined, owned_context, owning_context}
+use Rattle.wf_model.specs.Outcome.{at_place}
+use Rattle.wf_objects.specs.Sides.{KeepsRest, side_of}
+use Rattle.wf_model.specs.Outcome.{done_by, lacks_memory}
 
 -- it leaves and answers what the plain call does, where want of memory is told by the answer; a refused one changes
 -- nothing; of the store it makes or takes a handle at most; and objects and store fit again

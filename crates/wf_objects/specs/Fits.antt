@@ -1,28 +1,21 @@
 -- When the objects of composition and the store fit: the store has just their handles, and keeps the streams that they name.
-use Rattle.std.specs.Prelude.{◌≡◌, ℕ, Bool, true, false, not, ◌&&◌, ◌||◌, ◌==◌, List, map, filter, find, option_map, Option, Some, None}
-use Rattle.std.specs.Prelude.{IfSome, IsSomeAnd, IsTrue}
+use Rattle.std.specs.Prelude.{◌≡◌, ℕ, Bool, true, false, not, ◌&&◌, ◌||◌, ◌==◌, List, map, filter}
+use Rattle.std.specs.Prelude.{IsSomeAnd, IsTrue}
 use Rattle.std.specs.List.{list_all, AllByRecursion}
-use Rattle.std.proofs.Common.{refl, ap, ◌∙◌}
-use Rattle.wf_words.specs.Found.{find_filtered, find_mapped}
 use Rattle.wf_words.specs.Keyed.{is_in}
-use Rattle.wf_pixel.specs.Choice.{has_sides, is_a8}
-use Rattle.wf_pixel.specs.Place.{size_of}
-use Rattle.wf_life.specs.declared.Kind.{Kind}
+use Rattle.wf_pixel.specs.Choice.{is_a8}
 use Rattle.wf_life.specs.declared.Kind.TheVariants as kind
-use Rattle.wf_life.specs.Handles.{Live, IsRising, key_of, same_kind}
+use Rattle.wf_life.specs.Handles.{Live, IsRising, same_kind}
 use Rattle.wf_stream.specs.Streams.{KeptStream, StoreView, buffers_at}
-use Rattle.wf_scene.specs.declared.Layer.{Layer}
 use Rattle.wf_scene.specs.Cached.{handles}
-use Rattle.wf_scene.specs.Layers.{holds_rect, is_placed_layer}
 use Rattle.wf_model.specs.Objects.{Context, CoreState, Device, Source}
+use Rattle.wf_life.specs.Living.{live, of_kind}
+use Rattle.wf_model.specs.Fitting.{LayerFits}
 
 -- handles
 
 -- the keys under which the store has the objects: a context's is its device, an element's its context, and that of a
 -- source or a mask the number of its stream; a device's tells nothing
-
-abbrev pub live : Kind → ℕ → ℕ → Live
-live k handle key = record { handle = handle; kind = k; key = key }
 
 abbrev pub device_live : Device → Live
 device_live x = live kind.Device x.handle 0
@@ -38,22 +31,6 @@ mask_live m = live kind.Mask m.handle m.stream
 
 abbrev pub element_live : ℕ → ℕ → Live
 element_live owner handle = live kind.Element handle owner
-
--- the live handles of a kind
-abbrev pub of_kind : Kind → List Live → List Live
-of_kind k others = filter (λ l. same_kind l.kind k) others
-
-mapped_twice : {A B C : Type 0} (f : B → C) (g : A → B) (o : Option A) → option_map f (option_map g o) ≡ option_map (λ x. f (g x)) o
-mapped_twice f g None = refl
-mapped_twice f g (Some x) = refl
-
--- the key of a handle is that of the object that has it
-pub keyed : {A : Type 0} (k : Kind) (g : A → Live) (handle : ℕ) (xs : List A) (others : List Live) → of_kind k others ≡ map g xs
-    → key_of handle k others ≡ option_map (λ x. (g x).key) (find (λ x. (g x).handle == handle) xs)
-keyed k g handle xs others is =
-    ap (option_map (λ (l : Live). l.key)) (find_filtered (λ (l : Live). l.handle == handle) (λ (l : Live). same_kind l.kind k) others
-    ∙ ap (find (λ (l : Live). l.handle == handle)) is ∙ find_mapped (λ (l : Live). l.handle == handle) g xs)
-    ∙ mapped_twice (λ (l : Live). l.key) g (find (λ x. (g x).handle == handle) xs)
 
 -- those of a context's elements
 abbrev pub elements_of : ℕ → List Live → List Live
@@ -82,19 +59,6 @@ pub record HandlesFit (core : CoreState) (store : StoreView) : Type 0 where
 -- a source shows pixels, and a mask alphas
 abbrev pub Shows : Bool → List KeptStream → Source → Type 0
 Shows mask streams s = IsSomeAnd (buffers_at s.stream streams) (λ b. is_a8 b.format ≡ mask)
-
--- a layer shows a part of a stream of pixels, at a place in the range of coordinates, through a mask of the
--- destination's size where one applies
-pub record LayerFits (streams : List KeptStream) (l : Layer) : Type 0 where
-  pub source : IsSomeAnd (buffers_at l.stream streams) (λ b. (is_a8 b.format ≡ false) × IsTrue (holds_rect b.size l.src))
-  pub dest : IsTrue (has_sides (size_of l.dest))
-  pub place : IsTrue (is_placed_layer l)
-  pub mask : IsTrue l.transparency.mask → IsSomeAnd (buffers_at l.mask streams) (λ b. (is_a8 b.format ≡ true) × (b.size ≡ size_of l.dest))
-  pub unmasked : l.transparency.mask ≡ false → l.mask ≡ 0
-
--- a stream, if it is kept, is one of pixels
-abbrev pub IsOfPixels : List KeptStream → ℕ → Type 0
-IsOfPixels streams n = IfSome (buffers_at n streams) (λ b. is_a8 b.format ≡ false)
 
 -- a context draws into a stream of pixels of the size of its scenes, and its committed scene fits
 pub record ContextFits (streams : List KeptStream) (c : Context) : Type 0 where

@@ -5,7 +5,6 @@ pub mod Fits
 pub mod Owners
 pub mod Sights
 pub mod Shows
-pub mod Marks
 pub mod Losses
 pub mod Does
 pub mod Rows

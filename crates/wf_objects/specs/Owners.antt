@@ -8,11 +8,12 @@ use Rattle.wf_scene.specs.Cached.{has_element}
 use Rattle.wf_calls.specs.declared.code.Code.TheVariants as code
 use Rattle.wf_calls.specs.declared.reply.Refusal.{Refusal}
 use Rattle.wf_model.specs.Objects.{Context, CoreState}
-use Rattle.wf_model.specs.Outcome.{found}
+use Rattle.wf_model.specs.Outcome.{at_place, found}
 use Rattle.wf_model.specs.Composition.{CoreSide, device, context, element_context}
 use Rattle.wf_model.specs.Core.{owned_source}
 use Rattle.wf_objects.specs.Links.{links}
-use Rattle.wf_objects.specs.Sides.{side_of, without_value}
+use Rattle.wf_objects.specs.Sides.{side_of}
+use Rattle.wf_model.specs.Outcome.{without_value}
 
 -- the context of a device with a handle, if there is one
 abbrev pub of_device : ℕ → ℕ → List Context → Option Context
@@ -51,11 +52,6 @@ owned_link mask d handle w = without_value (device d w >>= (λ _. owned_source d
 pub joined : {A B C E : Type 0} (m : Result A E) (f : A → Result B E) (k : B → Result C E) → (m >>= (λ x. f x >>= k)) ≡ ((m >>= f) >>= k)
 joined (Ok x) f k = refl
 joined (Err e) f k = refl
-
--- what stands at a place that was found, or the refusal
-abbrev pub at_place : {A : Type 0} → Result ℕ Refusal → List A → Result A Refusal
-at_place (Ok place) xs = found code.BadHandle (slice_get xs place)
-at_place (Err r) xs = Err r
 
 -- the context at a place has a handle
 abbrev pub StandsAt : ℕ → ℕ → CoreState → Type 0

@@ -17,7 +17,8 @@ use Rattle.wf_calls.specs.declared.reply.Refusal.{Refusal}
 use Rattle.wf_model.specs.Outcome.{found, refuse}
 use Rattle.wf_model.specs.Objects.{Context, CoreState, Source}
 use Rattle.wf_model.specs.Composition.{seen, seen_source, seen_stream, sight_of}
-use Rattle.wf_objects.specs.Fits.{HandlesFit, keyed, mask_live, of_kind, source_live}
+use Rattle.wf_objects.specs.Fits.{HandlesFit, mask_live, source_live}
+use Rattle.wf_life.specs.Living.{keyed, of_kind}
 use Rattle.wf_objects.specs.Sides.{side_of}
 
 -- what is seen behind a key, which is the number of a stream

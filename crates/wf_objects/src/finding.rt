@@ -8,7 +8,8 @@ ghost use Rattle.wf_stream.specs.Streams.{is_stream};
 ghost use Rattle.wf_model.specs.Core.{is_element_or_0};
 ghost use Rattle.wf_objects.specs.Fits.{Fits};
 ghost use Rattle.wf_objects.specs.Links.{links};
-ghost use Rattle.wf_objects.specs.Owners.{of_device, of_element, live_device, owned_context, owned_link, owning_context, at_place, LivesAt};
+ghost use Rattle.wf_objects.specs.Owners.{of_device, of_element, live_device, owned_context, owned_link, owning_context, LivesAt};
+ghost use Rattle.wf_model.specs.Outcome.{at_place};
 ghost use Rattle.wf_objects.specs.Owners.{StandsAt};
 ghost use Rattle.wf_objects.specs.Sides.{side_of};
 
@@ -137,6 +138,13 @@ impl Objects {
         ensures { result ≡ list_any (λ c. c.port == port) self.now.contexts }
     {
         self.contexts.iter().any(|context| context.port == port)
+    }
+
+    /// A context draws into a stream.
+    pub fn has_target(&self, stream: u32) -> bool
+        ensures { result ≡ list_any (λ c. c.target == stream) self.now.contexts }
+    {
+        self.contexts.iter().any(|context| context.target == stream)
     }
 
     /// The cached scene of the context at a place.

@@ -15,6 +15,5 @@ mod rows;
 mod shown;
 
 pub use editing::by_scene;
-pub use marking::mark_kept;
 pub use objects::Objects;
 pub use shown::Shown;

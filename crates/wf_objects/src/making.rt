@@ -7,7 +7,8 @@ ghost use Rattle.wf_model.specs.Core.{blank_scene, device_new, sources_full};
 ghost use Rattle.wf_objects.specs.Does.{Does, context_made, element_made, in_place, link_made};
 ghost use Rattle.wf_objects.specs.Fits.{Fits};
 ghost use Rattle.wf_objects.specs.Links.{link_kind, links, with_links};
-ghost use Rattle.wf_objects.specs.Sides.{lacks_memory, refused_handle, side_of, without_value};
+ghost use Rattle.wf_objects.specs.Sides.{side_of};
+ghost use Rattle.wf_model.specs.Outcome.{lacks_memory, refused_handle, without_value};
 
 use crate::objects::{MOST_CONTEXTS, MOST_DEVICES, MOST_ELEMENTS, MOST_SOURCES, Objects};
 use crate::rows::{Context, Device, Link};

@@ -4,21 +4,12 @@ ghost use Rattle.std.specs.Prelude.{◌≡◌, ℕ, ◌||◌, [], ◌∷◌, map
 ghost use Rattle.wf_words.specs.Keyed.{is_in};
 ghost use Rattle.wf_stream.specs.Streams.{stream_at};
 ghost use Rattle.wf_model.specs.Names.{context_names, core_names, layer_names};
-ghost use Rattle.wf_objects.specs.Marks.{Marks};
+ghost use Rattle.wf_stream.specs.Marks.{Marks};
 
 use crate::objects::Objects;
 use crate::rows::{Context, Link};
 use wf_scene::Layer;
-use wf_stream::Store;
-
-/// Marks the stream of a number, where it is kept.
-pub fn mark_kept(store: &mut Store, number: u32)
-    ensures { Marks store.old store.new (number ∷ []) }
-{
-    if store.get(number).is_some() {
-        store.mark(number);
-    }
-}
+use wf_stream::{Store, mark_kept};
 
 /// Marks what a layer shows, and its mask.
 fn mark_layer(store: &mut Store, layer: Layer)

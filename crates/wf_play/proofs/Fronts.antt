@@ -10,7 +10,7 @@ use Rattle.wf_turn.specs.Serial.{IsCutFilm}
 use Rattle.wf_play.specs.Notes.{PutsOrFront}
 
 -- as many bytes were put as are told
-as_many : {S : Type 0} (took : S → List ℕ → Type 0) (a b : S) (bytes : List ℕ) (written : ℕ) → PutsPart took a b 0 bytes written
+pub as_many : {S : Type 0} (took : S → List ℕ → Type 0) (a b : S) (bytes : List ℕ) (written : ℕ) → PutsPart took a b 0 bytes written
     → (front : List ℕ) × (length front ≡ written) × Puts took a b front
 as_many took a b bytes written part = (take (written - 0) bytes, omega (arith, length-take (written - 0) bytes, part.short), part.front)
 

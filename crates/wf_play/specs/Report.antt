@@ -1,14 +1,17 @@
 -- What a report says: of the input's bytes, of what went into the film, and of the order.
 use Rattle.std.specs.Prelude.{◌≡◌, ℕ, ◌^◌, ◌<◌, ◌≤◌, ◌⊎◌, List, [], length, Result, Ok, Err}
-use Rattle.wf_io.specs.Bytes.{Puts, PutsNothing}
+use Rattle.wf_io.specs.Bytes.{Puts, PutsNothing, PutsPart}
 use Rattle.wf_io.specs.Causes.{Rose}
 use Rattle.wf_calls.specs.declared.order.Turn.{Turn}
 use Rattle.wf_script.specs.declared.fault.ScriptFault.{ScriptFault}
 use Rattle.wf_script.specs.declared.fault.ScriptFault.TheVariants as fault
+use Rattle.wf_script.specs.Canonical.{canonical}
 use Rattle.wf_script.specs.Grammar.{Stands, read_script}
 use Rattle.wf_script.specs.Script.{PlainScript}
 use Rattle.wf_turn.specs.Play.{film}
 use Rattle.wf_turn.specs.Serial.{IsCutFilm, IsSerial}
+use Rattle.wf_play.specs.declared.words.Mode.{Mode}
+use Rattle.wf_play.specs.declared.words.Mode.TheVariants as mode
 use Rattle.wf_play.specs.declared.report.Status.{Status}
 use Rattle.wf_play.specs.declared.report.Status.TheVariants as status
 
@@ -52,17 +55,40 @@ pub record IsFront {O : Type 0} (took : O → List ℕ → Type 0) (old new : O)
   pub stands : Stands bytes script
   pub cut : IsCutFilm took old new script order written
 
+-- the bytes that were put are the canonical text of the script that the input's bytes stand for, and nothing was played
+pub record IsPrinted {O : Type 0} (took : O → List ℕ → Type 0) (old new : O) (bytes : List ℕ) (order : List Turn) : Type 0 where
+  pub script : PlainScript
+  pub stands : Stands bytes script
+  pub put : Puts took old new (canonical script)
+  pub none : order ≡ []
+
+-- the first `written` bytes of that text were put
+pub record IsCutText {O : Type 0} (took : O → List ℕ → Type 0) (old new : O) (bytes : List ℕ) (order : List Turn) (written : ℕ) : Type 0
+  where
+    pub script : PlainScript
+    pub stands : Stands bytes script
+    pub cut : PutsPart took old new 0 (canonical script) written
+    pub none : order ≡ []
+
 module _ {O : Type 0} (took : O → List ℕ → Type 0) (old new : O) (order : List Turn) where
+  -- what a mode puts whole, and of what it put a front
+  abbrev pub IsWhole : Mode → List ℕ → Type 0
+  IsWhole mode.Film bytes = IsPlainFilm took old new bytes order
+  IsWhole mode.Print bytes = IsPrinted took old new bytes order
+
+  abbrev pub IsCut : Mode → List ℕ → ℕ → Type 0
+  IsCut mode.Film bytes written = IsFront took old new bytes order written
+  IsCut mode.Print bytes written = IsCutText took old new bytes order written
+
   -- what each status says of an input of these bytes
-  abbrev pub SaysOfInput : List ℕ → Status → Type 0
-  SaysOfInput bytes status.Done = (length bytes ≤ script_limit) × IsPlainFilm took old new bytes order
-  SaysOfInput bytes status.Usage = Unit {0}
-  SaysOfInput bytes status.ReadFault = Unit {0}
-  SaysOfInput bytes status.TooLong = script_limit < length bytes
-  SaysOfInput bytes (status.Refused line rule) = (length bytes ≤ script_limit) × IsRefused bytes line rule
-  SaysOfInput bytes (status.WriteFault written) =
-      (length bytes ≤ script_limit) × IsFront took old new bytes order written
-  SaysOfInput bytes status.NoMemory = Unit {0}
+  abbrev pub SaysOfInput : Mode → List ℕ → Status → Type 0
+  SaysOfInput m bytes status.Done = (length bytes ≤ script_limit) × IsWhole m bytes
+  SaysOfInput m bytes status.Usage = Unit {0}
+  SaysOfInput m bytes status.ReadFault = Unit {0}
+  SaysOfInput m bytes status.TooLong = script_limit < length bytes
+  SaysOfInput m bytes (status.Refused line rule) = (length bytes ≤ script_limit) × IsRefused bytes line rule
+  SaysOfInput m bytes (status.WriteFault written) = (length bytes ≤ script_limit) × IsCut m bytes written
+  SaysOfInput m bytes status.NoMemory = Unit {0}
 
   -- what each status says of the film and of the order, whatever the input
   abbrev pub SaysOfFilm : Status → Type 0
@@ -91,8 +117,7 @@ IsReadStop before now (status.Refused line rule) = Unit {0}
 IsReadStop before now status.NoMemory = Unit {0}
 IsReadStop before now _ = ⊥
 
--- where the input is within the limit and stands for a script, and no fault is counted, the film is whole, unless
--- memory runs out
+-- where the input is within the limit and stands for a script, and no fault is counted, all is put, unless memory runs out
 abbrev pub IsComplete : List ℕ → (input_before input_now film_before film_now : ℕ) → Status → Type 0
 IsComplete bytes input_before input_now film_before film_now s =
     (script : PlainScript) → Stands bytes script → length bytes ≤ script_limit → ¬ Rose input_before input_now → ¬ Rose film_before film_now

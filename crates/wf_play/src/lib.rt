@@ -1,4 +1,4 @@
-//! The top call: plays a scene script and writes its film.
+//! The top call: plays a scene script and writes its film, or prints it.
 #![tactic(auto)]
 
 mod gate;
@@ -13,6 +13,7 @@ pub use laws::one_film;
 pub use notes::put_note;
 pub use report::{Report, Status};
 pub use top::play;
+pub use words::Mode;
 
 #[cfg(test)]
 mod tests;

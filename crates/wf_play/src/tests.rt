@@ -9,6 +9,9 @@ use wf_io::{MemorySink, MemorySource};
 /// One tick on a port of 4 by 2.
 const ONE_TICK: &str = "WFS1\nport 4x2\n0 tick\nend\n";
 
+/// The same script, as a person may write it.
+const UNTIDY: &str = "WFS1\r\n# one\n port 04x2 \n\n0   tick\nend\n";
+
 /// Its film.
 const FILM: [u8; 70] = *b"WFF1\
     F\x01\0\0\0\x01\0\x04\0\x02\
@@ -23,8 +26,8 @@ const FILM: [u8; 70] = *b"WFF1\
 const USAGE: &str = "usage: wfplay <film|check|print|big> [--threads] [--rows N] [--size N]\n";
 
 /// A play: its words, its script with so many spaces behind it, and which calls of the source and of the film's sink fail, 0 for
-/// none. And what is wanted: the status with its exit, how many bytes of the film are put, how many turns are played, and the
-/// line in the notes.
+/// none. And what is wanted: the status with its exit, how many bytes of the film or of the text are put, how many turns are
+/// played, and the line in the notes.
 #[derive(Clone, Copy)]
 struct Row {
     words: &'static str,
@@ -109,6 +112,15 @@ fn write_fault(put: u32, written: usize, turns: usize, note: &'static str) -> Ro
     }
 }
 
+/// A script that is printed.
+const PRINTED: Row = Row {
+    words: "print",
+    script: UNTIDY,
+    written: 25,
+    turns: 0,
+    ..DONE
+};
+
 /// Plays a row, and tells whether all is as wanted.
 fn plays<R: Threads + Wait + Sync + AllocGlobal>(rt: &R, row: &Row) -> Result<bool, Fail> {
     let alloc = rt.alloc();
@@ -126,10 +138,15 @@ fn plays<R: Threads + Wait + Sync + AllocGlobal>(rt: &R, row: &Row) -> Result<bo
         return Err("memory".into());
     };
     let report = play(rt, alloc, &words, &mut input, &mut film, &mut notes, &Open);
+    let whole = if row.words == "print" {
+        ONE_TICK.as_bytes()
+    } else {
+        &FILM
+    };
     Ok(
         report.status == row.status
             && report.status.exit() == row.exit
-            && Some(film.bytes()) == FILM.get(..row.written)
+            && Some(film.bytes()) == whole.get(..row.written)
             && report.order.turns().len() == row.turns
             && notes.bytes() == row.note.as_bytes(),
     )
@@ -180,6 +197,27 @@ fn each_play_ends_as_it_should(rt: HostRuntime) -> Result<(), Fail> {
         write_fault(7, 63, 3, "write fault after 63 bytes\n"),
         write_fault(8, 69, 3, "write fault after 69 bytes\n"),
         Row { put: 9, ..DONE },
+        PRINTED,
+        Row {
+            script: ONE_TICK,
+            ..PRINTED
+        },
+        Row {
+            put: 1,
+            status: Status::WriteFault { written: 0 },
+            exit: 6,
+            written: 0,
+            note: "write fault after 0 bytes\n",
+            ..PRINTED
+        },
+        Row { put: 2, ..PRINTED },
+        Row {
+            words: "print",
+            ..refused("WFS1\nport 4x2\n0 tock\nend\n", 3, 3, "line 3: rule 3\n")
+        },
+        usage("print print"),
+        usage("print film"),
+        usage("prints"),
     ];
     for (place, row) in rows.iter().enumerate() {
         assert!(rt; plays(&rt, row)?, "row {place}, of {:?}", row.words);

@@ -3,19 +3,20 @@
 ghost use Rattle.std.specs.Prelude.{◌≡◌, ◌≢◌, ◌≤◌, ◌↔◌, [], IfErr, IfSome};
 ghost use Rattle.wf_io.specs.Causes.{Rose};
 ghost use Rattle.wf_play.specs.Notes.{PutsOrFront, note_of};
-ghost use Rattle.wf_play.specs.Report.{IsCaused, IsComplete, IsPlainFilm, IsReadStop, ReadsScript, SaysOfFilm, SaysOfInput, refusal_of};
-ghost use Rattle.wf_play.specs.Words.{AreAccepted};
+ghost use Rattle.wf_play.specs.Report.{IsCaused, IsComplete, IsPlainFilm, IsPrinted, IsReadStop, ReadsScript, SaysOfFilm, SaysOfInput};
+ghost use Rattle.wf_play.specs.Report.{refusal_of};
+ghost use Rattle.wf_play.specs.Words.{AreAccepted, AskFor};
 
 use crate::gate::Gate;
 use crate::notes::put_note;
 use crate::report::{Report, Status};
-use crate::words::are_accepted;
+use crate::words::{Mode, mode_of};
 use std::alloc::Global;
 use std::sync::Wait;
 use std::thread::Threads;
 use wf_calls::Order;
 use wf_io::{ReadStop, Sink, Source, read_all};
-use wf_script::{Script, ScriptFault, parse};
+use wf_script::{Script, ScriptFault, parse, print};
 use wf_turn::{PlayStop, serial};
 
 /// The longest script, in bytes.
@@ -24,7 +25,7 @@ const SCRIPT_LIMIT: usize = 1_048_576;
 /// Reads the script and writes its film.
 fn play_film<I: Source, O: Sink>(alloc: Global, input: &mut I, film: &mut O) -> Report
     ensures mode { result.status ≢ Status.Usage }
-    ensures input { IfSome (I.left input.old) (λ bytes. SaysOfInput O.took film.old film.new result.order bytes result.status) }
+    ensures input { IfSome (I.left input.old) (λ bytes. SaysOfInput O.took film.old film.new result.order Mode.Film bytes result.status) }
     ensures film { SaysOfFilm O.took film.old film.new result.order result.status }
     ensures caused { IsCaused (I.faults input.old) (I.faults input.new) (O.faults film.old) (O.faults film.new) result.status }
     ensures input_count { I.faults input.old ≤ I.faults input.new }
@@ -47,7 +48,31 @@ fn play_film<I: Source, O: Sink>(alloc: Global, input: &mut I, film: &mut O) -> 
     }
 }
 
-/// A report of a play that did not begin.
+/// Reads the script and prints it.
+fn play_print<I: Source, O: Sink>(alloc: Global, input: &mut I, film: &mut O) -> Report
+    ensures mode { result.status ≢ Status.Usage }
+    ensures input { IfSome (I.left input.old) (λ bytes. SaysOfInput O.took film.old film.new result.order Mode.Print bytes result.status) }
+    ensures film { SaysOfFilm O.took film.old film.new result.order result.status }
+    ensures caused { IsCaused (I.faults input.old) (I.faults input.new) (O.faults film.old) (O.faults film.new) result.status }
+    ensures input_count { I.faults input.old ≤ I.faults input.new }
+    ensures film_count { O.faults film.old ≤ O.faults film.new }
+{
+    let script = match read_script(alloc, input) {
+        Ok(script) => script,
+        Err(status) => return without_order(alloc, status),
+    };
+    match print(&script, film) {
+        Ok(()) => without_order(alloc, Status::Done),
+        Err(stop) => without_order(
+            alloc,
+            Status::WriteFault {
+                written: stop.written as u64,
+            },
+        ),
+    }
+}
+
+/// A report of what played nothing.
 fn without_order(alloc: Global, status: Status) -> Report
     ensures status { result.status ≡ status }
     ensures order { result.order ≡ [] }
@@ -102,23 +127,24 @@ fn play_mode<I: Source, O: Sink>(
 ) -> Report
     ensures usage { (result.status ≡ Status.Usage) ↔ (¬ (AreAccepted words.now)) }
     ensures usage_first { result.status ≡ Status.Usage → input.new ≡ input.old }
-    ensures input { IfSome (I.left input.old) (λ bytes. SaysOfInput O.took film.old film.new result.order bytes result.status) }
+    ensures input { (m : Mode) → AskFor m words.now
+        → IfSome (I.left input.old) (λ bytes. SaysOfInput O.took film.old film.new result.order m bytes result.status) }
     ensures film { SaysOfFilm O.took film.old film.new result.order result.status }
     ensures caused { IsCaused (I.faults input.old) (I.faults input.new) (O.faults film.old) (O.faults film.new) result.status }
     ensures input_count { I.faults input.old ≤ I.faults input.new }
     ensures film_count { O.faults film.old ≤ O.faults film.new }
 {
-    if are_accepted(words) {
-        play_film(alloc, input, film)
-    } else {
-        without_order(alloc, Status::Usage)
+    match mode_of(words) {
+        Some(Mode::Film) => play_film(alloc, input, film),
+        Some(Mode::Print) => play_print(alloc, input, film),
+        None => without_order(alloc, Status::Usage),
     }
 }
 
-/// Plays a scene script: reads it from `input`, writes its film into `film`, and answers how that ended. `words`
-/// are the command's words without the program's name; the one word `film` is accepted. Each status but `Done` puts its line
-/// into `notes`, and a fault there changes nothing else. All memory but that of the script's own creations is taken before the
-/// first byte of the film is put.
+/// Reads a scene script from `input`, writes its film or its canonical text into `film`, and answers how that ended. `words` are
+/// the command's words without the program's name; the one word `film` and the one word `print` are accepted. Each status but `Done`
+/// puts its line into `notes`, and a fault there changes nothing else. All memory but that of the script's own creations is taken
+/// before the first byte is put.
 pub fn play<R: Threads + Wait + Sync, I: Source, O: Sink, N: Sink, G: Gate>(
     _rt: &R,
     alloc: Global,
@@ -128,15 +154,20 @@ pub fn play<R: Threads + Wait + Sync, I: Source, O: Sink, N: Sink, G: Gate>(
     notes: &mut N,
     _gate: &G,
 ) -> Report
-    // The film, where the input tells its bytes: with Done, it is the plain film of the script that the bytes
-    // stand for, under the order of the report.
-    ensures headline { IfSome (I.left input.old) (λ bytes. result.status ≡ Status.Done
+    // The film, where the input tells its bytes: with the word `film` and Done, it is the plain film of the script that the
+    // bytes stand for, under the order of the report.
+    ensures headline { AskFor Mode.Film words.now → IfSome (I.left input.old) (λ bytes. result.status ≡ Status.Done
         → IsPlainFilm O.took film.old film.new bytes result.order) }
+
+    // With the word `print` and Done, it is the script's canonical text.
+    ensures printed { AskFor Mode.Print words.now → IfSome (I.left input.old) (λ bytes. result.status ≡ Status.Done
+        → IsPrinted O.took film.old film.new bytes result.order) }
 
     // When each status comes.
     ensures usage { (result.status ≡ Status.Usage) ↔ (¬ (AreAccepted words.now)) }
     ensures usage_first { result.status ≡ Status.Usage → input.new ≡ input.old }
-    ensures input { IfSome (I.left input.old) (λ bytes. SaysOfInput O.took film.old film.new result.order bytes result.status) }
+    ensures input { (m : Mode) → AskFor m words.now
+        → IfSome (I.left input.old) (λ bytes. SaysOfInput O.took film.old film.new result.order m bytes result.status) }
     ensures caused { IsCaused (I.faults input.old) (I.faults input.new) (O.faults film.old) (O.faults film.new) result.status }
     ensures complete { AreAccepted words.now
         → IfSome (I.left input.old) (λ bytes. IsComplete bytes (I.faults input.old) (I.faults input.new) (O.faults film.old)

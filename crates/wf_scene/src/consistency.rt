@@ -82,7 +82,7 @@ fn mask_stream<L: Look>(look: &L, element: &Element) -> Option<u32>
 }
 
 /// Whether a rectangle has sides of at least 1 and lies inside an image of a size.
-fn holds_rect(size: Size, r: Rect) -> bool
+pub fn holds_rect(size: Size, r: Rect) -> bool
     ensures { result ≡ layers.holds_rect size r }
 {
     begins_within(r) && ends_within(r.x, r.w, size.w) && ends_within(r.y, r.h, size.h)
@@ -103,7 +103,7 @@ fn ends_within(start: i32, len: u32, side: u32) -> bool
 }
 
 /// Whether a rectangle has sides of 1 to 1024.
-fn has_sides(r: Rect) -> bool
+pub fn has_sides(r: Rect) -> bool
     ensures { result ≡ choice.has_sides (size_of r) }
 {
     1 <= r.w && r.w <= 1024 && 1 <= r.h && r.h <= 1024

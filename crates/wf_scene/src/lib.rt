@@ -20,6 +20,7 @@ ghost use Rattle.wf_scene.specs.Layers.{no_layer};
 use arrayvec::ArrayVec;
 pub use attributes::{ContextAttr, ElementAttr, Refused};
 pub use cached::Cached;
+pub use consistency::{has_sides, holds_rect};
 pub use element::Element;
 pub use laws::{consistent_by_rules, each_stands_once, inserted_above, set_is_told};
 pub use look::{Fault, Look, Seen};

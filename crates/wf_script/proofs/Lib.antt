@@ -11,3 +11,5 @@ mod Rows
 pub mod Sight
 pub mod SizeRow
 pub mod TableRow
+pub mod Additions
+pub mod Tokens

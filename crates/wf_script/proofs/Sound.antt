@@ -21,11 +21,11 @@ use Rattle.wf_script.specs.Forms.{arguments, forms}
 use Rattle.wf_script.specs.Grammar.{Reading, Parts, alone, at_line, bound_name, has_its_name, is_its_client, is_taken, line_words, parts_of}
 use Rattle.wf_script.specs.Grammar.{has_lines, has_ports, is_mode_count, end_line, event_line, line_of, no_event_here, no_pipes_here}
 use Rattle.wf_script.specs.Grammar.{no_port_here, nothing_read, pipes_line, port_line, read_line, read_lines, script_of, sizes}
-use Rattle.wf_script.specs.Script.{IsScript, is_line, may_paint}
+use Rattle.wf_script.specs.Script.{IsScript, is_line, may_paint, may_tick}
 use Rattle.wf_script.specs.Visible.{is_visible}
 use Rattle.wf_script.specs.Words.{Word, is_allowed, without_comment, without_return, is_word, client_of, count_in, sides, size_of, look_up}
 use Rattle.wf_script.proofs.Steps.{AreWords, all_four, all_three, at_most, bind_ok, count_within, found_ok, not_false, passed, words_in_are}
-use Rattle.wf_script.proofs.VerbSound.{arguments_sound}
+use Rattle.wf_script.proofs.VerbSound.{arguments_sound, paints_within, ticks_alone}
 
 -- lines
 
@@ -35,6 +35,7 @@ pub record IsSoundSoFar (r : Reading) : Type 0 where
   pub few : length r.modes ≤ 4
   pub pipes : unwrap_or r.pipes 0 ≤ 8
   pub lines : IsTrue (list_all is_line r.lines)
+  pub ticks : IsTrue (list_all may_tick r.lines)
   pub ended : r.ended ≡ true → 1 ≤ length r.modes
 
 -- from one reading to the next: it is sound still, with one line more at most
@@ -104,6 +105,7 @@ port_sound r left ws sound h =
         few = omega (arith, room, length-append r.modes (new ∷ []));
         pipes = sound.pipes;
         lines = sound.lines;
+        ticks = sound.ticks;
         ended = λ yes. absurd (let no : r.ended ≡ false = free.0 in cc);
       };
       few = omega arith;
@@ -127,6 +129,7 @@ pipes_sound r left ws sound h =
         few = sound.few;
         pipes = (count_within 0 8 w.0 count.0 (found_ok rule.Word (count_in 0 8 w.0) count.0 count.1)).1;
         lines = sound.lines;
+        ticks = sound.ticks;
         ended = sound.ended;
       };
       few = omega arith;
@@ -140,7 +143,9 @@ end_sound r left ws sound h =
     let declared : (not (has_ports r)) ≡ false = second r.ended (not (has_ports r)) (passed rule.Place (no_event_here r) here.0 here.1) in
     let some : 0 < length r.modes = ltb-true 0 (length r.modes) (not_false (has_ports r) declared) in
     goes_on r (record r { ended = true }) left (record {
-      sound = record { modes = sound.modes; few = sound.few; pipes = sound.pipes; lines = sound.lines; ended = λ yes. omega arith };
+      sound = record {
+        modes = sound.modes; few = sound.few; pipes = sound.pipes; lines = sound.lines; ticks = sound.ticks; ended = λ yes. omega arith;
+      };
       few = omega arith;
     }) count.2
   where
@@ -186,17 +191,26 @@ event_sound r left client ws small words sound h =
     let used = bind_ok (refuse_if rule.Name (not (list_all (is_visible r.lines client) given.0.1))) _ left name.2 in
     let free = bind_ok (refuse_if rule.Name (is_taken r client name.0)) _ left used.2 in
     let l : Line = record { client = client; name = name.0; verb = given.0.0 } in
-    let paints = arguments_sound form.0 parts.0.arguments (parts_words ws parts.0 words parts.1) given.0 given.1 in
+    let own : is_its_client form.0 client ≡ true = second (no_event_here r) (is_its_client form.0 client)
+    (passed rule.Place (no_event_here r || not (is_its_client form.0 client)) here.0 here.1) in
+    let may = arguments_sound client form.0 parts.0.arguments (parts_words ws parts.0 words parts.1) own given.0 given.1 in
+    let paints = paints_within client given.0.0 may in
     goes_on r (record r { lines = r.lines ++ l ∷ [] }) left (record {
       sound = record {
         modes = sound.modes;
         few = sound.few;
         pipes = sound.pipes;
         lines = all_more is_line r.lines l sound.lines (and_from (nat_lt client 8) (may_paint given.0.0) (lt-ltb client 8 small) paints);
+        ticks = all_more may_tick r.lines l sound.ticks (ticks_alone l may);
         ended = sound.ended;
       };
       few = omega (arith, length-append r.lines (l ∷ []));
     }) free.2
+  where
+    second : (a b : Bool) → a || not b ≡ false → b ≡ true
+    second false true h = refl
+    second false false h = absurd cc
+    second true b h = absurd cc
 
 client_small : (w : Word) (n : ℕ) → client_of w ≡ Some n → n < 8
 client_small [] n h = absurd cc
@@ -259,7 +273,7 @@ lines_sound n r left (l ∷ ls) sound few most h =
     lines_sound (n + 1) next.0 left ls step.sound (omega (arith, step.few)) (omega arith) next.2
 
 nothing_sound : IsSoundSoFar nothing_read
-nothing_sound = record { modes = refl; few = omega arith; pipes = omega arith; lines = refl; ended = λ h. absurd cc }
+nothing_sound = record { modes = refl; few = omega arith; pipes = omega arith; lines = refl; ticks = refl; ended = λ h. absurd cc }
 
 -- every script that is read has what holds of scripts
 pub script_sound : (r : Reading) (ls : List (List ℕ)) → read_lines 2 nothing_read ls ≡ Ok r → IsScript (script_of r)
@@ -270,5 +284,6 @@ script_sound r ls h =
           (at_most 1 (length r.modes) (all.0.ended all.1)) (at_most (length r.modes) 4 all.0.few) all.0.modes
           (at_most (unwrap_or r.pipes 0) 8 all.0.pipes);
       lines = all.0.lines;
+      ticks = all.0.ticks;
       few = omega (arith, all.2);
     }

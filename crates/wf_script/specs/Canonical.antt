@@ -15,6 +15,12 @@ use Rattle.wf_scene.specs.declared.attributes.ContextAttr.{ContextAttr}
 use Rattle.wf_scene.specs.declared.attributes.ContextAttr.TheVariants as context
 use Rattle.wf_calls.specs.declared.call.StatWord.{StatWord}
 use Rattle.wf_calls.specs.declared.call.StatWord.TheVariants.{Streams, Bytes}
+use Rattle.wf_calls.specs.declared.display.PipeAttr.{PipeAttr}
+use Rattle.wf_calls.specs.declared.display.PipeAttr.TheVariants as pipe
+use Rattle.wf_calls.specs.declared.display.PortAttr.{PortAttr}
+use Rattle.wf_calls.specs.declared.display.PortAttr.TheVariants as port
+use Rattle.wf_calls.specs.declared.display.Transition.{Transition}
+use Rattle.wf_calls.specs.declared.display.Transition.TheVariants.{Now, Vsync}
 use Rattle.wf_calls.specs.declared.ports.Modes.{Modes}
 use Rattle.wf_script.specs.declared.line.Line.{Line}
 use Rattle.wf_script.specs.declared.line.Value.{Value}
@@ -23,6 +29,7 @@ use Rattle.wf_script.specs.declared.line.Verb.{Verb}
 use Rattle.wf_script.specs.declared.line.Verb.TheVariants as verb
 use Rattle.wf_script.specs.declared.name.Name.{Name}
 use Rattle.wf_script.specs.Attributes.{context_count, element_count}
+use Rattle.wf_script.specs.Display.{pipe_count, port_count}
 use Rattle.wf_script.specs.Script.{PlainScript}
 use Rattle.wf_script.specs.Words.{Word, filters, none_word, transparencies}
 
@@ -103,6 +110,38 @@ element_value_words attr value = value_words (element_count attr) value
 abbrev pub context_value_words : ContextAttr → Value → List Word
 context_value_words attr value = value_words (context_count attr) value
 
+abbrev pub port_attr_word : PortAttr → Word
+port_attr_word port.Mode = codes "mode"
+port_attr_word port.Background = codes "background"
+port_attr_word port.Power = codes "power"
+port_attr_word port.Width = codes "width"
+port_attr_word port.Height = codes "height"
+port_attr_word port.Attached = codes "attached"
+
+abbrev pub pipe_attr_word : PipeAttr → Word
+pipe_attr_word pipe.Dest = codes "dest"
+pipe_attr_word pipe.SrcRect = codes "srcrect"
+pipe_attr_word pipe.Flip = codes "flip"
+pipe_attr_word pipe.Rotation = codes "rotation"
+pipe_attr_word pipe.Filter = codes "filter"
+pipe_attr_word pipe.Transparency = codes "transparency"
+pipe_attr_word pipe.Alpha = codes "alpha"
+pipe_attr_word pipe.Port = codes "port"
+pipe_attr_word pipe.Pending = codes "pending"
+pipe_attr_word pipe.Showing = codes "showing"
+
+abbrev pub transition_word : Transition → Word
+transition_word Now = codes "now"
+transition_word Vsync = codes "vsync"
+
+abbrev pub port_value_words : PortAttr → Value → List Word
+port_value_words attr value = value_words (port_count attr) value
+
+abbrev pub pipe_value_words : PipeAttr → Value → List Word
+pipe_value_words pipe.Filter value = table_words filters value
+pipe_value_words pipe.Transparency value = table_words transparencies value
+pipe_value_words attr value = value_words (pipe_count attr) value
+
 -- the words of a verb
 abbrev pub verb_words : Verb → List Word
 verb_words (verb.StreamNew w h f b) = codes "stream" ∷ integer_word w ∷ integer_word h ∷ format_word f ∷ integer_word b ∷ []
@@ -116,6 +155,7 @@ verb_words verb.Tick = codes "tick" ∷ []
 verb_words verb.DeviceNew = codes "device" ∷ []
 verb_words (verb.GetError d) = codes "error" ∷ handle_word d ∷ []
 verb_words (verb.ScreenContext d p) = codes "screen" ∷ handle_word d ∷ integer_word p ∷ []
+verb_words (verb.StreamContext d s) = codes "offscreen" ∷ handle_word d ∷ handle_word s ∷ []
 verb_words (verb.ElementNew d c) = codes "element" ∷ handle_word d ∷ handle_word c ∷ []
 verb_words (verb.SourceNew d c s) = codes "source" ∷ handle_word d ∷ handle_word c ∷ handle_word s ∷ []
 verb_words (verb.MaskNew d c s) = codes "mask" ∷ handle_word d ∷ handle_word c ∷ handle_word s ∷ []
@@ -130,12 +170,27 @@ verb_words (verb.ContextGet d c a i) = codes "cget" ∷ handle_word d ∷ handle
 verb_words (verb.Commit d c) = codes "commit" ∷ handle_word d ∷ handle_word c ∷ []
 verb_words (verb.Activate d c) = codes "activate" ∷ handle_word d ∷ handle_word c ∷ []
 verb_words (verb.Deactivate d c) = codes "deactivate" ∷ handle_word d ∷ handle_word c ∷ []
+verb_words (verb.Compose d c) = codes "compose" ∷ handle_word d ∷ handle_word c ∷ []
+verb_words (verb.TryCompose d c) = codes "trycompose" ∷ handle_word d ∷ handle_word c ∷ []
 verb_words (verb.StreamDestroy s) = codes "del_stream" ∷ handle_word s ∷ []
 verb_words (verb.DeviceDestroy d) = codes "del_device" ∷ handle_word d ∷ []
 verb_words (verb.ContextDestroy d c) = codes "del_context" ∷ handle_word d ∷ handle_word c ∷ []
 verb_words (verb.ElementDestroy d e) = codes "del_element" ∷ handle_word d ∷ handle_word e ∷ []
 verb_words (verb.SourceDestroy d x) = codes "del_source" ∷ handle_word d ∷ handle_word x ∷ []
 verb_words (verb.MaskDestroy d m) = codes "del_mask" ∷ handle_word d ∷ handle_word m ∷ []
+verb_words (verb.PortSet p a v) = codes "pset" ∷ integer_word p ∷ port_attr_word a ∷ port_value_words a v
+verb_words (verb.PortGet p a i) = codes "pget" ∷ integer_word p ∷ port_attr_word a ∷ integer_word i ∷ []
+verb_words (verb.Attach p v) = codes "attach" ∷ integer_word p ∷ integer_word v ∷ []
+verb_words (verb.PipeSet l a v) = codes "lset" ∷ integer_word l ∷ pipe_attr_word a ∷ pipe_value_words a v
+verb_words (verb.PipeGet l a i) = codes "lget" ∷ integer_word l ∷ pipe_attr_word a ∷ integer_word i ∷ []
+verb_words (verb.PipeBindPort l p) = codes "lport" ∷ integer_word l ∷ integer_word p ∷ []
+verb_words (verb.DisplaySource l s) = codes "wsource" ∷ integer_word l ∷ handle_word s ∷ []
+verb_words (verb.DisplaySourceDestroy x) = codes "del_wsource" ∷ handle_word x ∷ []
+verb_words (verb.PipeBindSource l x t) = codes "lsource" ∷ integer_word l ∷ handle_word x ∷ transition_word t ∷ []
+verb_words verb.CommitDevice = codes "commit_device" ∷ []
+verb_words (verb.CommitPort p) = codes "commit_port" ∷ integer_word p ∷ []
+verb_words (verb.CommitPipe l) = codes "commit_pipe" ∷ integer_word l ∷ []
+verb_words verb.DisplayError = codes "derror" ∷ []
 
 -- words apart by one space, with a line feed behind them
 abbrev pub text_line : List Word → List ℕ

@@ -10,6 +10,7 @@ pub mod Verbs
 pub mod Streams
 pub mod Composition
 pub mod Attributes
+pub mod Display
 pub mod Taken
 pub mod Forms
 pub mod Visible
@@ -17,3 +18,5 @@ pub mod Grammar
 pub mod Seen
 pub mod Reader
 pub mod Canonical
+pub mod Text
+pub mod Token

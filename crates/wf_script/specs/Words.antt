@@ -13,6 +13,12 @@ use Rattle.wf_scene.specs.declared.attributes.ContextAttr.{ContextAttr}
 use Rattle.wf_scene.specs.declared.attributes.ContextAttr.TheVariants as context
 use Rattle.wf_calls.specs.declared.call.StatWord.{StatWord}
 use Rattle.wf_calls.specs.declared.call.StatWord.TheVariants.{Streams, Bytes}
+use Rattle.wf_calls.specs.declared.display.PipeAttr.{PipeAttr}
+use Rattle.wf_calls.specs.declared.display.PipeAttr.TheVariants as pipe
+use Rattle.wf_calls.specs.declared.display.PortAttr.{PortAttr}
+use Rattle.wf_calls.specs.declared.display.PortAttr.TheVariants as port
+use Rattle.wf_calls.specs.declared.display.Transition.{Transition}
+use Rattle.wf_calls.specs.declared.display.Transition.TheVariants.{Now, Vsync}
 use Rattle.wf_script.specs.declared.name.Name.{Name}
 
 -- a word is its bytes
@@ -143,6 +149,20 @@ abbrev pub context_attrs : List (Word × ContextAttr)
 context_attrs =
     (codes "rotation", context.Rotation) ∷ (codes "background", context.Background) ∷ (codes "width", context.Width)
     ∷ (codes "height", context.Height) ∷ (codes "lowest", context.Lowest) ∷ []
+
+abbrev pub port_attrs : List (Word × PortAttr)
+port_attrs =
+    (codes "mode", port.Mode) ∷ (codes "background", port.Background) ∷ (codes "power", port.Power) ∷ (codes "width", port.Width)
+    ∷ (codes "height", port.Height) ∷ (codes "attached", port.Attached) ∷ []
+
+abbrev pub pipe_attrs : List (Word × PipeAttr)
+pipe_attrs =
+    (codes "dest", pipe.Dest) ∷ (codes "srcrect", pipe.SrcRect) ∷ (codes "flip", pipe.Flip) ∷ (codes "rotation", pipe.Rotation)
+    ∷ (codes "filter", pipe.Filter) ∷ (codes "transparency", pipe.Transparency) ∷ (codes "alpha", pipe.Alpha) ∷ (codes "port", pipe.Port)
+    ∷ (codes "pending", pipe.Pending) ∷ (codes "showing", pipe.Showing) ∷ []
+
+abbrev pub transitions : List (Word × Transition)
+transitions = (codes "now", Now) ∷ (codes "vsync", Vsync) ∷ []
 
 -- how a source is scaled
 abbrev pub filters : List (Word × ℤ)

@@ -25,7 +25,7 @@ pub(crate) struct Setting<'a> {
 }
 
 /// How many words an element's attribute is set to.
-fn element_count(attr: ElementAttr) -> usize
+pub(crate) fn element_count(attr: ElementAttr) -> usize
     ensures { result ≡ element_count attr }
 {
     match attr {
@@ -35,7 +35,7 @@ fn element_count(attr: ElementAttr) -> usize
 }
 
 /// How many words a context's attribute is set to.
-fn context_count(attr: ContextAttr) -> usize
+pub(crate) fn context_count(attr: ContextAttr) -> usize
     ensures { result ≡ context_count attr }
 {
     match attr {
@@ -69,7 +69,7 @@ fn single<'a>(number: i64) -> Setting<'a>
 
 /// One number.
 #[tactic(auto, unfolding(crate::specs::Attributes::one_number))]
-fn number_value(words: &[u8]) -> Result<Setting<'_>, Rule>
+pub(crate) fn number_value(words: &[u8]) -> Result<Setting<'_>, Rule>
     ensures { TakesValue result (one_number integer_of (words_in words.now)) }
 {
     let (number, _) = number(words)?;
@@ -78,7 +78,7 @@ fn number_value(words: &[u8]) -> Result<Setting<'_>, Rule>
 
 /// A word for how a source is scaled.
 #[tactic(auto, unfolding(crate::specs::Attributes::one_number))]
-fn filter_value(words: &[u8]) -> Result<Setting<'_>, Rule>
+pub(crate) fn filter_value(words: &[u8]) -> Result<Setting<'_>, Rule>
     ensures { TakesValue result (one_number (look_up filters) (words_in words.now)) }
 {
     let (number, _) = filter(words)?;
@@ -87,7 +87,7 @@ fn filter_value(words: &[u8]) -> Result<Setting<'_>, Rule>
 
 /// A word for what makes an element transparent.
 #[tactic(auto, unfolding(crate::specs::Attributes::one_number))]
-fn transparency_value(words: &[u8]) -> Result<Setting<'_>, Rule>
+pub(crate) fn transparency_value(words: &[u8]) -> Result<Setting<'_>, Rule>
     ensures { TakesValue result (one_number (look_up transparencies) (words_in words.now)) }
 {
     let (number, _) = transparency(words)?;
@@ -96,7 +96,7 @@ fn transparency_value(words: &[u8]) -> Result<Setting<'_>, Rule>
 
 /// Four numbers.
 #[tactic(auto, unfolding(crate::specs::Attributes::four_numbers))]
-fn four_numbers(words: &[u8]) -> Result<Setting<'_>, Rule>
+pub(crate) fn four_numbers(words: &[u8]) -> Result<Setting<'_>, Rule>
     ensures { TakesValue result (four_numbers (words_in words.now)) }
 {
     let (first, words) = number(words)?;

@@ -5,15 +5,19 @@ ghost use Rattle.wf_script.specs.Forms.{binds, forms};
 ghost use Rattle.wf_script.specs.Words.{look_up};
 
 use crate::table::look_up;
-use crate::verbs::{Destroyed, NoHandle, OneHandle, ThreeHandles, TwoHandles};
+use crate::verbs::{
+    Destroyed, NoHandle, OneHandle, OneNumber, ThreeHandles, TwoHandles, TwoNumbers,
+};
 
-/// The forms of event lines: verbs whose words are handles alone, and each other verb.
+/// The forms of event lines: verbs whose words are handles alone, or numbers alone, and each other verb.
 #[derive(Clone, Copy)]
 pub(crate) enum Form {
     Alone(NoHandle),
     One(OneHandle),
     Two(TwoHandles),
     Three(ThreeHandles),
+    Number(OneNumber),
+    Numbers(TwoNumbers),
     Stream,
     Stat,
     Paint,
@@ -23,10 +27,16 @@ pub(crate) enum Form {
     Get,
     ContextSet,
     ContextGet,
+    PortSet,
+    PortGet,
+    PipeSet,
+    PipeGet,
+    DisplaySource,
+    BindSource,
 }
 
 /// The verbs.
-const FORMS: [(&[u8], Form); 31] = [
+const FORMS: [(&[u8], Form); 47] = [
     (b"stream", Form::Stream),
     (b"acquire", Form::One(OneHandle::Acquire)),
     (b"post", Form::Alone(NoHandle::Post)),
@@ -38,6 +48,7 @@ const FORMS: [(&[u8], Form); 31] = [
     (b"device", Form::Alone(NoHandle::Device)),
     (b"error", Form::One(OneHandle::Error)),
     (b"screen", Form::Screen),
+    (b"offscreen", Form::Two(TwoHandles::Offscreen)),
     (b"element", Form::Two(TwoHandles::Element)),
     (b"source", Form::Three(ThreeHandles::Source)),
     (b"mask", Form::Three(ThreeHandles::Mask)),
@@ -52,6 +63,8 @@ const FORMS: [(&[u8], Form); 31] = [
     (b"commit", Form::Two(TwoHandles::Commit)),
     (b"activate", Form::Two(TwoHandles::Activate)),
     (b"deactivate", Form::Two(TwoHandles::Deactivate)),
+    (b"compose", Form::Two(TwoHandles::Compose)),
+    (b"trycompose", Form::Two(TwoHandles::TryCompose)),
     (b"del_stream", Form::One(OneHandle::DestroyStream)),
     (b"del_device", Form::One(OneHandle::DestroyDevice)),
     (
@@ -67,6 +80,19 @@ const FORMS: [(&[u8], Form); 31] = [
         Form::Two(TwoHandles::Destroy(Destroyed::Source)),
     ),
     (b"del_mask", Form::Two(TwoHandles::Destroy(Destroyed::Mask))),
+    (b"pset", Form::PortSet),
+    (b"pget", Form::PortGet),
+    (b"attach", Form::Numbers(TwoNumbers::Attach)),
+    (b"lset", Form::PipeSet),
+    (b"lget", Form::PipeGet),
+    (b"lport", Form::Numbers(TwoNumbers::BindPort)),
+    (b"wsource", Form::DisplaySource),
+    (b"del_wsource", Form::One(OneHandle::DestroyDisplaySource)),
+    (b"lsource", Form::BindSource),
+    (b"commit_device", Form::Alone(NoHandle::CommitDevice)),
+    (b"commit_port", Form::Number(OneNumber::CommitPort)),
+    (b"commit_pipe", Form::Number(OneNumber::CommitPipe)),
+    (b"derror", Form::Alone(NoHandle::DisplayError)),
 ];
 
 impl Form {
@@ -86,14 +112,21 @@ impl Form {
             Form::One(verb) => verb.verb(None).creates(),
             Form::Two(verb) => verb.verb(None, None).creates(),
             Form::Three(verb) => verb.verb(None, None, None).creates(),
-            Form::Stream | Form::Screen => true,
+            Form::Number(verb) => verb.verb(0).creates(),
+            Form::Numbers(verb) => verb.verb(0, 0).creates(),
+            Form::Stream | Form::Screen | Form::DisplaySource => true,
             Form::Stat
             | Form::Paint
             | Form::Frame
             | Form::Set
             | Form::Get
             | Form::ContextSet
-            | Form::ContextGet => false,
+            | Form::ContextGet
+            | Form::PortSet
+            | Form::PortGet
+            | Form::PipeSet
+            | Form::PipeGet
+            | Form::BindSource => false,
         }
     }
 }

@@ -8,6 +8,9 @@ ghost use Rattle.wf_script.specs.Words.{words_in};
 
 use crate::attributes::{context_get, context_set, get, set};
 use crate::composition::{no_words, one_handle, screen, three_handles, two_handles};
+use crate::display::{
+    bind_source, display_source, one_integer, pipe_get, pipe_set, port_get, port_set, two_integers,
+};
 use crate::form::Form;
 use crate::line::Verb;
 use crate::rule::LineFault;
@@ -30,6 +33,8 @@ pub(crate) fn arguments(alloc: Global, form: Form, words: &[u8]) -> Result<Given
         Form::One(verb) => one_handle(verb, words)?,
         Form::Two(verb) => two_handles(verb, words)?,
         Form::Three(verb) => three_handles(verb, words)?,
+        Form::Number(verb) => one_integer(verb, words)?,
+        Form::Numbers(verb) => two_integers(verb, words)?,
         Form::Stream => stream(words)?,
         Form::Stat => stat(words)?,
         Form::Paint => painting(alloc, words)?,
@@ -39,6 +44,12 @@ pub(crate) fn arguments(alloc: Global, form: Form, words: &[u8]) -> Result<Given
         Form::Get => get(words)?,
         Form::ContextSet => context_set(words)?,
         Form::ContextGet => context_get(words)?,
+        Form::PortSet => port_set(words)?,
+        Form::PortGet => port_get(words)?,
+        Form::PipeSet => pipe_set(words)?,
+        Form::PipeGet => pipe_get(words)?,
+        Form::DisplaySource => display_source(words)?,
+        Form::BindSource => bind_source(words)?,
     };
     Ok(given)
 }

@@ -1,6 +1,7 @@
 //! Pixels of hexadecimal digits.
 
-ghost use Rattle.std.specs.Prelude.{◌≡◌, ◌<◌, IfSome, IfOk};
+ghost use Rattle.std.specs.Prelude.{◌≡◌, ◌<◌, IfSome, IfOk, slice_index};
+ghost use Rattle.wf_script.specs.Canonical.{hex_digits, hex_pixel_word};
 ghost use Rattle.wf_script.specs.PaintWords.{hex_byte, hex_digit, hex_pixel, hex_pixels};
 ghost use Rattle.wf_script.specs.Rules.{Gives};
 
@@ -64,4 +65,31 @@ pub(crate) fn hex_pixels(alloc: Global, word: &[u8]) -> Result<Pixels, LineFault
         rest = behind;
     }
     Ok(Pixels::new(pixels))
+}
+
+/// The hexadecimal digits, by their values.
+const DIGITS: [u8; 16] = *b"0123456789abcdef";
+
+/// The hexadecimal digit of a value.
+fn digit_of(value: u8) -> u8
+    requires { value < 16 }
+    ensures { result ≡ slice_index hex_digits value }
+{
+    DIGITS[value as usize]
+}
+
+/// The eight hexadecimal digits of a pixel.
+pub(crate) fn hex_of(pixel: Rgba) -> [u8; 8]
+    ensures { result ≡ hex_pixel_word pixel }
+{
+    [
+        digit_of(pixel.r / 16),
+        digit_of(pixel.r % 16),
+        digit_of(pixel.g / 16),
+        digit_of(pixel.g % 16),
+        digit_of(pixel.b / 16),
+        digit_of(pixel.b % 16),
+        digit_of(pixel.a / 16),
+        digit_of(pixel.a % 16),
+    ]
 }

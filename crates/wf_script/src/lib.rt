@@ -3,6 +3,7 @@
 
 mod attributes;
 mod composition;
+mod display;
 mod fault;
 mod form;
 mod given;
@@ -12,22 +13,30 @@ mod name;
 mod names;
 mod numbers;
 mod paint_form;
+mod paint_text;
 mod paints;
 mod parts;
 mod pick;
+mod printing;
 mod reader;
 mod reading;
 mod rule;
 mod script;
 mod seen;
+mod spelled;
 mod streams;
 mod table;
+mod text;
+mod token;
+mod value_text;
+mod verb_text;
 mod verbs;
 mod words;
 
 pub use fault::ScriptFault;
 pub use line::{Line, Value, Verb};
 pub use name::Name;
+pub use printing::print;
 pub use reading::parse;
 pub use script::Script;
 

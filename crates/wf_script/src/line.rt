@@ -4,7 +4,7 @@ ghost use Rattle.std.specs.Prelude.{◌≡◌};
 ghost use Rattle.wf_script.specs.Verbs.{creates};
 
 use crate::name::Name;
-use wf_calls::StatWord;
+use wf_calls::{PipeAttr, PortAttr, StatWord, Transition};
 use wf_image::Paint;
 use wf_pixel::Format;
 use wf_scene::{ContextAttr, ElementAttr};
@@ -59,6 +59,11 @@ pub enum Verb {
     ScreenContext {
         device: Option<Name>,
         port: i64,
+    },
+    /// A new off-screen context, whose target is a stream.
+    StreamContext {
+        device: Option<Name>,
+        stream: Option<Name>,
     },
     /// A new element of a context.
     ElementNew {
@@ -141,6 +146,77 @@ pub enum Verb {
         device: Option<Name>,
         context: Option<Name>,
     },
+    /// Composes a frame of a context that is not active, once no frame runs.
+    Compose {
+        device: Option<Name>,
+        context: Option<Name>,
+    },
+    /// Composes a frame of a context that is not active, unless a frame runs.
+    TryCompose {
+        device: Option<Name>,
+        context: Option<Name>,
+    },
+    /// Sets an attribute of a port, counted from 1.
+    PortSet {
+        port: i64,
+        attr: PortAttr,
+        value: Value,
+    },
+    /// Asks for a number of an attribute of a port, counted from 0.
+    PortGet {
+        port: i64,
+        attr: PortAttr,
+        index: i64,
+    },
+    /// Attaches a display to a port by 1, or detaches it by 0.
+    Attach {
+        port: i64,
+        on: i64,
+    },
+    /// Sets an attribute of a pipeline, counted from 1.
+    PipeSet {
+        pipe: i64,
+        attr: PipeAttr,
+        value: Value,
+    },
+    /// Asks for a number of an attribute of a pipeline, counted from 0.
+    PipeGet {
+        pipe: i64,
+        attr: PipeAttr,
+        index: i64,
+    },
+    /// Asks that a port shows a pipeline, or none by 0.
+    PipeBindPort {
+        pipe: i64,
+        port: i64,
+    },
+    /// A new source of a pipeline, that shows a stream.
+    DisplaySource {
+        pipe: i64,
+        stream: Option<Name>,
+    },
+    /// Destroys a source of a pipeline.
+    DisplaySourceDestroy {
+        source: Option<Name>,
+    },
+    /// Asks that a pipeline shows a source, or none.
+    PipeBindSource {
+        pipe: i64,
+        source: Option<Name>,
+        transition: Transition,
+    },
+    /// Commits what is cached of all ports and pipelines.
+    CommitDevice,
+    /// Commits what is cached of a port and its pipelines.
+    CommitPort {
+        port: i64,
+    },
+    /// Commits what is cached of a pipeline.
+    CommitPipe {
+        pipe: i64,
+    },
+    /// Tells the code of the display's first refusal since it was asked last.
+    DisplayError,
     /// Destroys a stream. What shows it goes on showing it.
     StreamDestroy {
         stream: Option<Name>,
@@ -181,9 +257,11 @@ impl Verb {
             Verb::StreamNew { .. }
                 | Verb::DeviceNew
                 | Verb::ScreenContext { .. }
+                | Verb::StreamContext { .. }
                 | Verb::ElementNew { .. }
                 | Verb::SourceNew { .. }
                 | Verb::MaskNew { .. }
+                | Verb::DisplaySource { .. }
         )
     }
 }

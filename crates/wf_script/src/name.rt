@@ -1,6 +1,6 @@
 //! Names.
 
-ghost use Rattle.std.specs.Prelude.{◌≡◌};
+ghost use Rattle.std.specs.Prelude.{◌≡◌, ◌≤◌, length};
 
 use arrayvec::ArrayString;
 use std::marker::Model;
@@ -31,5 +31,13 @@ impl Name {
         ensures { result.now ≡ self.now }
     {
         self.text.as_str()
+    }
+
+    /// The same as bytes.
+    pub(crate) fn as_bytes(&self) -> &[u8]
+        ensures letters { result.now ≡ self.now }
+        ensures short { length result.now ≤ 16 }
+    {
+        self.text.as_str().as_bytes()
     }
 }

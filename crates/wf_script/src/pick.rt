@@ -6,14 +6,14 @@ ghost use Rattle.wf_script.specs.Rules.{FirstWord, Reads};
 ghost use Rattle.wf_script.specs.Table.{rows_of};
 ghost use Rattle.wf_script.specs.Taken.{TakesHandle};
 ghost use Rattle.wf_script.specs.Words.{context_attrs, count_in, element_attrs, filters, formats, handle_of, integer_of, look_up};
-ghost use Rattle.wf_script.specs.Words.{stat_words, transparencies, words_in};
+ghost use Rattle.wf_script.specs.Words.{pipe_attrs, port_attrs, stat_words, transitions, transparencies, words_in};
 
 use crate::names::{Handle, handle_of};
 use crate::numbers::{count_in, integer_of};
 use crate::rule::Rule;
 use crate::table::look_up;
 use crate::words::next_word;
-use wf_calls::StatWord;
+use wf_calls::{PipeAttr, PortAttr, StatWord, Transition};
 use wf_pixel::Format;
 use wf_scene::{ContextAttr, ElementAttr};
 
@@ -146,6 +146,57 @@ pub(crate) fn context_attr(text: &[u8]) -> Result<(ContextAttr, &[u8]), Rule>
     ensures { Reads result (first_as (look_up context_attrs) (words_in text.now)) }
 {
     among(&CONTEXT_ATTRS, text)
+}
+
+/// The attributes of a port.
+const PORT_ATTRS: [(&[u8], PortAttr); 6] = [
+    (b"mode", PortAttr::Mode),
+    (b"background", PortAttr::Background),
+    (b"power", PortAttr::Power),
+    (b"width", PortAttr::Width),
+    (b"height", PortAttr::Height),
+    (b"attached", PortAttr::Attached),
+];
+
+/// An attribute of a port.
+pub(crate) fn port_attr(text: &[u8]) -> Result<(PortAttr, &[u8]), Rule>
+    ensures { Reads result (first_as (look_up port_attrs) (words_in text.now)) }
+{
+    among(&PORT_ATTRS, text)
+}
+
+/// The attributes of a pipeline.
+const PIPE_ATTRS: [(&[u8], PipeAttr); 10] = [
+    (b"dest", PipeAttr::Dest),
+    (b"srcrect", PipeAttr::SrcRect),
+    (b"flip", PipeAttr::Flip),
+    (b"rotation", PipeAttr::Rotation),
+    (b"filter", PipeAttr::Filter),
+    (b"transparency", PipeAttr::Transparency),
+    (b"alpha", PipeAttr::Alpha),
+    (b"port", PipeAttr::Port),
+    (b"pending", PipeAttr::Pending),
+    (b"showing", PipeAttr::Showing),
+];
+
+/// An attribute of a pipeline.
+pub(crate) fn pipe_attr(text: &[u8]) -> Result<(PipeAttr, &[u8]), Rule>
+    ensures { Reads result (first_as (look_up pipe_attrs) (words_in text.now)) }
+{
+    among(&PIPE_ATTRS, text)
+}
+
+/// When a source shows.
+const TRANSITIONS: [(&[u8], Transition); 2] = [
+    (b"now", Transition::Now),
+    (b"vsync", Transition::Vsync),
+];
+
+/// When a requested source shows.
+pub(crate) fn transition(text: &[u8]) -> Result<(Transition, &[u8]), Rule>
+    ensures { Reads result (first_as (look_up transitions) (words_in text.now)) }
+{
+    among(&TRANSITIONS, text)
 }
 
 /// The ways to scale a source.

@@ -3,14 +3,14 @@
 ghost use Rattle.std.specs.Prelude.{◌≡◌, ◌≤◌, length, IsTrue};
 ghost use Rattle.std.specs.List.{list_all};
 ghost use Rattle.wf_calls.specs.PortRules.{may_declare};
-ghost use Rattle.wf_script.specs.Script.{IsScript, is_line};
+ghost use Rattle.wf_script.specs.Script.{IsScript, is_line, may_tick};
 
 use crate::line::Line;
 use std::marker::Model;
 use wf_calls::Ports;
 
 /// The ports that a script declares, and its event lines in file order: at most 16,384, each of a client from 0 to 7,
-/// with paints whose numbers are in their ranges.
+/// with paints whose numbers are in their ranges, and the ticks those of client 0.
 #[derive(Drop)]
 pub struct Script {
     ports: Ports,
@@ -47,6 +47,7 @@ impl Script {
     pub fn lines(&self) -> &[Line]
         ensures lines { result.now ≡ self.now.lines }
         ensures sound { IsTrue (list_all is_line result.now) }
+        ensures ticks { IsTrue (list_all may_tick result.now) }
         ensures few { length result.now ≤ 16384 }
     {
         &self.lines

@@ -1,7 +1,7 @@
-//! The verbs that take nothing but handles.
+//! The verbs that take nothing but handles, or nothing but numbers.
 
 ghost use Rattle.std.specs.Prelude.{◌≡◌};
-ghost use Rattle.wf_script.specs.Verbs.{destroys, of_none, of_one, of_three, of_two};
+ghost use Rattle.wf_script.specs.Verbs.{destroys, of_none, of_number, of_numbers, of_one, of_three, of_two};
 
 use crate::line::Verb;
 use crate::name::Name;
@@ -13,6 +13,8 @@ pub(crate) enum NoHandle {
     Post,
     Discard,
     Tick,
+    CommitDevice,
+    DisplayError,
 }
 
 impl NoHandle {
@@ -25,6 +27,8 @@ impl NoHandle {
             NoHandle::Post => Verb::Post,
             NoHandle::Discard => Verb::Discard,
             NoHandle::Tick => Verb::Tick,
+            NoHandle::CommitDevice => Verb::CommitDevice,
+            NoHandle::DisplayError => Verb::DisplayError,
         }
     }
 }
@@ -36,6 +40,7 @@ pub(crate) enum OneHandle {
     Error,
     DestroyStream,
     DestroyDevice,
+    DestroyDisplaySource,
 }
 
 impl OneHandle {
@@ -48,6 +53,51 @@ impl OneHandle {
             OneHandle::Error => Verb::GetError { device: handle },
             OneHandle::DestroyStream => Verb::StreamDestroy { stream: handle },
             OneHandle::DestroyDevice => Verb::DeviceDestroy { device: handle },
+            OneHandle::DestroyDisplaySource => Verb::DisplaySourceDestroy { source: handle },
+        }
+    }
+}
+
+/// The verbs of one number, a port's or a pipeline's.
+#[derive(Clone, Copy)]
+pub(crate) enum OneNumber {
+    CommitPort,
+    CommitPipe,
+}
+
+impl OneNumber {
+    /// The verb of a number.
+    pub(crate) fn verb(self, number: i64) -> Verb
+        ensures { result ≡ of_number self number }
+    {
+        match self {
+            OneNumber::CommitPort => Verb::CommitPort { port: number },
+            OneNumber::CommitPipe => Verb::CommitPipe { pipe: number },
+        }
+    }
+}
+
+/// The verbs of a port's or a pipeline's number, and what it gets.
+#[derive(Clone, Copy)]
+pub(crate) enum TwoNumbers {
+    Attach,
+    BindPort,
+}
+
+impl TwoNumbers {
+    /// The verb of two numbers.
+    pub(crate) fn verb(self, number: i64, other: i64) -> Verb
+        ensures { result ≡ of_numbers self number other }
+    {
+        match self {
+            TwoNumbers::Attach => Verb::Attach {
+                port: number,
+                on: other,
+            },
+            TwoNumbers::BindPort => Verb::PipeBindPort {
+                pipe: number,
+                port: other,
+            },
         }
     }
 }
@@ -87,9 +137,10 @@ impl Destroyed {
     }
 }
 
-/// The verbs of a device and one of its objects.
+/// The verbs of a device and one of its objects, or a stream.
 #[derive(Clone, Copy)]
 pub(crate) enum TwoHandles {
+    Offscreen,
     Element,
     Remove,
     Above,
@@ -97,6 +148,8 @@ pub(crate) enum TwoHandles {
     Commit,
     Activate,
     Deactivate,
+    Compose,
+    TryCompose,
     Destroy(Destroyed),
 }
 
@@ -106,6 +159,10 @@ impl TwoHandles {
         ensures { result ≡ of_two self device object }
     {
         match self {
+            TwoHandles::Offscreen => Verb::StreamContext {
+                device,
+                stream: object,
+            },
             TwoHandles::Element => Verb::ElementNew {
                 device,
                 context: object,
@@ -131,6 +188,14 @@ impl TwoHandles {
                 context: object,
             },
             TwoHandles::Deactivate => Verb::Deactivate {
+                device,
+                context: object,
+            },
+            TwoHandles::Compose => Verb::Compose {
+                device,
+                context: object,
+            },
+            TwoHandles::TryCompose => Verb::TryCompose {
                 device,
                 context: object,
             },

@@ -6,3 +6,4 @@ pub mod Placed
 pub mod Shelf
 pub mod Joined
 pub mod Lending
+pub mod Marks

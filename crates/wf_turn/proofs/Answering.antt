@@ -64,7 +64,7 @@ same_canvas is_new given (payload.Canvas canvas) same = ap given_canvas same
 abbrev pub outcome : Program → Program × List Frame
 outcome p = (worked p, frames_of p)
 
-same_job : (p : Program) (is_new : Bool) (given wanted : Payload) (l : Leg) → SamePayload is_new wanted given
+same_job : (p : Program) (is_new : Bool) (given wanted : Payload) (l : Option Leg) → SamePayload is_new wanted given
     → outcome (took_job p given l) ≡ outcome (took_job p wanted l)
 same_job p is_new (payload.Job job) (payload.Job wanted) l same =
     let of : JobKind → Job → Program
@@ -84,9 +84,9 @@ module _ (p : Program) (given wanted : Reply) (same : IsSame given wanted) where
 
   same_leg : (l : Leg) → outcome (took_leg p given l) ≡ outcome (took_leg p wanted l)
   same_leg (leg.Contexts asked last) =
-      ap (λ v. outcome (took_job p given.payload (leg.Contexts (asked + 1) v))) same.value
-      ∙ same_job p (is_ok_code given.code) given.payload wanted.payload (leg.Contexts (asked + 1) wanted.value) same.payload
-  same_leg (leg.Ports port) = same_job p (is_ok_code given.code) given.payload wanted.payload (leg.Ports (port + 1)) same.payload
+      ap (λ v. outcome (took_job p given.payload (Some (leg.Contexts (asked + 1) v)))) same.value
+      ∙ same_job p (is_ok_code given.code) given.payload wanted.payload (Some (leg.Contexts (asked + 1) wanted.value)) same.payload
+  same_leg (leg.Ports port) = same_job p (is_ok_code given.code) given.payload wanted.payload (Some (leg.Ports (port + 1))) same.payload
 
   same_verb : (l : Line) (v : Verb) → outcome (took_first p (record l { verb = v }) given)
       ≡ outcome (took_first p (record l { verb = v }) wanted)
@@ -95,8 +95,10 @@ module _ (p : Program) (given wanted : Reply) (same : IsSame given wanted) where
   same_verb l verb.Discard = with_canvas
   same_verb l (verb.Frame s paint) = ap (λ c. outcome (took_frame p paint c)) canvas_is
   same_verb l verb.Tick =
-      ap (λ v. outcome (took_job (ticking p) given.payload (leg.Contexts 1 v))) same.value
-      ∙ same_job (ticking p) (is_ok_code given.code) given.payload wanted.payload (leg.Contexts 1 wanted.value) same.payload
+      ap (λ v. outcome (took_job (ticking p) given.payload (Some (leg.Contexts 1 v)))) same.value
+      ∙ same_job (ticking p) (is_ok_code given.code) given.payload wanted.payload (Some (leg.Contexts 1 wanted.value)) same.payload
+  same_verb l (verb.Compose d c) = same_job p (is_ok_code given.code) given.payload wanted.payload None same.payload
+  same_verb l (verb.TryCompose d c) = same_job p (is_ok_code given.code) given.payload wanted.payload None same.payload
   same_verb l _ = ap (λ n. outcome (line_done p n)) same.value
 
   same_at : (l : Line) (s : Stage) → outcome (took_at p l given s) ≡ outcome (took_at p l wanted s)

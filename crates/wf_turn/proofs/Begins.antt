@@ -1,15 +1,16 @@
 -- A turn and the running frame: a frame that begins is held by the program that began it, to be ended next.
 use Rattle.wf_turn.proofs.Common.{◌≡◌, ◌∙◌, ℕ, Bool, true, false, [], Option, Some, None, refl, sym, ap, subst, IfSome, Call, Job, Reply}
 use Rattle.wf_turn.proofs.Common.{Running, State, act, step, Line, Leg, Stage, Wanted, Ends, Program, first_line, given_canvas, go_on}
-use Rattle.wf_turn.proofs.Common.{line_done, next, plain, took, took_canvas, took_frame, took_job, worked, asked_for, waiting, frames_of}
+use Rattle.wf_turn.proofs.Common.{line_done, next, plain, took, took_canvas, took_frame, took_job, worked, frames_of}
 use Rattle.wf_turn.proofs.Common.{moves_frame, effect, is_begin, by_begin}
 use Rattle.wf_calls.specs.declared.call.Call.TheVariants as call
 use Rattle.wf_turn.specs.declared.stage.Stage.TheVariants as stage
 use Rattle.wf_turn.specs.Playing.{EndsAt}
-use Rattle.wf_turn.proofs.Cases.{turn_case, asks_begin}
+use Rattle.wf_turn.proofs.Cases.{turn_case}
 use Rattle.wf_turn.proofs.Own.{own_job}
 use Rattle.wf_turn.proofs.Painting.{canvas_painted, frame_painted, done_painted, on_painted}
-use Rattle.wf_model.specs.Effects.{frame_stays}
+use Rattle.wf_model.specs.Effects.{frame_stays, offered_frame}
+use Rattle.wf_model.specs.Registers.{offered}
 
 -- what is known of a program and of the running frame after a turn: the program holds the frame's Job, and its lines are
 -- the same; without a running frame it shows nothing
@@ -35,15 +36,16 @@ module _ (p : Program) (h : State) (client : ℕ) (m : Bool) (free : h.frame ≡
       no_frame p (now reply) (step h client c m).0.frame (frame_stays h c (act h c m) (effect h c m) still ∙ free) (clean reply)
 
   -- a question begins a frame, or none
-  at_question : (c : Call) → is_begin c ≡ true → (q : Program) (leg_of : ℕ → Leg) → q.unpainted ≡ false → q.lines ≡ p.lines
-      → Left (waiting c) (λ reply. took_job q reply.payload (leg_of reply.value))
+  at_question : (w : Wanted) → is_begin w.call ≡ true → (q : Program) (next_of : ℕ → Option Leg) → q.unpainted ≡ false
+      → q.lines ≡ p.lines → Left w (λ reply. took_job q reply.payload (next_of reply.value))
   unfolding step
-  at_question c begin q leg_of clean same =
-      by_begin (λ x. Leaves p (took_job q x.1.payload (leg_of x.1.value)) x.0.frame) h c m begin
-      (λ a. no_frame p (go_on q (leg_of a.value)) h.frame free (on_painted q clean (leg_of a.value)))
+  at_question w begin q next_of clean same =
+      by_begin (λ x. Leaves p (took_job q x.1.payload (next_of x.1.value)) x.0.frame) h w.call m begin
+      (λ register code a. no_frame p (go_on q (next_of a.value)) (offered register code h).frame (offered_frame register code h ∙ free)
+      (on_painted q clean (next_of a.value)))
       (λ b is. record { ends = (own_job b h, same); shows = λ none. absurd cc })
 
-  at_end : (job : Job) (l : Leg) → Left (plain (call.End job)) (λ reply. go_on (record p { job = None; unpainted = false }) l)
+  at_end : (job : Job) (l : Option Leg) → Left (plain (call.End job)) (λ reply. go_on (record p { job = None; unpainted = false }) l)
   unfolding step act
   at_end job l =
       let q = record p { job = None; unpainted = false } in
@@ -58,8 +60,7 @@ module _ (p : Program) (h : State) (client : ℕ) (m : Bool) (free : h.frame ≡
         frame = λ s paint.
             at_still (call.Acquire s) refl (λ reply. took_frame p paint (given_canvas reply.payload))
             (λ reply. frame_painted p painted paint (given_canvas reply.payload));
-        asks = λ l tick s leg_of at. at_question (asked_for l).call (asks_begin l) (record p { tick = tick; stage = s }) leg_of painted
-            refl;
+        asks = λ w begins tick s next_of at. at_question w begins (record p { tick = tick; stage = s }) next_of painted refl;
         ended = λ job held l. at_end job l;
       }) asks
 
@@ -75,7 +76,7 @@ module _ (p : Program) (h : State) (client : ℕ) (m : Bool) (w : Wanted) (f : R
     pub free : (step h client w.call m).0.frame ≡ None
     pub shows : frames_of (took p (step h client w.call m).1) ≡ []
 
-  at_job : (l : Line) (leg : Leg) (o : Option Job) → first_line p ≡ Some l → p.stage ≡ stage.Ending leg → p.job ≡ o
+  at_job : (l : Line) (leg : Option Leg) (o : Option Job) → first_line p ≡ Some l → p.stage ≡ stage.Ending leg → p.job ≡ o
       → EndsAt o f (stage.Ending leg) → Ended
   unfolding step act
   at_job l leg None is at job own = absurd own

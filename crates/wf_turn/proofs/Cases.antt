@@ -1,7 +1,7 @@
 -- The next call of a program, and what takes its answer: what is true of each kind of them is true of a turn.
 use Rattle.wf_turn.proofs.Common.{◌≡◌, ℕ, ◌+◌, Bool, true, false, cond, Option, Some, None, refl, subst, pos, IfSome, is_some, option_map}
 use Rattle.wf_turn.proofs.Common.{Canvas, Paint, Call, Job, Reply, Line, Verb, Leg, Stage, Wanted, plain_call, Name, is_begin, moves_frame}
-use Rattle.wf_turn.proofs.Common.{Program, asked_for, first_call, first_line, given_canvas, go_on, handle, line_done, next, plain, took}
+use Rattle.wf_turn.proofs.Common.{Program, first_call, first_line, given_canvas, go_on, handle, line_done, next, plain, took}
 use Rattle.wf_turn.proofs.Common.{took_at, took_canvas, took_first, took_frame, took_job, waiting, wanted_at}
 use Rattle.wf_calls.specs.declared.call.Call.TheVariants as call
 use Rattle.wf_script.specs.declared.line.Verb.TheVariants as verb
@@ -16,33 +16,34 @@ plain_calls handle verb.Discard = tt
 plain_calls handle (verb.Paint paint) = tt
 plain_calls handle (verb.Frame s paint) = tt
 plain_calls handle verb.Tick = tt
+plain_calls handle (verb.Compose d c) = tt
+plain_calls handle (verb.TryCompose d c) = tt
 plain_calls handle _ = refl
 
--- a tick's questions begin frames
-pub asks_begin : (l : Leg) → is_begin (asked_for l).call ≡ true
-asks_begin (leg.Contexts asked last) = refl
-asks_begin (leg.Ports port) = refl
-
--- the tick in which a question is asked: a new one begins with contexts
-abbrev pub IsTick : Program → Leg → ℕ → Type 0
-IsTick p (leg.Contexts asked last) tick = Unit {0}
-IsTick p (leg.Ports port) tick = p.tick ≡ tick
+-- the tick in which a frame is asked for: a port's frame waits, and is of the running tick; a new tick begins with contexts
+abbrev pub IsTick : Program → Wanted → ℕ → Type 0
+IsTick p w tick = of_call w.call
+  where
+    of_call : Call → Type 0
+    of_call (call.BeginPort port) = (n : ℕ) × (port ≡ pos n) × (w.wait ≡ true) × (p.tick ≡ tick)
+    of_call (call.BeginNext after) = w.wait ≡ true
+    of_call _ = Unit {0}
 
 -- of what a program wants, and of the program behind the answer
 module _ (p : Program) (T : Wanted → (Reply → Program) → Type 0) where
   -- calls that neither begin nor end a frame, of which a canvas or a value is taken, or which acquire for a line's frame;
-  -- a tick's questions; and the end of the frame whose Job is held
+  -- calls that begin a frame; and the end of the frame whose Job is held
   pub record Cases : Type 0 where
     pub canvas : (c : Call) → moves_frame c ≡ false → T (plain c) (λ reply. took_canvas p reply.payload)
     pub value : (c : Call) → moves_frame c ≡ false → T (plain c) (λ reply. line_done p reply.value)
     pub frame : (s : ℕ) (paint : Paint) → T (plain (call.Acquire s)) (λ reply. took_frame p paint (given_canvas reply.payload))
-    pub asks : (l : Leg) (tick : ℕ) (s : Stage) (leg_of : ℕ → Leg) → IsTick p l tick
-        → T (asked_for l) (λ reply. took_job (record p { tick = tick; stage = s }) reply.payload (leg_of reply.value))
-    pub ended : (job : Job) → p.job ≡ Some job → (l : Leg)
+    pub asks : (w : Wanted) → is_begin w.call ≡ true → (tick : ℕ) (s : Stage) (next_of : ℕ → Option Leg) → IsTick p w tick
+        → T w (λ reply. took_job (record p { tick = tick; stage = s }) reply.payload (next_of reply.value))
+    pub ended : (job : Job) → p.job ≡ Some job → (l : Option Leg)
         → T (plain (call.End job)) (λ reply. go_on (record p { job = None; unpainted = false }) l)
 
-  of_waiting : (w : Wanted) (c : Call) (now : Reply → Program) → Some (waiting c) ≡ Some w → T (waiting c) now → T w now
-  of_waiting w c now asks holds = (let is : waiting c ≡ w = cc in subst (λ x. T x now) is holds)
+  of_begin : (w x : Wanted) (now : Reply → Program) → Some x ≡ Some w → T x now → T w now
+  of_begin w x now asks holds = (let is : x ≡ w = cc in subst (λ y. T y now) is holds)
 
   of_test : (w : Wanted) (b : Bool) (c : Call) (now : Reply → Program) → cond b None (Some (plain c)) ≡ Some w → T (plain c) now → T w now
   of_test w true c now asks holds = absurd cc
@@ -76,19 +77,29 @@ module _ (p : Program) (T : Wanted → (Reply → Program) → Type 0) where
       of_test w (is_some p.canvas) (call.Acquire (handle p s)) (λ reply. took_frame p paint (given_canvas reply.payload)) asks
       (cases.frame (handle p s) paint)
   first_case w cases l verb.Tick asks =
-      of_waiting w (call.BeginNext 0) (took_first p (record l { verb = verb.Tick })) asks
-      (cases.asks (leg.Contexts 0 0) (p.tick + 1) (stage.Ticking (leg.Contexts 0 0)) (λ v. leg.Contexts 1 v) tt)
+      of_begin w (waiting (call.BeginNext 0)) (took_first p (record l { verb = verb.Tick })) asks
+      (cases.asks (waiting (call.BeginNext 0)) refl (p.tick + 1) (stage.Ticking (leg.Contexts 0 0)) (λ v. Some (leg.Contexts 1 v))
+      refl)
+  first_case w cases l (verb.Compose d c) asks =
+      let begins = waiting (call.BeginContext (handle p d) (handle p c)) in
+      of_begin w begins (took_first p (record l { verb = verb.Compose d c })) asks
+      (cases.asks begins refl p.tick p.stage (λ v. None) tt)
+  first_case w cases l (verb.TryCompose d c) asks =
+      let begins = plain (call.BeginContext (handle p d) (handle p c)) in
+      of_begin w begins (took_first p (record l { verb = verb.TryCompose d c })) asks
+      (cases.asks begins refl p.tick p.stage (λ v. None) tt)
   first_case w cases l v asks = of_plain w cases (plain_call (handle p) v) asks (plain_calls (handle p) v)
 
   stage_case : (w : Wanted) → Cases → (l : Line) (s : Stage) → wanted_at p l.verb s ≡ Some w → T w (λ reply. took_at p l reply s)
   stage_case w cases l stage.Fresh asks = first_case w cases l l.verb asks
   stage_case w cases l stage.Posting asks = canvas_goes w cases call.Post (λ c. refl) asks
   stage_case w cases l (stage.Ticking (leg.Contexts asked last)) asks =
-      of_waiting w (call.BeginNext last) (λ reply. took_job p reply.payload (leg.Contexts (asked + 1) reply.value)) asks
-      (cases.asks (leg.Contexts asked last) p.tick p.stage (λ v. leg.Contexts (asked + 1) v) tt)
+      of_begin w (waiting (call.BeginNext last)) (λ reply. took_job p reply.payload (Some (leg.Contexts (asked + 1) reply.value))) asks
+      (cases.asks (waiting (call.BeginNext last)) refl p.tick p.stage (λ v. Some (leg.Contexts (asked + 1) v)) refl)
   stage_case w cases l (stage.Ticking (leg.Ports port)) asks =
-      of_waiting w (call.BeginPort (pos port)) (λ reply. took_job p reply.payload (leg.Ports (port + 1))) asks
-      (cases.asks (leg.Ports port) p.tick p.stage (λ v. leg.Ports (port + 1)) refl)
+      of_begin w (waiting (call.BeginPort (pos port))) (λ reply. took_job p reply.payload (Some (leg.Ports (port + 1)))) asks
+      (cases.asks (waiting (call.BeginPort (pos port))) refl p.tick p.stage (λ v. Some (leg.Ports (port + 1)))
+      (port, refl, refl, refl))
   stage_case w cases l (stage.Ending m) asks =
       of_held w p.job call.End (λ reply. go_on (record p { job = None; unpainted = false }) m) asks (λ job held. cases.ended job held m)
 

@@ -75,11 +75,12 @@ holds_asked p asked last few =
     below true is = refl
     below false is = absurd cc
 
-holds_on : (p : Program) (l : Leg) → port_count p ≤ 4 → Holds (go_on p l)
-holds_on p (leg.Contexts asked last) few = holds_asked p asked last few
-holds_on p (leg.Ports port) few = holds_ports p port few
+holds_on : (p : Program) (l : Option Leg) → port_count p ≤ 4 → Holds (go_on p l)
+holds_on p None few = holds_done p 0 few
+holds_on p (Some (leg.Contexts asked last)) few = holds_asked p asked last few
+holds_on p (Some (leg.Ports port)) few = holds_ports p port few
 
-holds_job : (p : Program) (given : Payload) (l : Leg) → IsAnswered (port_count p) l → port_count p ≤ 4 → Holds (took_job p given l)
+holds_job : (p : Program) (given : Payload) (l : Option Leg) → IsAnswered (port_count p) l → port_count p ≤ 4 → Holds (took_job p given l)
 holds_job p (payload.Job job) l answered few = record { at = if_some (first_line p) (λ m. (refl, answered)); ports = few }
 holds_job p payload.Nothing l answered few = holds_on p l few
 holds_job p (payload.Canvas canvas) l answered few = holds_on p l few
@@ -99,13 +100,15 @@ holds_first p l reply few = of_all l.verb
     of_all verb.Post = holds_done (record p { canvas = given_canvas reply.payload }) 0 few
     of_all verb.Discard = holds_done (record p { canvas = given_canvas reply.payload }) 0 few
     of_all (verb.Frame s paint) = holds_frame p paint (given_canvas reply.payload) few
-    of_all verb.Tick = holds_job (ticking p) reply.payload (leg.Contexts 1 reply.value) (omega arith) few
+    of_all verb.Tick = holds_job (ticking p) reply.payload (Some (leg.Contexts 1 reply.value)) (omega arith) few
+    of_all (verb.Compose d c) = holds_job p reply.payload None tt few
+    of_all (verb.TryCompose d c) = holds_job p reply.payload None tt few
     of_all _ = holds_done p reply.value few
 
 holds_leg : (p : Program) (reply : Reply) (l : Leg) → IsAsking (port_count p) l → port_count p ≤ 4 → Holds (took_leg p reply l)
 holds_leg p reply (leg.Contexts asked last) asking few =
-    holds_job p reply.payload (leg.Contexts (asked + 1) reply.value) (omega (arith, asking)) few
-holds_leg p reply (leg.Ports port) asking few = holds_job p reply.payload (leg.Ports (port + 1)) (omega (arith, asking)) few
+    holds_job p reply.payload (Some (leg.Contexts (asked + 1) reply.value)) (omega (arith, asking)) few
+holds_leg p reply (leg.Ports port) asking few = holds_job p reply.payload (Some (leg.Ports (port + 1))) (omega (arith, asking)) few
 
 holds_at : (p : Program) (l : Line) (reply : Reply) (s : Stage) → IsAt p l s → port_count p ≤ 4 → Holds (took_at p l reply s)
 holds_at p l reply stage.Fresh at few = holds_first p l reply few

@@ -7,7 +7,7 @@ use Rattle.wf_calls.specs.declared.reply.Payload.TheVariants as payload
 use Rattle.wf_turn.specs.declared.stage.Leg.TheVariants as leg
 use Rattle.wf_turn.specs.declared.stage.Stage.TheVariants as stage
 use Rattle.wf_words.specs.Each.{each_set}
-use Rattle.wf_turn.proofs.Cases.{asks_begin, turn_case}
+use Rattle.wf_turn.proofs.Cases.{turn_case}
 
 module _ (Q : Option Job → Bool → Type 0) where
   abbrev pub Holds : Program → Type 0
@@ -27,22 +27,23 @@ module _ (Q : Option Job → Bool → Type 0) where
         | false ↦ holds
       ]
 
-  pub on_holds : (p : Program) (l : Leg) → Holds p → Holds (go_on p l)
-  on_holds p (leg.Contexts asked last) holds =
+  pub on_holds : (p : Program) (l : Option Leg) → Holds p → Holds (go_on p l)
+  on_holds p None holds = done_holds p 0 holds
+  on_holds p (Some (leg.Contexts asked last)) holds =
       elim ((last == 0) || not (nat_lt asked 16)) as (λ b. Holds
       (cond b (at_port p 1) (record p { stage = stage.Ticking (leg.Contexts asked last) }))) [
         | true ↦ port_holds p 1 holds
         | false ↦
             holds
       ]
-  on_holds p (leg.Ports port) holds = port_holds p port holds
+  on_holds p (Some (leg.Ports port)) holds = port_holds p port holds
 
   frame_holds : (p : Program) (paint : Paint) (canvas : Option Canvas) → Holds p → Holds (took_frame p paint canvas)
   frame_holds p paint None holds = done_holds p 0 holds
   frame_holds p paint (Some canvas) holds = holds
 
   -- a Job that comes is held, and is not painted yet
-  job_holds : (p : Program) (given : Payload) (l : Leg) → Holds p → ((job : Job) → given ≡ payload.Job job → Q (Some job) true)
+  job_holds : (p : Program) (given : Payload) (l : Option Leg) → Holds p → ((job : Job) → given ≡ payload.Job job → Q (Some job) true)
       → Holds (took_job p given l)
   job_holds p (payload.Job job) l holds comes = comes job refl
   job_holds p payload.Nothing l holds comes = on_holds p l holds
@@ -61,8 +62,8 @@ module _ (Q : Option Job → Bool → Type 0) where
           canvas = λ c still comes. done_holds (record p { canvas = given_canvas reply.payload }) 0 holds;
           value = λ c still comes. done_holds p reply.value holds;
           frame = λ s paint comes. frame_holds p paint (given_canvas reply.payload) holds;
-          asks = λ l tick s leg_of at comes.
-              job_holds (record p { tick = tick; stage = s }) reply.payload (leg_of reply.value) holds (comes (asks_begin l));
+          asks = λ w begins tick s next_of at comes.
+              job_holds (record p { tick = tick; stage = s }) reply.payload (next_of reply.value) holds (comes begins);
           ended = λ job held l comes. on_holds (record p { job = None; unpainted = false }) l none;
         }) asks comes
 

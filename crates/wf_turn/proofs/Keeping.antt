@@ -41,17 +41,18 @@ module _ (P : Program
         | false ↦ keeps_at p _ holds
       ]
 
-  keeps_on : (p : Program) (l : Leg) → P p → P (go_on p l)
-  keeps_on p (leg.Contexts asked last) holds =
+  keeps_on : (p : Program) (l : Option Leg) → P p → P (go_on p l)
+  keeps_on p None holds = keeps_done p 0 holds
+  keeps_on p (Some (leg.Contexts asked last)) holds =
       elim ((last == 0) || not (nat_lt asked 16)) as (λ b. P
       (cond b (at_port p 1) (record p { stage = stage.Ticking (leg.Contexts asked last) }))) [
         | true ↦ keeps_port p 1 holds
         | false ↦
             keeps_at p _ holds
       ]
-  keeps_on p (leg.Ports port) holds = keeps_port p port holds
+  keeps_on p (Some (leg.Ports port)) holds = keeps_port p port holds
 
-  keeps_job : (p : Program) (given : Payload) (l : Leg) → P p → P (took_job p given l)
+  keeps_job : (p : Program) (given : Payload) (l : Option Leg) → P p → P (took_job p given l)
   keeps_job p (payload.Job job) l holds = keeps p p.lines p.own p.canvas (Some job) true (stage.Ending l) p.tick holds
   keeps_job p payload.Nothing l holds = keeps_on p l holds
   keeps_job p (payload.Canvas canvas) l holds = keeps_on p l holds
@@ -71,13 +72,15 @@ module _ (P : Program
   keeps_first p l verb.Discard reply holds = keeps_canvas p (given_canvas reply.payload) holds
   keeps_first p l (verb.Frame s paint) reply holds = keeps_frame p paint (given_canvas reply.payload) holds
   keeps_first p l verb.Tick reply holds =
-      keeps_job (ticking p) reply.payload (leg.Contexts 1 reply.value)
+      keeps_job (ticking p) reply.payload (Some (leg.Contexts 1 reply.value))
       (keeps p p.lines p.own p.canvas p.job p.unpainted (stage.Ticking (leg.Contexts 0 0)) (p.tick + 1) holds)
+  keeps_first p l (verb.Compose d c) reply holds = keeps_job p reply.payload None holds
+  keeps_first p l (verb.TryCompose d c) reply holds = keeps_job p reply.payload None holds
   keeps_first p l _ reply holds = keeps_done p reply.value holds
 
   keeps_leg : (p : Program) (reply : Reply) (l : Leg) → P p → P (took_leg p reply l)
-  keeps_leg p reply (leg.Contexts asked last) holds = keeps_job p reply.payload (leg.Contexts (asked + 1) reply.value) holds
-  keeps_leg p reply (leg.Ports port) holds = keeps_job p reply.payload (leg.Ports (port + 1)) holds
+  keeps_leg p reply (leg.Contexts asked last) holds = keeps_job p reply.payload (Some (leg.Contexts (asked + 1) reply.value)) holds
+  keeps_leg p reply (leg.Ports port) holds = keeps_job p reply.payload (Some (leg.Ports (port + 1))) holds
 
   keeps_stage : (p : Program) (l : Line) (reply : Reply) (s : Stage) → P p → P (took_at p l reply s)
   keeps_stage p l reply stage.Fresh holds = keeps_first p l l.verb reply holds

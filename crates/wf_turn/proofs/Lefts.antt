@@ -9,7 +9,7 @@ use Rattle.wf_calls.specs.declared.reply.Payload.TheVariants as payload
 use Rattle.wf_script.specs.declared.line.Verb.TheVariants as verb
 use Rattle.wf_turn.specs.declared.stage.Leg.TheVariants as leg
 use Rattle.wf_turn.specs.declared.stage.Stage.TheVariants as stage
-use Rattle.wf_turn.specs.Quota.{leg_left, stage_left}
+use Rattle.wf_turn.specs.Quota.{leg_left, next_left, stage_left}
 
 one_line : (l : ℕ × Line) (ls : List (ℕ × Line)) → lines_left (l ∷ ls) ≡ line_quota l.1.verb + lines_left ls
 one_line l ls = sum_by-cons (λ m. line_quota m.1.verb) l ls
@@ -56,11 +56,12 @@ module _ (p : Program) (l : ℕ × Line) (ls : List (ℕ × Line)) where
         | false ↦ omega arith
       ]
 
-  left_on : (m : Leg) → left (go_on at_line m) ≤ leg_left (port_count p) m + lines_left ls
-  left_on (leg.Contexts asked last) = left_asked asked last
-  left_on (leg.Ports port) = left_ports port
+  left_on : (m : Option Leg) → left (go_on at_line m) ≤ next_left (port_count p) m + lines_left ls
+  left_on None = omega (arith, left_done 0)
+  left_on (Some (leg.Contexts asked last)) = left_asked asked last
+  left_on (Some (leg.Ports port)) = left_ports port
 
-  left_job : (given : Payload) (m : Leg) → left (took_job at_line given m) ≤ leg_left (port_count p) m + 1 + lines_left ls
+  left_job : (given : Payload) (m : Option Leg) → left (took_job at_line given m) ≤ next_left (port_count p) m + 1 + lines_left ls
   left_job (payload.Job job) m = omega arith
   left_job payload.Nothing m = omega (arith, left_on m)
   left_job (payload.Canvas canvas) m = omega (arith, left_on m)
@@ -77,14 +78,17 @@ left_first p l ls verb.Post reply event few = omega (arith, left_done (record p 
 left_first p l ls verb.Discard reply event few = omega (arith, left_done (record p { canvas = given_canvas reply.payload }) l ls 0)
 left_first p l ls (verb.Paint paint) reply event few = absurd cc
 left_first p l ls (verb.Frame s paint) reply event few = omega (arith, left_frame p l ls paint (given_canvas reply.payload))
-left_first p l ls verb.Tick reply event few = omega (arith, few, left_job (ticking p) l ls reply.payload (leg.Contexts 1 reply.value))
+left_first p l ls verb.Tick reply event few =
+    omega (arith, few, left_job (ticking p) l ls reply.payload (Some (leg.Contexts 1 reply.value)))
+left_first p l ls (verb.Compose d c) reply event few = omega (arith, left_job p l ls reply.payload None)
+left_first p l ls (verb.TryCompose d c) reply event few = omega (arith, left_job p l ls reply.payload None)
 left_first p l ls _ reply event few = omega (arith, left_done p l ls reply.value)
 
 left_leg : (p : Program) (l : ℕ × Line) (ls : List (ℕ × Line)) (m : Leg) (reply : Reply) → IsAsking (port_count p) m
     → left (took_leg (record p { lines = l ∷ ls }) reply m) + 1 ≤ leg_left (port_count p) m + lines_left ls
 left_leg p l ls (leg.Contexts asked last) reply asking =
-    omega (arith, asking, left_job p l ls reply.payload (leg.Contexts (asked + 1) reply.value))
-left_leg p l ls (leg.Ports port) reply asking = omega (arith, asking, left_job p l ls reply.payload (leg.Ports (port + 1)))
+    omega (arith, asking, left_job p l ls reply.payload (Some (leg.Contexts (asked + 1) reply.value)))
+left_leg p l ls (leg.Ports port) reply asking = omega (arith, asking, left_job p l ls reply.payload (Some (leg.Ports (port + 1))))
 
 left_at : (p : Program) (l : ℕ × Line) (ls : List (ℕ × Line)) (s : Stage) (reply : Reply) → IsAt (record p { lines = l ∷ ls }) l.1 s
     → port_count p ≤ 4

@@ -1,16 +1,18 @@
 -- Each frame of an order is what a port shows at a moment of it.
-use Rattle.wf_turn.proofs.Common.{◌≡◌, ℕ, Bool, false, List, [], ◌++◌, Some, None, refl, sym, subst, get_or, Ok, ap, pos, All}
-use Rattle.wf_turn.proofs.Common.{All-cons, All-nil, Call, Reply, Turn, entry, Frame, frame_of, job_of, Beginning, begin_call}
+use Rattle.wf_turn.proofs.Common.{◌≡◌, ℕ, Bool, true, false, List, [], ◌++◌, Some, None, refl, sym, subst, get_or, Ok, ap, pos, All}
+use Rattle.wf_turn.proofs.Common.{All-cons, All-nil, Call, Reply, Turn, entry, Frame, frame_of, job_of, Beginning, begin_call, is_begin}
 use Rattle.wf_turn.proofs.Common.{start, State, step, PlainScript, Leg, Wanted, Begins, IsOfMoment, frames_after, is_marked, replay}
 use Rattle.wf_turn.proofs.Common.{given_canvas, go_on, line_done, next, painted_job, Program, took, took_canvas, took_frame, took_job}
-use Rattle.wf_turn.proofs.Common.{worked, plain, asked_for, Show, frames_of, shown, turn, program_at, each_at, Stage, by_begin, next_is}
-use Rattle.wf_turn.proofs.Common.{port_is, bare}
+use Rattle.wf_turn.proofs.Common.{worked, plain, Show, frames_of, shown, turn, program_at, each_at, Stage, by_begin, next_is}
+use Rattle.wf_turn.proofs.Common.{port_is, bare, waiting, ◌∙◌, Option}
 use Rattle.std.proofs.lemmas.List.Elements.{All-append}
 use Rattle.wf_calls.specs.declared.call.Call.TheVariants as call
+use Rattle.wf_model.specs.Display.{begun_display}
 use Rattle.wf_model.specs.Frames.{port_beginning}
-use Rattle.wf_turn.specs.declared.stage.Leg.TheVariants as leg
 use Rattle.wf_turn.proofs.Begins.{nothing_shown}
-use Rattle.wf_turn.proofs.Cases.{turn_case, IsTick, asks_begin}
+use Rattle.wf_model.specs.Beginnings.{IsOfContext, composed_is}
+use Rattle.wf_model.specs.Objects.{Context}
+use Rattle.wf_turn.proofs.Cases.{turn_case, IsTick}
 use Rattle.wf_turn.proofs.Holding.{Holds, AllHold, handed_hold, opening_hold}
 use Rattle.wf_turn.proofs.Works.{worked_painted}
 use Rattle.wf_turn.proofs.Painting.{canvas_painted, frame_painted, IsPainted, done_painted, on_painted}
@@ -35,21 +37,24 @@ module _ (show : Show) (client : ℕ) (m : Bool) (p : Program) (stands : program
     at_other : (c : Call) (now : Reply → Program) → ((reply : Reply) → (now reply).unpainted ≡ false) → Told (plain c) now
     at_other c now clean asks = (let reply = (step h client c m).1 in none_begun (entry client reply) (now reply) (clean reply))
 
-    -- a frame that a question begins
-    begun : (l : Leg) (tick : ℕ) → IsTick p l tick → next p ≡ Some (asked_for l) → (b : Beginning)
-        → begin_call (asked_for l).call h ≡ Ok (Some b)
+    -- a frame of a context shows nothing
+    of_context : (c : Context) (tick : ℕ) (b : Beginning) → IsOfContext c h b
         → AreBegun (entry client (start b h).1) (shown b.kind tick (painted_job (job_of b h)))
-    begun (leg.Contexts asked last) tick at asks b is =
-        let own = next_is last h b is in
+    of_context c tick b own =
         let t = entry client (start b h).1 in
         subst (λ k. AreBegun t (shown k tick (painted_job (job_of b h)))) (sym (ap (λ x. x.kind) own.is))
         (All-nil (λ f. Begins f show t))
-    begun (leg.Ports port) tick at asks b is =
-        let own = port_is (pos port) h b is in
-        let its = port_beginning (pos port) own.scene in
+
+    -- a frame of a port shows what the port shows
+    of_port : (n tick : ℕ) → p.tick ≡ tick → next p ≡ Some (waiting (call.BeginPort (pos n))) → (b : Beginning)
+        → begin_call (call.BeginPort (pos n)) h ≡ Ok (Some b)
+        → AreBegun (entry client (start b h).1) (shown b.kind tick (painted_job (job_of b h)))
+    of_port n tick at asks b is =
+        let own = port_is (pos n) h b is in
+        let its = port_beginning (pos n) (begun_display n h.display) own.scene in
         let t = entry client (start its h).1 in
         subst (λ x. AreBegun (entry client (start x h).1) (shown x.kind tick (painted_job (job_of x h)))) (sym own.is)
-        (All-cons (λ f. Begins f show t) (frame_of port tick (painted_job (job_of its h)).image) []
+        (All-cons (λ f. Begins f show t) (frame_of n tick (painted_job (job_of its h)).image) []
         (record {
           asks = record { program = p; own = stands; next_is = asks };
           tick = at;
@@ -59,15 +64,31 @@ module _ (show : Show) (client : ℕ) (m : Bool) (p : Program) (stands : program
         })
         (All-nil (λ f. Begins f show t)))
 
-    at_question : (l : Leg) (tick : ℕ) (s : Stage) (leg_of : ℕ → Leg) → IsTick p l tick
-        → Told (asked_for l) (λ reply. took_job (record p { tick = tick; stage = s }) reply.payload (leg_of reply.value))
+    -- a frame that is asked for
+    begun : (c : Call) (wait : Bool) (tick : ℕ) → IsTick p (record { call = c; wait = wait }) tick
+        → next p ≡ Some (record { call = c; wait = wait }) → is_begin c ≡ true → (b : Beginning) → begin_call c h ≡ Ok (Some b)
+        → AreBegun (entry client (start b h).1) (shown b.kind tick (painted_job (job_of b h)))
+    begun (call.BeginNext after) wait tick at asks begins b is =
+        let own = next_is after h b is in
+        of_context own.context tick b own.own
+    begun (call.BeginContext d c) wait tick at asks begins b is =
+        let own = composed_is d c h b is in
+        of_context own.context tick b own.own
+    begun (call.BeginPort port) wait tick at asks begins b is =
+        let waits : next p ≡ Some (waiting (call.BeginPort (pos at.0))) =
+        asks ∙ ap (λ x. Some (record { call = call.BeginPort x; wait = wait })) at.1
+        ∙ ap (λ x. Some (record { call = call.BeginPort (pos at.0); wait = x })) at.2 in
+        of_port at.0 tick at.3 waits b (subst (λ x. begin_call (call.BeginPort x) h ≡ Ok (Some b)) at.1 is)
+    begun _ wait tick at asks begins b is = absurd cc
+
+    at_question : (w : Wanted) → is_begin w.call ≡ true → (tick : ℕ) (s : Stage) (next_of : ℕ → Option Leg) → IsTick p w tick
+        → Told w (λ reply. took_job (record p { tick = tick; stage = s }) reply.payload (next_of reply.value))
     unfolding step
-    at_question l tick s leg_of at asks =
+    at_question w begins tick s next_of at asks =
         let q = record p { tick = tick; stage = s } in
-        by_begin (λ x. AreBegun (entry client x.1) (frames_of (took_job q x.1.payload (leg_of x.1.value)))) h (asked_for l).call m
-        (asks_begin l)
-        (λ a. none_begun (entry client (bare a)) (go_on q (leg_of a.value)) (on_painted q painted (leg_of a.value)))
-        (begun l tick at asks)
+        by_begin (λ x. AreBegun (entry client x.1) (frames_of (took_job q x.1.payload (next_of x.1.value)))) h w.call m begins
+        (λ register code a. none_begun (entry client (bare a)) (go_on q (next_of a.value)) (on_painted q painted (next_of a.value)))
+        (begun w.call w.wait tick at asks begins)
 
     pub turn_told : (w : Wanted) → next p ≡ Some w → Told w (took p)
     turn_told w asks =

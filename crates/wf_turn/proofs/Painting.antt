@@ -35,7 +35,8 @@ begun_paintable : (h : State) (client : ℕ) (c : Call) (reply : Reply) (job : J
 unfolding step
 begun_paintable h client c reply job begins may has =
     let m = is_out_of_memory reply.code in
-    carried (act h c m).1 reply job (by_begin (λ x. JobIsOk x.1) h c m begins (λ a j has. absurd cc) (λ b is j has. refl)) may has
+    carried (act h c m).1 reply job
+    (by_begin (λ x. JobIsOk x.1) h c m begins (λ register code a j has. absurd cc) (λ b is j has. refl)) may has
 
 -- no Job is left to paint by what goes on without one
 abbrev pub IsPainted : Option Job → Bool → Type 0
@@ -44,7 +45,7 @@ IsPainted job unpainted = unpainted ≡ false
 pub done_painted : (p : Program) → p.unpainted ≡ false → (v : ℕ) → (line_done p v).unpainted ≡ false
 done_painted p painted v = done_holds IsPainted p v painted
 
-pub on_painted : (p : Program) → p.unpainted ≡ false → (l : Leg) → (go_on p l).unpainted ≡ false
+pub on_painted : (p : Program) → p.unpainted ≡ false → (l : Option Leg) → (go_on p l).unpainted ≡ false
 on_painted p painted l = on_holds IsPainted p l painted
 
 -- a Job that is not painted yet can be

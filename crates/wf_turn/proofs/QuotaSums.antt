@@ -21,6 +21,8 @@ total_more f n = from 0 n ∙ ap (λ k. sum_by f (range_with_len 0 n) + f k) (om
 least_40 : (v : Verb) → line_quota v ≤ 40
 least_40 (verb.Paint p) = omega arith
 least_40 (verb.Frame s p) = omega arith
+least_40 (verb.Compose d c) = omega arith
+least_40 (verb.TryCompose d c) = omega arith
 least_40 verb.Tick = omega arith
 least_40 _ = omega arith
 

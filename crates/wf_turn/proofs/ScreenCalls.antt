@@ -14,8 +14,8 @@ use Rattle.wf_model.specs.Outcome.{found, refuse}
 use Rattle.wf_model.specs.Streams.{acquirable, is_out_at_client, is_out_of, with_stream, stream_made}
 use Rattle.wf_turn.proofs.Screening.{AreFine, BringsHome, at_number, begun_fine, ended_fine, home_fine, of_handle, others_change}
 use Rattle.wf_turn.proofs.Screening.{unnamed_fine, Fine}
-use Rattle.wf_model.specs.Effects.{Effect, acquires, begins, composes, ends, makes, refuses, returns, tells, unnames}
-use Rattle.wf_calls.specs.Parts.{Register, of_device, register_of, no_register}
+use Rattle.wf_model.specs.Effects.{Effect, acquires, begins, composes, displays, ends, makes, refuses, returns, tells, unnames}
+use Rattle.wf_calls.specs.Parts.{Register, of_device, of_display, register_of, no_register}
 use Rattle.wf_words.specs.Each.{each_filtered, each_more}
 use Rattle.wf_model.specs.Registers.{offered}
 use Rattle.wf_words.specs.Refusals.{◌>>=◌}
@@ -41,6 +41,7 @@ module _ (n : ℕ) (Composed : ℕ → Bitmap → Type 0) where
 
   offered_keeps : (register : Register) (refused : Code) (h : State) → AreScreens h → AreScreens (offered register refused h)
   offered_keeps (of_device d) refused h are = record { streams = are.streams; numbered = are.numbered }
+  offered_keeps of_display refused h are = record { streams = are.streams; numbered = are.numbered }
   offered_keeps no_register refused h are = are
 
   made_keeps : (new : Buffers) (h : State) → AreScreens h → AreScreens (stream_made new h).0
@@ -129,6 +130,8 @@ module _ (n : ℕ) (Composed : ℕ → Bitmap → Type 0) where
   effect_keeps : (h : State) (c : Call) (x : State × Reply) → Effect h c x → Carries c → AreScreens h → AreScreens x.0
   effect_keeps h c x (refuses honest left) carries are = subst AreScreens (sym left) (offered_keeps (register_of c) x.1.code h are)
   effect_keeps h c x (composes made core value is) carries are =
+      subst (λ y. AreScreens y.0) (sym is) (record { streams = are.streams; numbered = are.numbered })
+  effect_keeps h c x (displays made display value is) carries are =
       subst (λ y. AreScreens y.0) (sym is) (record { streams = are.streams; numbered = are.numbered })
   effect_keeps h c x (makes new is) carries are = subst (λ y. AreScreens y.0) (sym is) (made_keeps new h are)
   effect_keeps h c x (unnames handle is) carries are =

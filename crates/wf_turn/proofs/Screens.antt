@@ -2,18 +2,19 @@
 use Rattle.wf_turn.proofs.Common.{◌≡◌, ◌∙◌, ℕ, ◌+◌, Bool, true, false, cond, List, [], ◌∷◌, map, length, Option, Some, None, refl, sym}
 use Rattle.wf_turn.proofs.Common.{subst, arith, Ok, nat_le, zip, range_with_len, IfSome, nat_tests, Bitmap, Scene, Call, Job, Reply, Turn}
 use Rattle.wf_turn.proofs.Common.{entry, is_begin, job_of, newest_images, scene_streams, Beginning, begin_call, start, State, step}
-use Rattle.wf_turn.proofs.Common.{PlainScript, Wanted, Leg, is_marked, replay, Program, next, painted_job, took, worked, took_canvas}
-use Rattle.wf_turn.proofs.Common.{asked_for, plain, line_done, took_frame, given_canvas, took_job, Show, opening_show, turn, program_at}
-use Rattle.wf_turn.proofs.Common.{each_at, Leg, moves_frame, by_begin, next_is, port_is}
-use Rattle.std.proofs.Common.{pos}
+use Rattle.wf_turn.proofs.Common.{PlainScript, Wanted, is_marked, replay, Program, next, painted_job, took, worked, took_canvas}
+use Rattle.wf_turn.proofs.Common.{plain, line_done, took_frame, given_canvas, took_job, Show, opening_show, turn, program_at}
+use Rattle.wf_turn.proofs.Common.{each_at, moves_frame, by_begin, next_is, port_is}
 use Rattle.wf_calls.specs.declared.call.Call.TheVariants as call
 use Rattle.wf_calls.specs.declared.reply.Payload.TheVariants as payload
 use Rattle.wf_calls.specs.declared.ports.Modes.{Modes}
 use Rattle.wf_model.specs.Frames.{context_beginning}
 use Rattle.wf_model.specs.State.{screen}
-use Rattle.wf_turn.specs.declared.stage.Leg.TheVariants as leg
-use Rattle.wf_turn.specs.Moments.{Composes, IsComposed, image_after}
-use Rattle.wf_turn.proofs.Cases.{turn_case, asks_begin}
+use Rattle.wf_model.specs.Beginnings.{IsOfContext, composed_is}
+use Rattle.wf_model.specs.Objects.{Context}
+use Rattle.wf_turn.specs.Moments.{AsksContext, Composes, IsComposed, by_line, image_after, in_tick}
+use Rattle.wf_turn.specs.Program.{waiting}
+use Rattle.wf_turn.proofs.Cases.{IsTick, turn_case}
 use Rattle.wf_turn.proofs.Holding.{AllHold, handed_hold, opening_hold, took_holds, Holds}
 use Rattle.wf_turn.proofs.Replays.{Step, at_step, order_keeps, taken_turn, turn_of}
 use Rattle.wf_turn.proofs.Screening.{AreFine, AreHome, BringsHome, newest_home, screen_composed}
@@ -45,7 +46,7 @@ module _ (n : ℕ) (Composed : ℕ → Bitmap → Type 0) where
         canvas = carries_none n Composed;
         value = carries_none n Composed;
         frame = λ s paint. carries_none n Composed (call.Acquire s) refl;
-        asks = λ l tick s leg_of at. asks_carry n Composed (asked_for l).call (asks_begin l);
+        asks = λ w begins tick s next_of at. asks_carry n Composed w.call begins;
         ended = λ job held l j is.
             (let same : job ≡ j = cc in subst (BringsHome n Composed) same (rw held at brings.1));
       }) asks
@@ -62,32 +63,45 @@ module _ (n : ℕ) (Composed : ℕ → Bitmap → Type 0) where
     contents_home : (scene : Scene) → AreHome n Composed (newest_images (scene_streams scene) h.streams)
     contents_home scene = newest_home n Composed h.frame (scene_streams scene) h.streams are.streams
 
-    -- the Job of a frame that a question begins
-    begun_brings : (l : Leg) → next p ≡ Some (asked_for l) → (b : Beginning) → begin_call (asked_for l).call h ≡ Ok (Some b)
+    -- the Job of a context's frame
+    composed_brings : (c : Context) (b : Beginning) → IsOfContext c h b → AsksContext show (entry client (start b h).1) c
         → Tells (start b h).1 → BringsHome n Composed (painted_job (job_of b h))
-    begun_brings (leg.Contexts asked last) asks b is tells =
-        let own = next_is last h b is in
-        let c = own.context in
-        let its = context_beginning c.handle c.target c.committed own.buffers in
+    composed_brings c b own asks tells =
+        let its = context_beginning c.handle c.target c.committed own.buffers h in
         let told : Tells (start its h).1 = subst (λ x. Tells (start x h).1) own.is tells in
+        let asked : AsksContext show (entry client (start its h).1) c =
+        subst (λ x. AsksContext show (entry client (start x h).1) c) own.is asks in
         subst (λ x. BringsHome n Composed (painted_job (job_of x h))) (sym own.is)
         (record {
           contents = contents_home c.committed;
           image = λ screen. told c.target (painted_job (job_of its h)).image (record {
-            above = last;
-            asks = record { program = p; own = stands; next_is = asks };
             context = c;
-            next = own.next;
+            asks = asked;
             target = refl;
             code = refl;
             value = refl;
             shows = rw own.at refl;
           });
         })
-    begun_brings (leg.Ports port) asks b is tells =
-        let own = port_is (pos port) h b is in
+
+    -- the Job of a frame that is asked for
+    begun_brings : (c : Call) (wait : Bool) (tick : ℕ) → IsTick p (record { call = c; wait = wait }) tick
+        → next p ≡ Some (record { call = c; wait = wait }) → is_begin c ≡ true → (b : Beginning) → begin_call c h ≡ Ok (Some b)
+        → Tells (start b h).1 → BringsHome n Composed (painted_job (job_of b h))
+    begun_brings (call.BeginNext after) wait tick at asks begins b is tells =
+        let own = next_is after h b is in
+        let waits : next p ≡ Some (waiting (call.BeginNext after)) =
+        subst (λ x. next p ≡ Some (record { call = call.BeginNext after; wait = x })) at asks in
+        composed_brings own.context b own.own (in_tick after (record { program = p; own = stands; next_is = waits }) own.next) tells
+    begun_brings (call.BeginContext d c) wait tick at asks begins b is tells =
+        let own = composed_is d c h b is in
+        composed_brings own.context b own.own
+        (by_line d c wait (record { program = p; own = stands; next_is = asks }) own.found own.inactive) tells
+    begun_brings (call.BeginPort port) wait tick at asks begins b is tells =
+        let own = port_is port h b is in
         subst (λ x. BringsHome n Composed (painted_job (job_of x h))) (sym own.is)
         (record { contents = contents_home own.scene; image = tt })
+    begun_brings _ wait tick at asks begins b is tells = absurd cc
 
     abbrev Comes : Wanted → (Reply → Program) → Type 0
     Comes w now =
@@ -100,16 +114,17 @@ module _ (n : ℕ) (Composed : ℕ → Bitmap → Type 0) where
         no_begin_moves : (c : Call) → moves_frame c ≡ false → is_begin c ≡ false
         no_begin_moves (call.BeginNext after) still = absurd cc
         no_begin_moves (call.BeginPort port) still = absurd cc
+        no_begin_moves (call.BeginContext d c) still = absurd cc
         no_begin_moves _ still = refl
 
-    at_question : (l : Leg) (now : Reply → Program) → Comes (asked_for l) now
+    at_question : (w : Wanted) (tick : ℕ) (now : Reply → Program) → IsTick p w tick → Comes w now
     unfolding step
-    at_question l now asks begins =
+    at_question w tick now at asks begins =
         by_begin (λ x. Tells x.1 → (job : Job) → x.1.payload ≡ payload.Job job → BringsHome n Composed (painted_job job)) h
-        (asked_for l).call m begins (λ a tells job has. absurd cc)
+        w.call m begins (λ register code a tells job has. absurd cc)
         (λ b is tells job has. (
         let same : job_of b h ≡ job = cc in
-        subst (λ j. BringsHome n Composed (painted_job j)) same (begun_brings l asks b is tells)))
+        subst (λ j. BringsHome n Composed (painted_job j)) same (begun_brings w.call w.wait tick at asks begins b is tells)))
 
     begin_brings : (w : Wanted) → next p ≡ Some w → Comes w (took p)
     begin_brings w asks =
@@ -118,8 +133,8 @@ module _ (n : ℕ) (Composed : ℕ → Bitmap → Type 0) where
           canvas = λ c still. no_begin c (λ reply. took_canvas p reply.payload) still;
           value = λ c still. no_begin c (λ reply. line_done p reply.value) still;
           frame = λ s paint. no_begin (call.Acquire s) (λ reply. took_frame p paint (given_canvas reply.payload)) refl;
-          asks = λ l tick s leg_of at.
-              at_question l (λ reply. took_job (record p { tick = tick; stage = s }) reply.payload (leg_of reply.value));
+          asks = λ w begins tick s next_of at.
+              at_question w tick (λ reply. took_job (record p { tick = tick; stage = s }) reply.payload (next_of reply.value)) at;
           ended = λ job held l asks begins. absurd cc;
         }) asks
 

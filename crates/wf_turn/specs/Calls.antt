@@ -23,13 +23,30 @@ abbrev pub set_to : (Option Name → ℕ) → Value → List ℤ
 set_to handle (value.Handle name) = pos (handle name) ∷ pos 0 ∷ pos 0 ∷ pos 0 ∷ []
 set_to handle (value.Numbers numbers) = numbers
 
--- the call of a line of a source or a mask
+-- the call of a line of the display
+abbrev pub display_line : (Option Name → ℕ) → Verb → Option Call
+display_line handle (verb.PortSet p attr to) = Some (call.PortSet p attr (set_to handle to))
+display_line handle (verb.PortGet p attr index) = Some (call.PortGet p attr index)
+display_line handle (verb.Attach p on) = Some (call.Attach p on)
+display_line handle (verb.PipeSet l attr to) = Some (call.PipeSet l attr (set_to handle to))
+display_line handle (verb.PipeGet l attr index) = Some (call.PipeGet l attr index)
+display_line handle (verb.PipeBindPort l p) = Some (call.PipeBindPort l p)
+display_line handle (verb.DisplaySource l s) = Some (call.DisplaySource l (handle s))
+display_line handle (verb.DisplaySourceDestroy x) = Some (call.DisplaySourceDestroy (handle x))
+display_line handle (verb.PipeBindSource l x when) = Some (call.PipeBindSource l (handle x) when)
+display_line handle verb.CommitDevice = Some call.CommitDevice
+display_line handle (verb.CommitPort p) = Some (call.CommitPort p)
+display_line handle (verb.CommitPipe l) = Some (call.CommitPipe l)
+display_line handle verb.DisplayError = Some call.DisplayError
+display_line handle _ = None
+
+-- the call of a line of a source, a mask or the display
 abbrev pub source_call : (Option Name → ℕ) → Verb → Option Call
 source_call handle (verb.SourceNew d c s) = Some (call.SourceNew (handle d) (handle c) (handle s))
 source_call handle (verb.SourceDestroy d x) = Some (call.SourceDestroy (handle d) (handle x))
 source_call handle (verb.MaskNew d c s) = Some (call.MaskNew (handle d) (handle c) (handle s))
 source_call handle (verb.MaskDestroy d m) = Some (call.MaskDestroy (handle d) (handle m))
-source_call handle _ = None
+source_call handle v = display_line handle v
 
 -- the call of a line of an element, a source or a mask
 abbrev pub element_call : (Option Name → ℕ) → Verb → Option Call
@@ -46,6 +63,7 @@ element_call handle v = source_call handle v
 -- the call of a line of a context or of what is in it
 abbrev pub context_call : (Option Name → ℕ) → Verb → Option Call
 context_call handle (verb.ScreenContext d port) = Some (call.ScreenContext (handle d) port)
+context_call handle (verb.StreamContext d s) = Some (call.StreamContext (handle d) (handle s))
 context_call handle (verb.ContextSet d c attr to) = Some (call.ContextSet (handle d) (handle c) attr (set_to handle to))
 context_call handle (verb.ContextGet d c attr index) = Some (call.ContextGet (handle d) (handle c) attr index)
 context_call handle (verb.Commit d c) = Some (call.Commit (handle d) (handle c))

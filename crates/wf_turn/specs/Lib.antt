@@ -8,6 +8,7 @@ pub mod Ready
 pub mod Quota
 pub mod Passing
 pub mod Inside
+pub mod Lending
 pub mod Turns
 pub mod Play
 pub mod Moments

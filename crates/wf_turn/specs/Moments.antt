@@ -1,20 +1,21 @@
 -- What each frame of a film shows, and what each screen has: the picture of one scene, and of the newest images, at one
 -- moment of the order.
-use Rattle.std.specs.Prelude.{◌≡◌, ℕ, pos, List, ◌∷◌, ◌++◌, Option, Some, None, option_map}
+use Rattle.std.specs.Prelude.{◌≡◌, ℕ, Bool, false, pos, List, ◌∷◌, ◌++◌, Option, Some, None, option_map, Ok}
 use Rattle.wf_pixel.specs.declared.Format.TheVariants.{Rgba8Pre}
 use Rattle.wf_image.specs.Bitmap.{Bitmap}
 use Rattle.wf_stream.specs.Streams.{buffers_at, stream_at}
 use Rattle.wf_calls.specs.declared.call.Call.TheVariants as call
-use Rattle.wf_calls.specs.declared.call.Call.{Call}
 use Rattle.wf_calls.specs.declared.order.Turn.{Turn}
 use Rattle.wf_film.specs.Film.{Frame, frame_of}
+use Rattle.wf_model.specs.Beginnings.{context_of}
 use Rattle.wf_model.specs.Objects.{Context}
-use Rattle.wf_model.specs.Display.{port_scene}
+use Rattle.wf_model.specs.Display.{begun_display, port_scene}
 use Rattle.wf_model.specs.Frames.{newest_images, newest_of, next_context, scene_streams}
 use Rattle.wf_model.specs.Picture.{picture}
 use Rattle.wf_model.specs.State.{State}
 use Rattle.wf_script.specs.Script.{PlainScript}
 use Rattle.wf_turn.specs.Play.{replay}
+use Rattle.wf_turn.specs.declared.stage.Wanted.{Wanted}
 use Rattle.wf_turn.specs.Program.{Program, next, waiting}
 use Rattle.wf_turn.specs.Turns.{Show, program_at}
 
@@ -29,22 +30,23 @@ pub record At (script : PlainScript) (order : List Turn) (Holds : Show → Turn 
   pub holds : Holds moment entry
 
 -- the next call of the client of an entry is this one, which begins a frame
-pub record Asks (show : Show) (t : Turn) (c : Call) : Type 0 where
+pub record Asks (show : Show) (t : Turn) (w : Wanted) : Type 0 where
   pub program : Program
   pub own : program_at show t.client ≡ Some program
-  pub next_is : next program ≡ Some (waiting c)
+  pub next_is : next program ≡ Some w
 
--- the frame that a port shows in a state: the picture of its scene, with the newest images of the streams that it names
+-- the frame that a port shows in a state: the picture of its scene, once what waits at its pipelines is current, with the newest
+-- images of the streams that it names
 abbrev pub port_frame : State → ℕ → ℕ → Option Frame
 port_frame h port tick =
     option_map
     (λ scene. frame_of port tick (picture scene (newest_images (scene_streams scene) h.streams) Rgba8Pre))
-    (port_scene port h.display)
+    (port_scene port (begun_display port h.display))
 
 -- an entry answers the Begin of the frame's port, in the frame's tick, with Ok and the port: the frame is what the port
 -- shows at that moment
 pub record Begins (f : Frame) (show : Show) (t : Turn) : Type 0 where
-  pub asks : Asks show t (call.BeginPort (pos f.port))
+  pub asks : Asks show t (waiting (call.BeginPort (pos f.port)))
   pub tick : asks.program.tick ≡ f.tick
   pub code : t.code ≡ 0
   pub value : t.value ≡ f.port
@@ -62,13 +64,19 @@ context_image h c =
     (λ b. picture c.committed (newest_images (scene_streams c.committed) h.streams) b.format)
     (buffers_at c.target h.streams)
 
--- an entry answers the Begin of the active context that comes next, with Ok and the context's handle: the image is what
--- the context composes at that moment, into this stream
+-- the next call of the client of an entry begins a frame of this context: in a tick, of the active context that comes next;
+-- or by a client's line, of a context that is not active
+pub data AsksContext (show : Show) (t : Turn) (c : Context) : Type 0 where
+  in_tick : (above : ℕ) → Asks show t (waiting (call.BeginNext above)) → next_context above show.state.core.contexts ≡ Some c
+      → AsksContext show t c
+  by_line : (d : ℕ) (handle : ℕ) (wait : Bool) → Asks show t (record { call = call.BeginContext d handle; wait = wait })
+      → context_of d handle show.state ≡ Ok c → c.active ≡ false → AsksContext show t c
+
+-- an entry answers the Begin of a context with Ok and the context's handle: the image is what the context composes at that
+-- moment, into this stream
 pub record Composes (stream : ℕ) (image : Bitmap) (show : Show) (t : Turn) : Type 0 where
-  pub above : ℕ
-  pub asks : Asks show t (call.BeginNext above)
   pub context : Context
-  pub next : next_context above show.state.core.contexts ≡ Some context
+  pub asks : AsksContext show t context
   pub target : context.target ≡ stream
   pub code : t.code ≡ 0
   pub value : t.value ≡ context.handle

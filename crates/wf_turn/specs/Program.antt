@@ -80,6 +80,8 @@ first_call p verb.Discard = option_map (λ canvas. plain (call.Discard canvas)) 
 first_call p (verb.Paint paint) = None
 first_call p (verb.Frame stream paint) = if is_some p.canvas then None else Some (plain (call.Acquire (handle p stream)))
 first_call p verb.Tick = Some (waiting (call.BeginNext 0))
+first_call p (verb.Compose d c) = Some (waiting (call.BeginContext (handle p d) (handle p c)))
+first_call p (verb.TryCompose d c) = Some (plain (call.BeginContext (handle p d) (handle p c)))
 first_call p v = option_map plain (plain_call (handle p) v)
 
 -- what a tick asks for
@@ -179,13 +181,14 @@ abbrev pub asked_next : Program → ℕ → ℕ → Program
 asked_next p asked last =
     if (last == 0) || not (nat_lt asked 16) then at_port p 1 else at_stage p (stage.Ticking (leg.Contexts asked last))
 
--- a tick goes on
-abbrev pub go_on : Program → Leg → Program
-go_on p (leg.Contexts asked last) = asked_next p asked last
-go_on p (leg.Ports port) = at_port p port
+-- a tick goes on, or a line that is no tick is through
+abbrev pub go_on : Program → Option Leg → Program
+go_on p None = line_done p 0
+go_on p (Some (leg.Contexts asked last)) = asked_next p asked last
+go_on p (Some (leg.Ports port)) = at_port p port
 
--- a Job is to be painted and then ended; without one the tick goes on
-abbrev pub took_job : Program → Payload → Leg → Program
+-- a Job is to be painted and then ended; without one the line goes on
+abbrev pub took_job : Program → Payload → Option Leg → Program
 took_job p (payload.Job job) l = record p { job = Some job; unpainted = true; stage = stage.Ending l }
 took_job p _ l = go_on p l
 
@@ -220,7 +223,9 @@ took_first p l reply = of_verb l.verb
     of_verb verb.Post = took_canvas p reply.payload
     of_verb verb.Discard = took_canvas p reply.payload
     of_verb (verb.Frame stream paint) = took_frame p paint (given_canvas reply.payload)
-    of_verb verb.Tick = took_job (ticking p) reply.payload (leg.Contexts 1 reply.value)
+    of_verb verb.Tick = took_job (ticking p) reply.payload (Some (leg.Contexts 1 reply.value))
+    of_verb (verb.Compose d c) = took_job p reply.payload None
+    of_verb (verb.TryCompose d c) = took_job p reply.payload None
     of_verb _ = line_done p reply.value
 
 -- where a tick goes on after the answer to a question
@@ -230,7 +235,7 @@ answered (leg.Ports port) value = leg.Ports (port + 1)
 
 -- the answer to a tick's question
 abbrev pub took_leg : Program → Reply → Leg → Program
-took_leg p reply l = took_job p reply.payload (answered l reply.value)
+took_leg p reply l = took_job p reply.payload (Some (answered l reply.value))
 
 abbrev pub took_at : Program → Line → Reply → Stage → Program
 took_at p l reply stage.Fresh = took_first p l reply
@@ -276,6 +281,18 @@ place_of p = of_lines p.lines
     of_lines : List (ℕ × Line) → Option ℕ
     of_lines [] = None
     of_lines (l ∷ ls) = Some l.0
+
+-- how many lines of the canonical text stand before the event lines: the header, the ports, and the pipelines where there are some
+abbrev pub lines_before : PlainScript → ℕ
+lines_before script = 1 + length script.ports.modes.items + (if script.ports.pipes == 0 then 0 else 1)
+
+-- the number, in the canonical text, of the line of the next event, or 0 where the program is through
+abbrev pub line_of : Program → ℕ
+line_of p = of_place (place_of p)
+  where
+    of_place : Option ℕ → ℕ
+    of_place None = 0
+    of_place (Some place) = lines_before p.script + place + 1
 
 -- a line of the setup is not through
 abbrev pub in_setup : Program → Bool

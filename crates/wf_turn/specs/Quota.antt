@@ -1,5 +1,5 @@
 -- How many events a script makes at most, and how many a program still makes.
-use Rattle.std.specs.Prelude.{ℕ, ◌+◌, ◌-◌, ◌*◌, ◌==◌, List, [], ◌∷◌, sum_by, if◌then◌else◌}
+use Rattle.std.specs.Prelude.{ℕ, ◌+◌, ◌-◌, ◌*◌, ◌==◌, List, [], ◌∷◌, sum_by, Option, Some, None, if◌then◌else◌}
 use Rattle.std.specs.List.{range_with_len}
 use Rattle.wf_script.specs.declared.line.Line.{Line}
 use Rattle.wf_script.specs.declared.line.Verb.{Verb}
@@ -14,6 +14,8 @@ use Rattle.wf_turn.specs.Program.{Program, port_count}
 abbrev pub line_quota : Verb → ℕ
 line_quota verb.Tick = 40
 line_quota (verb.Frame stream paint) = 2
+line_quota (verb.Compose d c) = 2
+line_quota (verb.TryCompose d c) = 2
 line_quota (verb.Paint paint) = 0
 line_quota _ = 1
 
@@ -34,12 +36,17 @@ abbrev pub leg_left : ℕ → Leg → ℕ
 leg_left ports (leg.Contexts asked last) = 2 * (16 - asked) + 2 * ports
 leg_left ports (leg.Ports port) = 2 * (ports + 1 - port)
 
+-- how many events a line still makes at most once its frame ended
+abbrev pub next_left : ℕ → Option Leg → ℕ
+next_left ports None = 0
+next_left ports (Some l) = leg_left ports l
+
 -- how many events a line still makes at most
 abbrev pub stage_left : ℕ → Verb → Stage → ℕ
 stage_left ports v stage.Fresh = line_quota v
 stage_left ports v stage.Posting = 1
 stage_left ports v (stage.Ticking l) = leg_left ports l
-stage_left ports v (stage.Ending l) = leg_left ports l + 1
+stage_left ports v (stage.Ending l) = next_left ports l + 1
 
 abbrev pub lines_left : List (ℕ × Line) → ℕ
 lines_left ls = sum_by (λ l. line_quota l.1.verb) ls

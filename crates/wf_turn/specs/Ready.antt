@@ -1,5 +1,5 @@
 -- What holds of programs between two turns.
-use Rattle.std.specs.Prelude.{◌≡◌, ℕ, ◌+◌, ◌<◌, ◌≤◌, false, List, [], ◌∷◌, is_some, IfSome, IsSome, IsTrue}
+use Rattle.std.specs.Prelude.{◌≡◌, ℕ, ◌+◌, ◌<◌, ◌≤◌, false, List, [], ◌∷◌, is_some, IfSome, IsSome, IsTrue, Option, Some, None}
 use Rattle.wf_machine.specs.Object.{IsPaintable}
 use Rattle.wf_script.specs.declared.line.Line.{Line}
 use Rattle.wf_script.specs.Script.{PlainScript}
@@ -14,9 +14,10 @@ abbrev pub IsAsking : ℕ → Leg → Type 0
 IsAsking ports (leg.Contexts asked last) = asked < 16
 IsAsking ports (leg.Ports port) = port ≤ ports
 
-abbrev pub IsAnswered : ℕ → Leg → Type 0
-IsAnswered ports (leg.Contexts asked last) = asked ≤ 16
-IsAnswered ports (leg.Ports port) = port ≤ ports + 1
+abbrev pub IsAnswered : ℕ → Option Leg → Type 0
+IsAnswered ports None = Unit {0}
+IsAnswered ports (Some (leg.Contexts asked last)) = asked ≤ 16
+IsAnswered ports (Some (leg.Ports port)) = port ≤ ports + 1
 
 -- a Job that is not painted yet can be painted
 abbrev pub IsWork : Program → Type 0

@@ -40,7 +40,7 @@ impl<'a> Program<'a> {
     }
 
     /// Holds the Job of a frame, to be painted and then ended.
-    fn hold_job(&mut self, job: Job, leg: Leg)
+    fn hold_job(&mut self, job: Job, leg: Option<Leg>)
         requires { IsAnswered (port_count self.old) leg }
         ensures { self.new ≡ took_job self.old (Payload.Job job) leg }
     {
@@ -73,7 +73,7 @@ impl<'a> Program<'a> {
         match self.stage {
             Stage::Fresh => self.took_first_canvas(line, answer, canvas),
             Stage::Posting => self.keep_canvas(canvas),
-            Stage::Ticking(leg) => self.go_on(self.answered(leg, answer.value)),
+            Stage::Ticking(leg) => self.go_on(Some(self.answered(leg, answer.value))),
             Stage::Ending(leg) => self.ended(leg),
         }
     }
@@ -89,12 +89,13 @@ impl<'a> Program<'a> {
                 self.start_tick();
                 self.hold_job(
                     job,
-                    Leg::Contexts {
+                    Some(Leg::Contexts {
                         asked: 1,
                         last: answer.value,
-                    },
+                    }),
                 );
             }
+            Verb::Compose { .. } | Verb::TryCompose { .. } => self.hold_job(job, None),
             _ => self.took_first_answer(line, answer),
         }
     }
@@ -112,7 +113,7 @@ impl<'a> Program<'a> {
             Stage::Posting => self.without_canvas(),
             Stage::Ticking(leg) => {
                 let next = self.answered(leg, answer.value);
-                self.hold_job(job, next);
+                self.hold_job(job, Some(next));
             }
             Stage::Ending(leg) => self.ended(leg),
         }

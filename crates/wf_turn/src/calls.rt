@@ -1,7 +1,7 @@
 //! The calls of lines that are one call and wait for nothing.
 
 ghost use Rattle.std.specs.Prelude.{◌≡◌, true};
-ghost use Rattle.wf_turn.specs.Calls.{IsPut, context_call, element_call, plain_call, set_to, source_call};
+ghost use Rattle.wf_turn.specs.Calls.{IsPut, context_call, display_line, element_call, plain_call, set_to, source_call};
 ghost use Rattle.wf_turn.specs.Program.{handle};
 
 use crate::program::Program;
@@ -29,7 +29,91 @@ impl<'a> Program<'a> {
         }
     }
 
-    /// The call of a line of a source or a mask, if it is such a line: it is put where a call stood.
+    /// The call of a line of the display, if it is such a line: it is put where a call stood.
+    fn display_line(&self, verb: &'a Verb, call: &mut Call) -> bool
+        ensures { IsPut (display_line (handle self.now) verb.now) call.new result }
+    {
+        match verb {
+            Verb::PortSet { port, attr, value } => put(
+                call,
+                Call::PortSet {
+                    port: *port,
+                    attr: *attr,
+                    value: self.set_to(value),
+                },
+            ),
+            Verb::PortGet { port, attr, index } => put(
+                call,
+                Call::PortGet {
+                    port: *port,
+                    attr: *attr,
+                    index: *index,
+                },
+            ),
+            Verb::Attach { port, on } => put(
+                call,
+                Call::Attach {
+                    port: *port,
+                    on: *on,
+                },
+            ),
+            Verb::PipeSet { pipe, attr, value } => put(
+                call,
+                Call::PipeSet {
+                    pipe: *pipe,
+                    attr: *attr,
+                    value: self.set_to(value),
+                },
+            ),
+            Verb::PipeGet { pipe, attr, index } => put(
+                call,
+                Call::PipeGet {
+                    pipe: *pipe,
+                    attr: *attr,
+                    index: *index,
+                },
+            ),
+            Verb::PipeBindPort { pipe, port } => put(
+                call,
+                Call::PipeBindPort {
+                    pipe: *pipe,
+                    port: *port,
+                },
+            ),
+            Verb::DisplaySource { pipe, stream } => put(
+                call,
+                Call::DisplaySource {
+                    pipe: *pipe,
+                    stream: self.handle(stream),
+                },
+            ),
+            Verb::DisplaySourceDestroy { source } => put(
+                call,
+                Call::DisplaySourceDestroy {
+                    source: self.handle(source),
+                },
+            ),
+            Verb::PipeBindSource {
+                pipe,
+                source,
+                transition,
+            } => put(
+                call,
+                Call::PipeBindSource {
+                    pipe: *pipe,
+                    source: self.handle(source),
+                    transition: *transition,
+                },
+            ),
+            Verb::CommitDevice => put(call, Call::CommitDevice),
+            Verb::CommitPort { port } => put(call, Call::CommitPort { port: *port }),
+            Verb::CommitPipe { pipe } => put(call, Call::CommitPipe { pipe: *pipe }),
+            Verb::DisplayError => put(call, Call::DisplayError),
+            _ => false,
+        }
+    }
+
+    /// The call of a line of a source, a mask or the display, if it is such a line: it is put where a call stood.
     fn source_call(&self, verb: &'a Verb, call: &mut Call) -> bool
         ensures { IsPut (source_call (handle self.now) verb.now) call.new result }
     {
@@ -72,7 +156,7 @@ impl<'a> Program<'a> {
                     mask: self.handle(mask),
                 },
             ),
-            _ => false,
+            _ => self.display_line(verb, call),
         }
     }
 
@@ -170,6 +254,13 @@ impl<'a> Program<'a> {
                 Call::ScreenContext {
                     device: self.handle(device),
                     port: *port,
+                },
+            ),
+            Verb::StreamContext { device, stream } => put(
+                call,
+                Call::StreamContext {
+                    device: self.handle(device),
+                    stream: self.handle(stream),
                 },
             ),
             Verb::ContextSet {

@@ -19,7 +19,7 @@ mod tests;
 mod turning;
 
 pub use laws::each_frame_is_of_a_moment;
-pub use player::{PlayStop, serial};
+pub use player::{PlayStop, serial, serial_by};
 pub use program::Program;
 pub use quotas::quota;
 pub use stage::{Leg, Stage, Wanted};

@@ -15,6 +15,7 @@ use std::alloc::Global;
 use wf_calls::{Order, Turn};
 use wf_film::Writer;
 use wf_io::{Sink, WriteStop};
+use wf_kernel::{Painter, Plain};
 use wf_script::Script;
 use wf_words::NoMemory;
 
@@ -44,10 +45,24 @@ pub fn serial<K: Sink>(alloc: Global, script: &Script, k: &mut K) -> Result<Orde
     ensures plays { PlaysFilm K.took k.old k.new script.now result }
     ensures caused { IsCaused (K.faults k.old) (K.faults k.new) result }
 {
+    serial_by(alloc, script, k, &mut Plain)
+}
+
+/// Plays and writes the same as `serial`, with a painter that paints the frames. What the painter takes of memory, it takes when
+/// it paints.
+pub fn serial_by<K: Sink, P: Painter>(
+    alloc: Global,
+    script: &Script,
+    k: &mut K,
+    painter: &mut P,
+) -> Result<Order, PlayStop>
+    ensures plays { PlaysFilm K.took k.old k.new script.now result }
+    ensures caused { IsCaused (K.faults k.old) (K.faults k.new) result }
+{
     // The show stays where it was opened: it is large.
     match &mut Show::open(alloc, script) {
         Ok(show) => match Vec::with_capacity(alloc, most_turns(script)) {
-            Ok(played) => write_film(show, k, played),
+            Ok(played) => write_film(show, k, painter, played),
             Err(_) => Err(PlayStop::NoMemory),
         },
         Err(_) => Err(PlayStop::NoMemory),
@@ -55,7 +70,12 @@ pub fn serial<K: Sink>(alloc: Global, script: &Script, k: &mut K) -> Result<Orde
 }
 
 /// Writes the film of a show that is open, into an order that has room for all turns.
-fn write_film<K: Sink>(show: &mut Show, k: &mut K, mut played: Vec<Turn>) -> Result<Order, PlayStop>
+fn write_film<K: Sink, P: Painter>(
+    show: &mut Show,
+    k: &mut K,
+    painter: &mut P,
+    mut played: Vec<Turn>,
+) -> Result<Order, PlayStop>
     requires opened { show.old ≡ opening_show (script_of show.old) }
     requires few { length (script_of show.old).lines ≤ 16384 }
     requires none { played.items ≡ [] }
@@ -67,7 +87,7 @@ fn write_film<K: Sink>(show: &mut Show, k: &mut K, mut played: Vec<Turn>) -> Res
         Ok(writer) => writer,
         Err(stop) => return Err(write_fault(stop, Order::new(played))),
     };
-    if let Err(stop) = play_turns(show, k, &mut writer, &mut played) {
+    if let Err(stop) = play_turns(show, k, painter, &mut writer, &mut played) {
         return Err(write_fault(stop, Order::new(played)));
     }
     let order = Order::new(played);
@@ -88,9 +108,10 @@ fn write_fault(stop: WriteStop, order: Order) -> PlayStop
 }
 
 /// Plays all turns, and puts their frames.
-fn play_turns<K: Sink>(
+fn play_turns<K: Sink, P: Painter>(
     show: &mut Show,
     k: &mut K,
+    painter: &mut P,
     writer: &mut Writer,
     played: &mut Vec<Turn>,
 ) -> Result<(), WriteStop>
@@ -106,7 +127,7 @@ fn play_turns<K: Sink>(
     ensures cause { HasCause (K.faults k.old) (K.faults k.new) result }
 {
     while let Some(client) = show.first() {
-        if let Err(stop) = play_turn(show, client, k, writer, played) {
+        if let Err(stop) = play_turn(show, client, k, painter, writer, played) {
             return Err(stop);
         }
     }
@@ -115,10 +136,11 @@ fn play_turns<K: Sink>(
 
 /// Plays the next turn, of the client of the first line that is not through, and puts its frame. Where the sink fails,
 /// the frame ends.
-fn play_turn<K: Sink>(
+fn play_turn<K: Sink, P: Painter>(
     show: &mut Show,
     client: usize,
     k: &mut K,
+    painter: &mut P,
     writer: &mut Writer,
     played: &mut Vec<Turn>,
 ) -> Result<(), WriteStop>
@@ -138,11 +160,11 @@ fn play_turn<K: Sink>(
         played.new.items) }
     ensures cause { HasCause (K.faults k.old) (K.faults k.new) result }
 {
-    let (turn, painted) = turn_and_paint(show, client);
+    let (turn, painted) = turn_and_paint(show, client, painter);
     played.push_reserved(turn);
     if painted {
         if let Err(stop) = show.put_frame(client, k, writer) {
-            let (end, _) = turn_and_paint(show, client);
+            let (end, _) = turn_and_paint(show, client, painter);
             played.push_reserved(end);
             return Err(stop);
         }
@@ -152,7 +174,7 @@ fn play_turn<K: Sink>(
 
 /// The next turn, of the client of the first line that is not through, and then the painting of the Job that came, if one
 /// did. It gives the entry, and whether a Job was painted.
-fn turn_and_paint(show: &mut Show, client: usize) -> (Turn, bool)
+fn turn_and_paint<P: Painter>(show: &mut Show, client: usize, painter: &mut P) -> (Turn, bool)
     requires painted { ArePainted show.old.programs }
     requires first { IsFirst show.old.programs client }
     requires allowed { IsTrue (may_turn show.old.programs client) }
@@ -161,5 +183,5 @@ fn turn_and_paint(show: &mut Show, client: usize) -> (Turn, bool)
     ensures painted { ArePainted show.new.programs }
 {
     let turn = show.turn(client);
-    (turn, show.paint(client))
+    (turn, show.paint(client, painter))
 }

@@ -7,7 +7,7 @@ ghost use Rattle.std.specs.Option.{option_copied};
 ghost use Rattle.wf_script.specs.Script.{is_line};
 ghost use Rattle.wf_turn.specs.Calls.{IsPut, plain_call};
 ghost use Rattle.wf_turn.specs.Program.{asked_for, first_call, first_line, handed, handle, in_setup, kept_first, next, plain, place_of};
-ghost use Rattle.wf_turn.specs.Program.{program, taught};
+ghost use Rattle.wf_turn.specs.Program.{line_of, program, taught};
 
 use crate::calls::put;
 use crate::names::Names;
@@ -150,6 +150,8 @@ impl<'a> Program<'a> {
             Verb::Discard => self.discard(wanted),
             Verb::Paint(_) => false,
             Verb::Tick => ask_leg(wanted, Leg::Contexts { asked: 0, last: 0 }),
+            Verb::Compose { device, context } => self.compose(device, context, true, wanted),
+            Verb::TryCompose { device, context } => self.compose(device, context, false, wanted),
             _ => self.one_call(verb, wanted),
         }
     }
@@ -160,6 +162,27 @@ impl<'a> Program<'a> {
     {
         wanted.wait = false;
         self.plain_call(verb, &mut wanted.call)
+    }
+
+    /// Asks for a frame of a context.
+    fn compose(
+        &self,
+        device: &'a Option<Name>,
+        context: &'a Option<Name>,
+        wait: bool,
+        wanted: &mut Wanted,
+    ) -> bool
+        ensures { IsPut (Some (record { call = Call.BeginContext (handle self.now device.now) (handle self.now context.now); wait = wait }))
+            wanted.new result }
+    {
+        wanted.wait = wait;
+        put(
+            &mut wanted.call,
+            Call::BeginContext {
+                device: self.handle(device),
+                context: self.handle(context),
+            },
+        )
     }
 
     /// Asks for a stream's write buffer, unless one is held.
@@ -259,6 +282,21 @@ impl<'a> Program<'a> {
         match self.first_line() {
             Some(_) => Some(self.at),
             None => None,
+        }
+    }
+
+    /// The number of the line of the next event in the script's canonical text, counted from 1, or 0 where the client's lines are
+    /// through.
+    pub fn line(&self) -> u32
+        ensures { result ≡ line_of self.now }
+    {
+        let ports = self.script.ports();
+        match self.place() {
+            Some(place) => {
+                let before = if ports.pipes == 0 { 1 } else { 2 };
+                before + self.port_count + place as u32 + 1
+            }
+            None => 0,
         }
     }
 

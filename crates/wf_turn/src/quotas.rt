@@ -12,7 +12,7 @@ fn line_quota(verb: &Verb) -> u32
 {
     match verb {
         Verb::Tick => 40,
-        Verb::Frame { .. } => 2,
+        Verb::Frame { .. } | Verb::Compose { .. } | Verb::TryCompose { .. } => 2,
         Verb::Paint(_) => 0,
         _ => 1,
     }
@@ -30,8 +30,8 @@ fn quota_of(client: u8, line: &Line) -> u32
     }
 }
 
-/// How many events the lines of a client make at most: 40 for a `tick`, 2 for a `frame`, none for a `paint`, and one
-/// for any other line.
+/// How many events the lines of a client make at most: 40 for a `tick`, 2 for a `frame`, a `compose` or a
+/// `trycompose`, none for a `paint`, and one for any other line.
 pub fn quota(script: &Script, client: u8) -> u32
     ensures count { result ≡ quota script.now.lines client }
     ensures most { result ≤ 40 * 16384 }

@@ -22,6 +22,7 @@ use std::marker::Model;
 use wf_calls::{Job, JobKind, Turn};
 use wf_film::Writer;
 use wf_io::{Sink, WriteStop};
+use wf_kernel::Painter;
 use wf_machine::Machine;
 use wf_script::Script;
 use wf_words::NoMemory;
@@ -183,17 +184,18 @@ impl<'a> Show<'a> {
         turn
     }
 
-    /// Paints the Job that a client's program holds and that is not painted yet, and answers whether there was one.
-    pub(crate) fn paint(&mut self, client: usize) -> bool
+    /// Lets a painter paint the Job that a client's program holds and that is not painted yet, and answers whether there was
+    /// one.
+    pub(crate) fn paint<P: Painter>(&mut self, client: usize, painter: &mut P) -> bool
         requires within { client < 8 }
         requires work { IfSome (slice_get self.old.programs client) IsWork }
         ensures painted { self.new ≡ record self.old { programs = with_paint client self.old.programs } }
         ensures was { result ≡ has_work client self.old.programs }
     {
         if client == 0 {
-            self.clock.paint()
+            self.clock.paint(painter)
         } else {
-            self.others[client - 1].paint()
+            self.others[client - 1].paint(painter)
         }
     }
 

@@ -20,8 +20,8 @@ pub enum Stage {
     Posting,
     /// In a tick, before it asks for a frame.
     Ticking(Leg),
-    /// In a tick, with a frame's Job to end, and where it goes on.
-    Ending(Leg),
+    /// With a frame's Job to end, and where a tick goes on behind it; none where the line is through then.
+    Ending(Option<Leg>),
 }
 
 /// A call that a program makes next, and whether it waits until no frame runs.

@@ -1,9 +1,12 @@
 //! The answers that a program takes: how it goes on, and the answers with which nothing comes.
 
 ghost use Rattle.std.specs.Prelude.{◌≡◌, ◌<◌, ◌≤◌, ◌+◌, ◌-◌, ◌^◌, ◌++◌, length, is_some, IsTrue, None, false};
-ghost use Rattle.std.specs.Option.{option_copied};
+ghost use Rattle.std.specs.Borrow.{sem};
+ghost use Rattle.std.specs.Option.{option_copied, option_copied_mut};
+ghost use Rattle.std.specs.Prelude.{if◌then◌else◌};
 ghost use Rattle.wf_calls.specs.Replies.{bare};
 ghost use Rattle.wf_script.specs.Script.{is_line};
+ghost use Rattle.wf_turn.specs.Lending.{lends_job};
 ghost use Rattle.wf_turn.specs.Ready.{IsAnswered, IsAsking, IsWork};
 ghost use Rattle.wf_turn.specs.Names.{bound_name, bound_value};
 ghost use Rattle.wf_turn.specs.Program.{answered, asked_next, at_port, go_on, is_work, line_done, port_count, ticking, took};
@@ -14,7 +17,7 @@ use crate::program::Program;
 use crate::skipping::skip;
 use crate::stage::{Leg, Stage};
 use wf_calls::{Answer, Job};
-use wf_kernel::picture;
+use wf_kernel::Painter;
 use wf_script::{Line, Verb};
 
 /// How many contexts a tick asks for at most.
@@ -67,14 +70,15 @@ impl<'a> Program<'a> {
         }
     }
 
-    /// A tick goes on.
-    pub(crate) fn go_on(&mut self, leg: Leg)
+    /// A tick goes on, or a line that is no tick is through.
+    pub(crate) fn go_on(&mut self, leg: Option<Leg>)
         requires { IsAnswered (port_count self.old) leg }
         ensures { self.new ≡ go_on self.old leg }
     {
         match leg {
-            Leg::Contexts { asked, last } => self.asked_next(asked, last),
-            Leg::Ports { port } => self.at_port(port),
+            None => self.finish(0),
+            Some(Leg::Contexts { asked, last }) => self.asked_next(asked, last),
+            Some(Leg::Ports { port }) => self.at_port(port),
         }
     }
 
@@ -92,7 +96,7 @@ impl<'a> Program<'a> {
         requires asking { IsAsking (port_count self.now) leg }
         requires ports { port_count self.now ≤ 4 }
         ensures leg { result ≡ answered leg value }
-        ensures answered { IsAnswered (port_count self.now) result }
+        ensures answered { IsAnswered (port_count self.now) (Some result) }
     {
         match leg {
             Leg::Contexts { asked, .. } => Leg::Contexts {
@@ -105,7 +109,7 @@ impl<'a> Program<'a> {
 
     /// Goes on after the end of a frame.
     #[inline(never)]
-    pub(crate) fn ended(&mut self, leg: Leg)
+    pub(crate) fn ended(&mut self, leg: Option<Leg>)
         requires { IsAnswered (port_count self.old) leg }
         ensures { self.new ≡ go_on (record self.old { job = None; unpainted = false }) leg }
     {
@@ -125,11 +129,12 @@ impl<'a> Program<'a> {
             Verb::Frame { .. } => self.finish(0),
             Verb::Tick => {
                 self.start_tick();
-                self.go_on(Leg::Contexts {
+                self.go_on(Some(Leg::Contexts {
                     asked: 1,
                     last: answer.value,
-                });
+                }));
             }
+            Verb::Compose { .. } | Verb::TryCompose { .. } => self.finish(0),
             _ => self.finish(answer.value),
         }
     }
@@ -144,24 +149,33 @@ impl<'a> Program<'a> {
         match self.stage {
             Stage::Fresh => self.took_first_answer(line, answer),
             Stage::Posting => self.without_canvas(),
-            Stage::Ticking(leg) => self.go_on(self.answered(leg, answer.value)),
+            Stage::Ticking(leg) => self.go_on(Some(self.answered(leg, answer.value))),
             Stage::Ending(leg) => self.ended(leg),
         }
     }
 
-    /// Paints the Job that is held and not painted yet, and answers whether there was one.
-    pub(crate) fn paint(&mut self) -> bool
+    /// The Job that is held and not painted yet, to paint it, or none. A Job that was lent counts as painted, with the image that
+    /// the borrower leaves.
+    pub fn work(&mut self) -> Option<&mut Job>
+        ensures* writes_back { sem 𝓛 (lends_job self.entry result) }
+        ensures job { option_copied_mut result ≡ (if self.old.unpainted then self.old.job else None) }
+    {
+        if !self.unpainted {
+            return None;
+        }
+        self.unpainted = false;
+        self.job.as_mut()
+    }
+
+    /// Lets a painter paint the Job that is held and not painted yet, and answers whether there was one.
+    pub(crate) fn paint<P: Painter>(&mut self, painter: &mut P) -> bool
         requires { IsWork self.old }
         ensures painted { self.new ≡ worked self.old }
         ensures was { result ≡ is_work self.old }
     {
-        if !self.unpainted {
-            return false;
-        }
-        self.unpainted = false;
-        match &mut self.job {
+        match self.work() {
             Some(job) => {
-                picture(&job.scene, &job.contents, &mut job.image);
+                painter.paint(&job.kind, &job.scene, &job.contents, &mut job.image);
                 true
             }
             None => false,

@@ -1,5 +1,6 @@
 //! The calls that lines stand for, in the words of scripts, with a number for each handle.
 
+use crate::display::display_call;
 use wf_calls::{Call, StatWord};
 use wf_cases::{context_attr, element_attr, format, number, value, word};
 
@@ -9,7 +10,9 @@ pub(crate) fn call_of(words: &[&str]) -> Option<Call> {
     match words.len() {
         0 => None,
         1 | 2 => short_call(words, call),
-        _ => object_call(words, call).or(attribute_call(words, call)),
+        _ => object_call(words, call)
+            .or(attribute_call(words, call))
+            .or(display_call(words, call)),
     }
 }
 
@@ -31,6 +34,15 @@ fn short_call(words: &[&str], call: &str) -> Option<Call> {
         "device" => Call::DeviceNew,
         "del_device" => Call::DeviceDestroy { device },
         "error" => Call::GetError { device },
+        "del_wsource" => Call::DisplaySourceDestroy { source: handle },
+        "commit_device" => Call::CommitDevice,
+        "commit_port" => Call::CommitPort {
+            port: number(words, 1),
+        },
+        "commit_pipe" => Call::CommitPipe {
+            pipe: number(words, 1),
+        },
+        "derror" => Call::DisplayError,
         "begin_next" => Call::BeginNext { after: handle },
         "begin_port" => {
             let port = number(words, 1);
@@ -50,6 +62,11 @@ fn object_call(words: &[&str], call: &str) -> Option<Call> {
             let port = number(words, 2);
             Call::ScreenContext { device, port }
         }
+        "offscreen" => Call::StreamContext {
+            device,
+            stream: object,
+        },
+        "begin_context" => Call::BeginContext { device, context },
         "del_context" => Call::ContextDestroy { device, context },
         "element" => Call::ElementNew { device, context },
         "del_element" => Call::ElementDestroy { device, element },

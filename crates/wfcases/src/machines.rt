@@ -10,6 +10,9 @@ use wf_cases::{number, size};
 use wf_machine::Machine;
 use wf_pixel::Size;
 
+/// How many pipelines each machine has.
+const PIPES: u32 = 2;
+
 /// The modes of a port that has one.
 fn one_mode(size: Size) -> Modes
     ensures { result.sizes.items ≡ size ∷ [] }
@@ -25,7 +28,14 @@ fn one_port(alloc: Global, size: Size) -> Option<Machine>
 {
     let mut modes: ArrayVec<Modes, 4> = ArrayVec::new();
     modes.push(one_mode(size));
-    Machine::open(alloc, &Ports { modes, pipes: 0 }).ok()
+    Machine::open(
+        alloc,
+        &Ports {
+            modes,
+            pipes: PIPES,
+        },
+    )
+    .ok()
 }
 
 /// The machine of two ports.
@@ -35,7 +45,14 @@ fn two_ports(alloc: Global, size: Size) -> Option<Machine>
     let mut modes: ArrayVec<Modes, 4> = ArrayVec::new();
     modes.push(one_mode(size));
     modes.push(one_mode(size));
-    Machine::open(alloc, &Ports { modes, pipes: 0 }).ok()
+    Machine::open(
+        alloc,
+        &Ports {
+            modes,
+            pipes: PIPES,
+        },
+    )
+    .ok()
 }
 
 /// The machine of four ports.
@@ -47,11 +64,18 @@ fn four_ports(alloc: Global, size: Size) -> Option<Machine>
     modes.push(one_mode(size));
     modes.push(one_mode(size));
     modes.push(one_mode(size));
-    Machine::open(alloc, &Ports { modes, pipes: 0 }).ok()
+    Machine::open(
+        alloc,
+        &Ports {
+            modes,
+            pipes: PIPES,
+        },
+    )
+    .ok()
 }
 
-/// The machine of one, two or four ports of a size, `ports W H COUNT`, or none where a side is out of its range or no memory
-/// is left.
+/// The machine of one, two or four ports of a size, and of two pipelines, `ports W H COUNT`, or none where a side is out of its
+/// range or no memory is left.
 pub(crate) fn open(alloc: Global, words: &[&str]) -> Option<Machine> {
     let size = size(words, 1)?;
     match number::<u32>(words, 3) {

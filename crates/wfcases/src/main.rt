@@ -3,6 +3,7 @@
 
 mod calls;
 mod clients;
+mod display;
 mod machines;
 mod rounds;
 

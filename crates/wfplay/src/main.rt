@@ -1,4 +1,4 @@
-//! The program `wfplay`: plays a scene script from standard input and writes its film to standard output.
+//! The program `wfplay`: plays a scene script from standard input and writes its film to standard output, or prints the script.
 #![tactic(auto)]
 
 ghost use Rattle.std.specs.Prelude.{◌≡◌, ◌≢◌, ◌↔◌, IfSome};
@@ -6,9 +6,10 @@ ghost use Rattle.std.specs.IoError.{error_kind};
 ghost use Rattle.std.specs.declared.io.ErrorKind.TheVariants.{OutOfMemory};
 ghost use Rattle.wf_play.specs.Notes.{PutsOrFront, note_of};
 ghost use Rattle.wf_play.specs.Report.{exit_of};
-ghost use Rattle.wf_play.specs.Words.{AreAccepted};
+ghost use Rattle.wf_play.specs.Words.{AreAccepted, AskFor};
 ghost use Rattle.wf_play.specs.declared.report.Status.{Status};
-ghost use Rattle.wfplay.specs.Exit.{PutsFilm};
+ghost use Rattle.wf_play.specs.declared.words.Mode.TheVariants as mode;
+ghost use Rattle.wfplay.specs.Exit.{PutsFilm, PutsText};
 
 use std::alloc::Global;
 use std::process::ExitCode;
@@ -37,8 +38,8 @@ fn status_without_words(error: &io::Error) -> Status
     }
 }
 
-/// Plays what the words ask for, and tells the exit status: 0 only where the film is whole, and 2 exactly where the words
-/// are no command.
+/// Plays or prints as the words ask, and tells the exit status: 0 only where all was put, and 2 exactly where the words are no
+/// command.
 fn exit_of_play<R: Threads + Wait + Sync, I: Source, O: Sink, N: Sink>(
     rt: &R,
     alloc: Global,
@@ -47,7 +48,8 @@ fn exit_of_play<R: Threads + Wait + Sync, I: Source, O: Sink, N: Sink>(
     film: &mut O,
     notes: &mut N,
 ) -> u8
-    ensures done { result ≡ 0 → IfSome (I.left input.old) (PutsFilm O.took film.old film.new) }
+    ensures film { AskFor mode.Film words.now → result ≡ 0 → IfSome (I.left input.old) (PutsFilm O.took film.old film.new) }
+    ensures printed { AskFor mode.Print words.now → result ≡ 0 → IfSome (I.left input.old) (PutsText O.took film.old film.new) }
     ensures usage { (result ≡ 2) ↔ (¬ (AreAccepted words.now)) }
 {
     let report = play(rt, alloc, words, input, film, notes, &Open);

@@ -114,6 +114,12 @@ impl<'a> Journal<'a> {
                 self.tick(answers)?;
                 held
             }
+            "compose" | "trycompose" => {
+                if self.next(answers)?.code == 0 {
+                    self.next(answers)?;
+                }
+                held
+            }
             _ => {
                 self.next(answers)?;
                 held

@@ -1,5 +1,5 @@
 use Rattle.wf_machine.proofs.Common.{◌∷◌, [], ℕ, map, take, sym, ap, subst, ◌∙◌, map-append, take_all, take_more, Content, Marks}
-use Rattle.wf_machine.proofs.Markings.{more_marked, none_marked}
+use Rattle.wf_stream.specs.Marks.{more_marked, none_marked}
 use Rattle.wf_machine.proofs.settling.mark_contents.Goals as goal
 
 pub loop-content-init : goal.loop-content-init

@@ -1,6 +1,6 @@
 use Rattle.std.proofs.Common.{flat_map, take}
 use Rattle.wf_model.specs.Names.{context_names}
-use Rattle.wf_objects.specs.Marks.{Marks}
+use Rattle.wf_stream.specs.Marks.{Marks}
 use Rattle.wf_objects.proofs.marking.mark_contexts.Given as goal
 
 -- what was passed is marked

@@ -1,5 +1,5 @@
 use Rattle.std.proofs.Common.{map, take}
-use Rattle.wf_objects.specs.Marks.{Marks}
+use Rattle.wf_stream.specs.Marks.{Marks}
 use Rattle.wf_objects.proofs.marking.mark_sources.Given as goal
 
 -- what was passed is marked

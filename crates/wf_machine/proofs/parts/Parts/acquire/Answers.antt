@@ -1,5 +1,5 @@
 use Rattle.wf_machine.proofs.Common.{Err, map, refl, sym, ap, subst, ◌∙◌, acquired, change_stream, has_number, bare, refusal, refused}
-use Rattle.wf_machine.proofs.Common.{acquirable, acquire_step, canvas_of, with_stream, option_map, IsSound, state_of, port_of, running_of}
+use Rattle.wf_machine.proofs.Common.{acquirable, acquire_step, canvas_of, with_stream, IsSound, state_of, sizes_of}
 use Rattle.wf_calls.specs.declared.code.Code.TheVariants as code
 use Rattle.wf_calls.specs.Replies.{gives_canvas}
 use Rattle.wf_machine.proofs.Drawing.{frame_acquired}
@@ -38,8 +38,8 @@ pub invariant_of-self-2 : goal.invariant_of-self-2
 invariant_of-self-2 c =
     subst (λ store. IsSound (record c.self.inside { store = store })) (sym c.in-Ok-acquire_from.ensures.acquired)
     (sound_kept c.self.inside c.in-Ok.number acquired acquired_keeps
-    (frame_acquired c.in-Ok.number (map port_of c.self.inside.ports.items) c.self.inside.store.streams
-    (option_map running_of c.self.inside.frame) (shape_kept acquired acquired_keeps) c.self.invariant.frame) c.self.invariant)
+    (frame_acquired c.in-Ok.number (map sizes_of c.self.inside.ports.items) c.self.inside.store.streams
+    c.self.inside.frame (shape_kept acquired acquired_keeps) c.self.invariant.frame) c.self.invariant)
 
 pub returns : goal.returns
 returns c =

@@ -40,6 +40,12 @@ returns-in-BeginPort c =
     as_begin _ _ _ (call.BeginPort c.in-BeginPort.port)
     c.begin_port.result c.in-BeginPort.is begun.left begun.answer
 
+pub returns-in-BeginContext : goal.returns-in-BeginContext
+unfolding act
+returns-in-BeginContext c =
+    as_begin _ _ _ (call.BeginContext c.in-BeginContext.device c.in-BeginContext.context) _ c.in-BeginContext.is
+    c.begin_composed.ensures.left c.begin_composed.ensures.answer
+
 pub returns-in-End : goal.returns-in-End
 unfolding act
 returns-in-End c =

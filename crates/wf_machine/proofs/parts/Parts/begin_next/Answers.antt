@@ -1,6 +1,7 @@
 use Rattle.wf_machine.proofs.Common.{ap, subst, ◌∙◌, sym, Fits, next_shown, AreAtHome, not_some}
 use Rattle.wf_machine.proofs.ContextFrames.{next_fits}
 use Rattle.wf_machine.proofs.parts.Parts.begin_next.Goals as goal
+use Rattle.wf_machine.proofs.Beginning.{no_frame}
 use Rattle.wf_machine.proofs.Begun.{home_without}
 
 pub begin_context-requires-clause-fits : goal.begin_context-requires-clause-fits
@@ -13,4 +14,5 @@ begin_context-requires-clause-fits c =
 pub begin_context-requires-clause-home : goal.begin_context-requires-clause-home
 begin_context-requires-clause-home c =
     subst (λ s. AreAtHome s.streams) c.self.view_is
-    (home_without c.self.inside (not_some c.self.inside.frame (sym c.is_some.ensures ∙ c.if-is_some.false)) c.self.invariant)
+    (home_without c.self.inside (no_frame c.self.inside _ c.self.view_is
+    (not_some c.args.self.now.frame (sym c.is_busy.ensures ∙ c.if-is_busy.false))) c.self.invariant)

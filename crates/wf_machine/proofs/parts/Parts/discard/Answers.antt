@@ -1,5 +1,5 @@
 use Rattle.wf_machine.proofs.Common.{map, sym, ap, subst, ◌∙◌, discarded, change_stream, bare, done, canvas_back, is_out_at_client}
-use Rattle.wf_machine.proofs.Common.{option_map, IsSound, state_of, port_of, running_of}
+use Rattle.wf_machine.proofs.Common.{IsSound, state_of, sizes_of}
 use Rattle.wf_machine.proofs.Drawing.{frame_apart}
 use Rattle.wf_machine.proofs.Buffering.{comes_back, out_apart, out_from}
 use Rattle.wf_machine.proofs.StillFitting.{discarded_keeps, shape_kept}
@@ -15,8 +15,8 @@ pub invariant_of-self : goal.invariant_of-self
 invariant_of-self c =
     subst (λ store. IsSound (record c.self.inside { store = store })) (sym c.discard_to.ensures)
     (sound_kept c.self.inside _ discarded discarded_keeps
-    (frame_apart _ discarded (map port_of c.self.inside.ports.items) c.self.inside.store.streams
-    (option_map running_of c.self.inside.frame) (shape_kept discarded discarded_keeps)
+    (frame_apart _ discarded (map sizes_of c.self.inside.ports.items) c.self.inside.store.streams
+    c.self.inside.frame (shape_kept discarded discarded_keeps)
     (out_apart c.args.canvas (state_of c.self.inside) (ap (is_out_at_client c.args.canvas) c.self.view_is ∙ sym c.is_out_at_client.ensures
     ∙ c.if-not-is_out_at_client.false)) c.self.invariant.frame) c.self.invariant)
 

@@ -10,10 +10,10 @@ bring_home-requires-clause-awaited c =
 
 pub deliver-requires : goal.deliver-requires
 deliver-requires c =
-    subst (λ ss. IsDue ss c.self.inside.ports.items c.args.job.kind c.args.job.image)
+    subst (λ ss. IsDue ss c.self.inside.ports.items c.mode_of-mode.result c.args.job.kind c.args.job.image)
     (sym (ap (λ v. v.streams) c.bring_home.ensures))
     (ending_due c.self.inside c.args.job (was_running c.self.inside c.args.job c.args.self.now c.self.view_is (sym c.is_of_running.ensures
-    ∙ c.if-not-is_of_running.false)) c.self.invariant)
+    ∙ c.if-not-is_of_running.false)) c.self.invariant _ c.mode_of-mode.ensures)
 
 module _ (c : goal.After-bare) where
   is : is_of_running c.args.job (option_map running_of c.self.inside.frame) ≡ true
@@ -23,6 +23,7 @@ module _ (c : goal.After-bare) where
   now = record {
     store = c.deliver.new.store;
     core = c.self.inside.core;
+    display = c.self.inside.display;
     ports = c.deliver.new.ports;
     begun = c.self.inside.begun;
     frame = None;
@@ -40,9 +41,9 @@ module _ (c : goal.After-bare) where
 
 pub invariant_of-self : goal.invariant_of-self
 invariant_of-self c = sound_ended c.self.inside _ (is c) c.self.invariant _ c.deliver.new.ports.items
-    c.bare.result (now c) refl refl refl refl refl (ended c)
+    c.bare.result (now c) refl refl refl refl refl refl (ended c)
 
 pub returns : goal.returns
 returns c =
     left_ended c.self.inside _ (is c) c.self.invariant _ _ _ (now c) refl
-    refl refl refl refl (ended c) _ c.self.view_is
+    refl refl refl refl refl (ended c) _ c.self.view_is

@@ -1,5 +1,5 @@
-use Rattle.wf_machine.proofs.Common.{◌≡◌, ℕ, List, [], length, map, sym, ap, subst, ◌∙◌, flat_map, range_with_len, length-map, KeptStream}
-use Rattle.wf_machine.proofs.Common.{core_names, display_names, kept, own_names, settle, State, Inside, state_of, Marks, port_of}
+use Rattle.wf_machine.proofs.Common.{◌≡◌, ℕ, List, [], ap, ◌∙◌, flat_map, KeptStream}
+use Rattle.wf_machine.proofs.Common.{core_names, display_names, kept, own_names, settle, State, Inside, state_of, Marks}
 use Rattle.wf_machine.proofs.Dropping.{sound_settled}
 use Rattle.wf_machine.proofs.Markings.{all_marked, own_marks, rest_marked}
 use Rattle.wf_machine.proofs.parts.Parts.settle.Goals as goal
@@ -9,27 +9,24 @@ module _ (c : goal.After-sweep) where
   m = c.self.inside
 
   own : Marks c.unmark.new.self c.mark_own.new.self (flat_map own_names m.store.streams)
-  own = own_marks m c.unmark.new.self c.mark_own.new.self c.mark.new.store c.mark_screens.new.store c.mark_frame.new.store
+  own = own_marks m c.unmark.new.self c.mark_own.new.self c.mark.new.store c.mark-2.new.store c.mark_frame.new.store
       c.self.invariant.numbered c.unmark.ensures c.mark_own.ensures.marked c.mark_own.ensures.rest
 
   composed : Marks c.mark_own.new.self c.mark.new.store (core_names m.core)
   composed = record { marked = c.mark.ensures.marked; rest = c.mark.ensures.rest }
 
-  screens : Marks c.mark.new.store c.mark_screens.new.store (display_names (state_of m).display)
-  screens =
-      let many : length c.deref.result.now ≡ length (map port_of m.ports.items) = ap length c.deref.ensures.value
-      ∙ sym (length-map m.ports.items port_of) in
-      subst (λ n. Marks c.mark.new.store c.mark_screens.new.store (range_with_len 1 n)) many c.mark_screens.ensures
+  shown : Marks c.mark.new.store c.mark-2.new.store (display_names (state_of m).display)
+  shown = record { marked = c.mark-2.ensures.marked; rest = c.mark-2.ensures.rest }
 
   streams : c.sweep.new.self.streams ≡ kept (state_of m)
   streams =
       ap (λ v. v.streams) c.sweep.ensures
-      ∙ all_marked m c.unmark.new.self c.mark_own.new.self c.mark.new.store c.mark_screens.new.store c.mark_frame.new.store
-      c.self.invariant.numbered c.unmark.ensures own composed screens c.mark_frame.ensures
+      ∙ all_marked m c.unmark.new.self c.mark_own.new.self c.mark.new.store c.mark-2.new.store c.mark_frame.new.store
+      c.self.invariant.numbered c.unmark.ensures own composed shown c.mark_frame.ensures
 
   rest : record c.mark_frame.new.store { marked = [] } ≡ record m.store { marked = [] }
-  rest = rest_marked m c.unmark.new.self c.mark_own.new.self c.mark.new.store c.mark_screens.new.store c.mark_frame.new.store
-      c.self.invariant.numbered c.unmark.ensures own composed screens c.mark_frame.ensures
+  rest = rest_marked m c.unmark.new.self c.mark_own.new.self c.mark.new.store c.mark-2.new.store c.mark_frame.new.store
+      c.self.invariant.numbered c.unmark.ensures own composed shown c.mark_frame.ensures
 
   made : c.sweep.new.self.made ≡ m.store.made
   made = ap (λ v. v.made) c.sweep.ensures ∙ ap (λ v. v.made) rest

@@ -6,7 +6,8 @@ use Rattle.wf_model.specs.Composition.{device, is_of_device}
 use Rattle.wf_model.specs.Core.{owned_source}
 use Rattle.wf_objects.specs.Links.{links}
 use Rattle.wf_objects.specs.Owners.{passed}
-use Rattle.wf_objects.specs.Sides.{side_of, without_value}
+use Rattle.wf_objects.specs.Sides.{side_of}
+use Rattle.wf_model.specs.Outcome.{without_value}
 use Rattle.wf_objects.proofs.objects.Objects.check_link_owned.Goals as goal
 use Rattle.wf_objects.proofs.objects.Objects.check_link_owned.Goals.{After-is_owned}
 

@@ -1,6 +1,7 @@
 use Rattle.std.proofs.Common.{refl}
 use Rattle.wf_life.specs.declared.Kind.TheVariants as kind
-use Rattle.wf_objects.proofs.Dropped.{context_dropped, context_under, lives, loses}
+use Rattle.wf_objects.proofs.Dropped.{context_dropped, context_under, loses}
+use Rattle.wf_life.specs.Living.{lives}
 use Rattle.wf_objects.proofs.objects.Objects.drop_bare_context.Goals as goal
 
 pub drop_handle-requires : goal.drop_handle-requires

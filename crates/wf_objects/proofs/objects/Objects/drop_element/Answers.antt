@@ -3,7 +3,8 @@ use Rattle.wf_life.specs.declared.Kind.TheVariants as kind
 use Rattle.wf_scene.specs.Cached.{forget, has_element}
 use Rattle.wf_model.specs.Composition.{with_cached}
 use Rattle.wf_objects.specs.Rows.{context_of}
-use Rattle.wf_objects.proofs.Dropped.{InContext, element_dropped, element_under, lives, loses}
+use Rattle.wf_objects.proofs.Dropped.{InContext, element_dropped, element_under, loses}
+use Rattle.wf_life.specs.Living.{lives}
 use Rattle.wf_objects.proofs.Owners.{standing}
 use Rattle.wf_words.specs.Places.{within}
 use Rattle.wf_objects.proofs.Scenes.{placed_is}

@@ -1,5 +1,6 @@
 use Rattle.wf_objects.specs.Links.{link_kind}
-use Rattle.wf_objects.proofs.Dropped.{link_dropped, link_loses, link_under, lives}
+use Rattle.wf_objects.proofs.Dropped.{link_dropped, link_loses, link_under}
+use Rattle.wf_life.specs.Living.{lives}
 use Rattle.wf_objects.proofs.objects.Objects.drop_link.Goals as goal
 
 pub drop_handle-requires : goal.drop_handle-requires

@@ -16,6 +16,8 @@ module _ (c : goal.After-one_call) where
   of_verb (verb.Paint paint) is = absurd (c.in_default.not-Paint paint is)
   of_verb (verb.Frame s paint) is = absurd (c.in_default.not-Frame s paint is)
   of_verb verb.Tick is = absurd (c.in_default.not-Tick is)
+  of_verb (verb.Compose d x) is = absurd (c.in_default.not-Compose d x is)
+  of_verb (verb.TryCompose d x) is = absurd (c.in_default.not-TryCompose d x is)
   of_verb _ is = (refl, refl)
 
 pub returns-in_default-clause-wanted : goal.returns-in_default-clause-wanted

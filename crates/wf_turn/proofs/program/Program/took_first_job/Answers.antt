@@ -11,4 +11,6 @@ returns-in_default c = c.took_first_answer.ensures ∙ of_verb c.args.line.now.v
     of_verb : (v : Verb) → c.args.line.now.verb ≡ v → took_first c.args.self.now (record c.args.line.now { verb = v }) (bare c.args.answer)
         ≡ took_first c.args.self.now (record c.args.line.now { verb = v }) (replied c.args.answer (payload.Job c.args.job))
     of_verb verb.Tick is = absurd (c.in_default.not-Tick is)
+    of_verb (verb.Compose d x) is = absurd (c.in_default.not-Compose d x is)
+    of_verb (verb.TryCompose d x) is = absurd (c.in_default.not-TryCompose d x is)
     of_verb _ is = refl

@@ -2,9 +2,10 @@ use Rattle.wf_turn.proofs.Common.{◌≡◌, ◌∷◌, ◌∙◌, ◌-◌, ap, 
 use Rattle.wf_turn.proofs.Common.{worked, Show}
 use Rattle.wf_turn.proofs.Shows.{eight_at, other_painted}
 use Rattle.wf_turn.proofs.Works.{paint_all}
+use Rattle.wf_turn.proofs.show.Show.paint.Given.{Over}
 use Rattle.wf_turn.proofs.show.Show.paint.Goals as goal
 
-module _ (c : goal.After-self-1) where
+module _ (g : Over) (c : goal.After-self-1 g) where
   abbrev s : Show
   s = show_of c.self.inside
 
@@ -23,15 +24,15 @@ module _ (c : goal.After-self-1) where
       )
 
 pub invariant_of-self-else-client-eq0 : goal.invariant_of-self-else-client-eq0
-invariant_of-self-else-client-eq0 c =
-    subst (λ ps. IsCast (record (s c) { programs = ps }))
-    (sym (ap (λ ps. map worked ps) (done c).0 ∙ paint_all _ (s c).programs)) c.self.invariant
+invariant_of-self-else-client-eq0 g = λ c.
+    subst (λ ps. IsCast (record (s g c) { programs = ps }))
+    (sym (ap (λ ps. map worked ps) (done g c).0 ∙ paint_all _ (s g c).programs)) c.self.invariant
 
 pub returns-else-client-eq0-clause-painted : goal.returns-else-client-eq0-clause-painted
-returns-else-client-eq0-clause-painted c =
-    ap (λ ps. record (s c) { programs = ps }) (done c).0
+returns-else-client-eq0-clause-painted g = λ c.
+    ap (λ ps. record (s g c) { programs = ps }) (done g c).0
     ∙ ap (λ (v : Show). record v { programs = with_paint c.args.client v.programs }) c.self.view_is
 
 pub returns-else-client-eq0-clause-was : goal.returns-else-client-eq0-clause-was
-returns-else-client-eq0-clause-was c =
-    (done c).1 ∙ ap (λ v. has_work c.args.client v.programs) c.self.view_is
+returns-else-client-eq0-clause-was g = λ c.
+    (done g c).1 ∙ ap (λ v. has_work c.args.client v.programs) c.self.view_is

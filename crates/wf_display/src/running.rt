@@ -1,0 +1,86 @@
+//! Every call of the display, by one table.
+
+ghost use Rattle.std.specs.Prelude.{◌≡◌};
+ghost use Rattle.wf_calls.specs.Parts.{part_of};
+ghost use Rattle.wf_calls.specs.Replies.{bare};
+ghost use Rattle.wf_model.specs.Core.{register_number};
+ghost use Rattle.wf_model.specs.DisplayCalls.{display_call, display_error};
+ghost use Rattle.wf_model.specs.DisplaySides.{on_display};
+ghost use Rattle.wf_display.specs.Does.{Does, KeepsAll, Steps};
+ghost use Rattle.wf_display.specs.Fits.{Fits};
+ghost use Rattle.wf_display.specs.Sides.{KeepsRest};
+
+use crate::display::Display;
+use wf_calls::{Answer, Call, Code, Part, Refusal, Reply};
+use wf_model::Extent;
+use wf_stream::Store;
+
+/// The number of a code in the register, 0 for an empty one.
+fn register_number(register: Option<Code>) -> u32
+    ensures { result ≡ register_number register }
+{
+    match register {
+        None => 0,
+        Some(code) => code.number() as u32,
+    }
+}
+
+impl Display {
+    pub(crate) fn try_display_error(&mut self, store: &Store) -> Result<u32, Refusal>
+        requires { Fits self.old store.now }
+        ensures { Does (λ _. on_display display_error) self.old self.new store.now store.now result }
+    {
+        let number = register_number(self.register);
+        self.register = None;
+        Ok(number)
+    }
+
+    /// The number of the code in the register, or 0 for an empty one. The register is emptied.
+    pub fn display_error(&mut self, store: &mut Store) -> Reply
+        requires { Fits self.old store.old }
+        ensures { Steps (λ _. on_display display_error) KeepsAll self.old self.new store.old store.new result }
+    {
+        let done = self.try_display_error(store);
+        Reply::bare(self.answer(store, done))
+    }
+
+    /// Carries a call of the display out, or refuses it.
+    fn carry_out(&mut self, store: &mut Store, call: &Call) -> Result<u32, Refusal>
+        requires fits { Fits self.old store.old }
+        requires ours { part_of call.now ≡ Part.Display }
+        ensures { Does (λ m. display_call m call.now) self.old self.new store.old store.new result }
+    {
+        match call {
+            Call::PortSet { port, attr, value } => self.try_port_set(store, *port, *attr, *value),
+            Call::PortGet { port, attr, index } => self.try_port_get(store, *port, *attr, *index),
+            Call::Attach { port, on } => self.try_attach(store, *port, *on),
+            Call::PipeSet { pipe, attr, value } => self.try_pipe_set(store, *pipe, *attr, *value),
+            Call::PipeGet { pipe, attr, index } => self.try_pipe_get(store, *pipe, *attr, *index),
+            Call::PipeBindPort { pipe, port } => self.try_pipe_bind_port(store, *pipe, *port),
+            Call::DisplaySource { pipe, stream } => self.try_display_source(store, *pipe, *stream),
+            Call::DisplaySourceDestroy { source } => {
+                self.try_display_source_destroy(store, *source)
+            }
+            Call::PipeBindSource {
+                pipe,
+                source,
+                transition,
+            } => self.try_pipe_bind_source(store, *pipe, *source, *transition),
+            Call::CommitDevice => self.try_commit(store, Extent::Device),
+            Call::CommitPort { port } => self.try_commit_port(store, *port),
+            Call::CommitPipe { pipe } => self.try_commit_pipe(store, *pipe),
+            Call::DisplayError => self.try_display_error(store),
+            _ => unreachable!(),
+        }
+    }
+
+    /// Runs a call of the display: it does and answers what the method of its name does.
+    pub fn run(&mut self, store: &mut Store, call: &Call) -> Answer
+        requires fits { Fits self.old store.old }
+        requires ours { part_of call.now ≡ Part.Display }
+        ensures { Steps (λ m. display_call m call.now) KeepsRest self.old self.new store.old store.new (bare result) }
+    {
+        let done = self.carry_out(store, call);
+        self.answer(store, done)
+    }
+}

@@ -1,0 +1,178 @@
+//! What a port shows.
+
+ghost use Rattle.std.specs.Prelude.{◌≡◌, ◌≤◌, ◌<◌, ◌+◌, ◌∷◌, ◌++◌, filter_map, is_some, length, map, option_map, option_to_list};
+ghost use Rattle.std.specs.Option.{option_copied};
+ghost use Rattle.wf_words.specs.Keyed.{nth};
+ghost use Rattle.wf_model.specs.Display.{begun_display, begun_pipeline, is_lit, pipeline_layer, port_scene, scene_of_port};
+ghost use Rattle.wf_model.specs.Display.{screen_layer, whole_of};
+ghost use Rattle.wf_display.specs.Display.{IsDisplay};
+ghost use Rattle.wf_display.specs.Fits.{Fits};
+
+use crate::checking::bound_stream;
+use crate::display::Display;
+use crate::ports::{mode_size, shown_size};
+use arrayvec::ArrayVec;
+use wf_model::{Pipeline, Port};
+use wf_pixel::{Rect, Rotation, Size};
+use wf_scene::{Layer, Scene, Style};
+use wf_stream::Store;
+
+/// All of a size.
+fn whole_of(size: Size) -> Rect
+    ensures { result ≡ whole_of size }
+{
+    Rect {
+        x: 0,
+        y: 0,
+        w: size.w,
+        h: size.h,
+    }
+}
+
+/// The layer of a port's screen, whole, scaled to a mode.
+fn screen_layer(number: u32, screen: Size, mode: Size) -> Layer
+    ensures { result ≡ screen_layer number screen mode }
+{
+    let style = Style {
+        src: whole_of(screen),
+        dest: whole_of(mode),
+        ..Style::default()
+    };
+    style.layer(number, 0)
+}
+
+/// The layer of a pipeline that is committed to a port and shows a stream.
+fn pipeline_layer(number: u32, pipeline: Pipeline) -> Option<Layer>
+    ensures { result ≡ pipeline_layer number pipeline }
+{
+    if pipeline.committed_port == number && pipeline.current != 0 {
+        Some(pipeline.committed.layer(pipeline.current, 0))
+    } else {
+        None
+    }
+}
+
+/// One more layer, if there is one.
+fn push_layer(layers: &mut ArrayVec<Layer, 32>, layer: Option<Layer>)
+    requires { length layers.old.items < 32 }
+    ensures layers { layers.new.items ≡ layers.old.items ++ option_to_list layer }
+    ensures most { length layers.new.items ≤ length layers.old.items + 1 }
+{
+    if let Some(layer) = layer {
+        layers.push(layer);
+    }
+}
+
+/// A layer, and those of the pipelines of a port over it, by rising number.
+fn layers_of(number: u32, lowest: Layer, pipelines: &[Pipeline]) -> ArrayVec<Layer, 32>
+    requires { length pipelines.now ≤ 8 }
+    ensures { result.items ≡ lowest ∷ filter_map (pipeline_layer number) pipelines.now }
+{
+    let mut layers = ArrayVec::new();
+    layers.push(lowest);
+    for pipeline in pipelines {
+        push_layer(&mut layers, pipeline_layer(number, *pipeline));
+    }
+    layers
+}
+
+/// Whether a port gives frames.
+fn is_lit(port: &Port) -> bool
+    ensures { result ≡ is_lit port.now }
+{
+    port.attached && port.committed.power
+}
+
+/// A pipeline at a frame of a port: what waits there becomes current, where it is the pipeline's port.
+fn begun_pipeline(number: u32, pipeline: &Pipeline) -> Pipeline
+    ensures { result ≡ begun_pipeline number pipeline.now }
+{
+    if pipeline.committed_port == number {
+        Pipeline {
+            current: bound_stream(*pipeline),
+            pending: None,
+            ..*pipeline
+        }
+    } else {
+        *pipeline
+    }
+}
+
+/// Pipelines at a frame of a port.
+fn begin_pipelines(number: u32, pipelines: &mut [Pipeline])
+    ensures { pipelines.new ≡ map (begun_pipeline number) pipelines.old }
+{
+    for place in 0..pipelines.len() {
+        pipelines[place] = begun_pipeline(number, &pipelines[place]);
+    }
+}
+
+/// The scene of a port: its background, its screen, and its pipelines by rising number.
+fn scene_of_port(number: u32, pipelines: &[Pipeline], port: &Port) -> Scene
+    requires { length pipelines.now ≤ 8 }
+    ensures { result ≡ scene_of_port number pipelines.now port.now }
+{
+    let size = shown_size(port);
+    let screen = mode_size(port.modes.as_slice(), 1);
+    Scene {
+        size,
+        turn: Rotation::R0,
+        background: port.committed.background,
+        layers: layers_of(number, screen_layer(number, screen, size), pipelines),
+    }
+}
+
+/// The port of a number, which is counted from 1.
+fn port_of(ports: &[Port], number: u32) -> Option<&Port>
+    ensures { option_copied result ≡ nth number ports.now }
+{
+    if number == 0 {
+        return None;
+    }
+    ports.get(number as usize - 1)
+}
+
+impl Display {
+    /// Whether a port, which is counted from 1, gives frames: it was declared, it is on, and it has a display attached.
+    pub fn gives_frames(&self, port: u32) -> bool
+        ensures { result ≡ is_some (port_scene port (begun_display port self.now)) }
+    {
+        match port_of(&self.ports, port) {
+            Some(found) => is_lit(found),
+            None => false,
+        }
+    }
+
+    /// The scene of a port, which is counted from 1: its background, its screen, scaled to the committed mode, and each
+    /// pipeline that is committed to it and shows a stream, by rising number. None is a port that was not declared, is off, or
+    /// has no display attached.
+    pub fn scene(&self, port: u32) -> Option<Scene>
+        ensures { result ≡ port_scene port self.now }
+    {
+        match port_of(&self.ports, port) {
+            Some(found) if is_lit(found) => Some(scene_of_port(port, &self.pipelines, found)),
+            _ => None,
+        }
+    }
+
+    /// The committed mode of a port, both counted from 1, or None for a port that was not declared.
+    pub fn mode(&self, port: u32) -> Option<u32>
+        ensures mode { result ≡ option_map (λ p. p.committed.mode) (nth port self.now.ports) }
+        ensures display { IsDisplay self.now }
+    {
+        match port_of(&self.ports, port) {
+            Some(found) => Some(found.committed.mode),
+            None => None,
+        }
+    }
+
+    /// Makes the streams that wait at a port's pipelines current, as the beginning of its frame does.
+    pub fn begin(&mut self, store: &mut Store, port: u32)
+        requires { Fits self.old store.old }
+        ensures begun { self.new ≡ begun_display port self.old }
+        ensures kept { store.new ≡ store.old }
+        ensures fits { Fits self.new store.new }
+    {
+        begin_pipelines(port, &mut self.pipelines);
+    }
+}
