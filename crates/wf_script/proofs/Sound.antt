@@ -144,7 +144,12 @@ end_sound r left ws sound h =
     let some : 0 < length r.modes = ltb-true 0 (length r.modes) (not_false (has_ports r) declared) in
     goes_on r (record r { ended = true }) left (record {
       sound = record {
-        modes = sound.modes; few = sound.few; pipes = sound.pipes; lines = sound.lines; ticks = sound.ticks; ended = λ yes. omega arith;
+        modes = sound.modes;
+        few = sound.few;
+        pipes = sound.pipes;
+        lines = sound.lines;
+        ticks = sound.ticks;
+        ended = λ yes. omega arith;
       };
       few = omega arith;
     }) count.2

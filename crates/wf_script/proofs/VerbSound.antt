@@ -57,8 +57,8 @@ module _ (client : ℕ) where
   -- a verb that it may have
   reads : (v : Verb) (names : List Name) → may_have_verb client v ≡ true → Reads (Ok (v, names))
   reads v names sound g h =
-    let is : (v, names) ≡ g = same (v, names) g h in
-    subst (λ (x : Verb × List Name). may_have_verb client x.0 ≡ true) is sound
+      let is : (v, names) ≡ g = same (v, names) g h in
+      subst (λ (x : Verb × List Name). may_have_verb client x.0 ≡ true) is sound
     where
       same : (p q : Verb × List Name) → (let r : Given = Ok p in let s : Given = Ok q in r ≡ s) → p ≡ q
       same p q h = cc
@@ -213,7 +213,7 @@ module _ (client : ℕ) where
       behind (first ws) _ (λ p _. behind (first_as (look_up port_attrs) p.1) _ (λ attr _.
       behind (counted (port_count attr.0) attr.1) _ (λ all _. behind (found_or rule.Word (integer_of p.0)) _ (λ number _.
       behind (port_value attr.0 attr.1) _
-        (λ value _. reads (verb.PortSet number attr.0 value) (names_among (handle_in value ∷ [])) refl)))))
+      (λ value _. reads (verb.PortSet number attr.0 value) (names_among (handle_in value ∷ [])) refl)))))
 
   port_get_sound : (ws : List Word) → Reads (port_get_words ws)
   unfolding port_get_words
@@ -227,7 +227,7 @@ module _ (client : ℕ) where
       behind (first ws) _ (λ l _. behind (first_as (look_up pipe_attrs) l.1) _ (λ attr _.
       behind (counted (pipe_count attr.0) attr.1) _ (λ all _. behind (found_or rule.Word (integer_of l.0)) _ (λ number _.
       behind (pipe_value attr.0 attr.1) _
-        (λ value _. reads (verb.PipeSet number attr.0 value) (names_among (handle_in value ∷ [])) refl)))))
+      (λ value _. reads (verb.PipeSet number attr.0 value) (names_among (handle_in value ∷ [])) refl)))))
 
   pipe_get_sound : (ws : List Word) → Reads (pipe_get_words ws)
   unfolding pipe_get_words
