@@ -1,5 +1,7 @@
--- The numbers of the codes, answers and replies, who answers a call, and which ports may be declared.
+-- The numbers of the codes, answers and replies, who answers a call, which calls make an object, and which ports may be
+-- declared.
 pub mod Codes
 pub mod Replies
 pub mod Parts
+pub mod Creations
 pub mod PortRules

@@ -3,6 +3,7 @@
 
 mod call;
 mod code;
+mod creation;
 mod display;
 mod order;
 mod part;

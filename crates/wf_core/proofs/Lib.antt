@@ -3,3 +3,4 @@ pub mod Faults
 pub mod Layering
 pub mod Committing
 pub mod Screens
+pub mod Denials

@@ -1,5 +1,7 @@
 -- What streams show, by their numbers and by their handles; and new links to them, and contexts that draw into them.
-use Rattle.std.proofs.Common.{◌≡◌, ℕ, ◌<◌, length, Bool, true, false, List, option_map, Option, Some, None, Ok}
+use Rattle.std.proofs.Common.{◌≡◌, ℕ, ◌<◌, length, Bool, true, false, List, option_map, Option, Some, None, Ok, Err}
+use Rattle.wf_calls.specs.declared.code.Code.TheVariants as code
+use Rattle.wf_calls.specs.Replies.{refusal}
 use Rattle.std.proofs.Common.{IfSome, refl, sym, ap, ◌∙◌}
 use Rattle.std.specs.Prelude.{IsSomeAnd}
 use Rattle.wf_pixel.specs.declared.Format.{Format}
@@ -90,3 +92,15 @@ module _ (d n : ℕ) (core : CoreState) (store : StoreView) (seen : Seen) (live 
       let drawable : is_drawable s.0.buffers.format ≡ true = ap (λ y. is_drawable y.format) (sym s.2) ∙ fit in
       let free : has_target s.0.number w ≡ false = ap (λ y. has_target y.stream w) (sym s.2) ∙ unused in
       passed (device d w) _ live ∙ rw (s.1, drawable, free) (ap (λ y. context_made d 0 y m w) (sym s.2))
+
+-- into which a context draws already
+module _ (d n : ℕ) (core : CoreState) (store : StoreView) (seen : Seen) (live : Ok tt ≡ live_device d (side_of core store))
+    (sees : Some seen ≡ seen_stream (stream_of n store.streams)) (fit : is_drawable seen.format ≡ true)
+    (used : has_target seen.stream (side_of core store) ≡ true) where
+  pub target_used : (m : Bool) → stream_context d n m (side_of core store) ≡ Err (refusal code.InUse)
+  target_used m =
+      let w = side_of core store in
+      let s = behind (stream_of n store.streams) seen (sym sees) in
+      let drawable : is_drawable s.0.buffers.format ≡ true = ap (λ y. is_drawable y.format) (sym s.2) ∙ fit in
+      let taken : has_target s.0.number w ≡ true = ap (λ y. has_target y.stream w) (sym s.2) ∙ used in
+      passed (device d w) _ live ∙ rw (s.1, drawable, taken) refl

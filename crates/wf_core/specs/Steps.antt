@@ -1,11 +1,13 @@
 -- What a call of composition leaves and answers.
-use Rattle.std.specs.Prelude.{◌≡◌, ℕ, Bool, List, IfSome, IsSome, IsTrue, Option, pos}
+use Rattle.std.specs.Prelude.{◌≡◌, ℕ, Bool, List, IfSome, IsSome, IsTrue, Option, Result, pos}
+use Rattle.wf_words.specs.Refusals.{◌>>=◌}
 use Rattle.wf_pixel.specs.Choice.{is_between}
 use Rattle.wf_stream.specs.Streams.{KeptStream, StoreView}
 use Rattle.wf_calls.specs.Codes.{is_out_of_memory}
 use Rattle.wf_calls.specs.Replies.{bare, told}
 use Rattle.wf_calls.specs.declared.call.Call.{Call}
 use Rattle.wf_calls.specs.declared.call.Call.TheVariants as call
+use Rattle.wf_calls.specs.declared.reply.Refusal.{Refusal}
 use Rattle.wf_calls.specs.declared.reply.Reply.{Reply}
 use Rattle.wf_model.specs.Composition.{CoreSide, core_answer}
 use Rattle.wf_model.specs.Objects.{CoreState}
@@ -17,6 +19,11 @@ use Rattle.wf_objects.specs.Sides.{side_of}
 -- nothing of the store changed
 abbrev pub KeepsAll : StoreView → StoreView → Type 0
 KeepsAll old new = new ≡ old
+
+-- what a creation asks for, once its own refusals are behind it, is made of what was found; or the creation is refused
+abbrev pub Asks : {A : Type 0} → (Bool → CoreSide → Outcome CoreSide) → (A → Bool → CoreSide → Outcome CoreSide) → CoreSide
+    → Result A Refusal → Type 0
+Asks plain made w found = (m : Bool) → plain m w ≡ (found >>= (λ x. made x m w))
 
 -- a call that names a device: it leaves and answers what the plain call does, where want of memory is told by the answer;
 -- so much of the store is kept; objects and store fit again; and nothing comes with the reply

@@ -1,15 +1,15 @@
 //! Contexts and their attributes.
 
-ghost use Rattle.std.specs.Prelude.{◌≡◌, ◌==◌, false, pos, IfSome, IsSome, IsTrue};
+ghost use Rattle.std.specs.Prelude.{◌≡◌, ◌==◌, false, pos, IfOk, IfSome, IsSome, IsTrue};
 ghost use Rattle.wf_words.specs.Whole.{count_of};
 ghost use Rattle.wf_pixel.specs.Choice.{is_between};
 ghost use Rattle.wf_model.specs.Core.{context_destroy, context_get, context_set, is_drawable, screen_context, stream_context};
-ghost use Rattle.wf_core.specs.Screens.{screen_seen};
-ghost use Rattle.wf_core.specs.Steps.{KeepsAll, Steps};
-ghost use Rattle.wf_objects.specs.Does.{Does};
+ghost use Rattle.wf_core.specs.Screens.{IsTarget, screen_seen};
+ghost use Rattle.wf_core.specs.Steps.{Asks, KeepsAll, Steps};
+ghost use Rattle.wf_objects.specs.Does.{Does, context_made};
 ghost use Rattle.wf_objects.specs.Fits.{Fits};
 ghost use Rattle.wf_model.specs.Fitting.{IsOfPixels};
-ghost use Rattle.wf_objects.specs.Sides.{KeepsRest};
+ghost use Rattle.wf_objects.specs.Sides.{KeepsRest, side_of};
 
 use crate::answers::answer;
 use crate::composition::Core;
@@ -42,6 +42,31 @@ fn screen_stream(store: &Store, screen: Option<u32>) -> Result<Seen, Refusal>
     }
 }
 
+/// The number of a port and its screen's stream, of which a new context is to be; or the refusal: BadDevice, IllegalArgument
+/// or InUse.
+pub(crate) fn screen_target(
+    objects: &Objects,
+    store: &Store,
+    device: u32,
+    port: i64,
+    screen: Option<u32>,
+) -> Result<(u32, Seen), Refusal>
+    requires fits { Fits objects.now store.now }
+    requires declared { IsSome screen → IsTrue (is_between (pos 1) (pos 4) port) }
+    requires pixels { IfSome screen (IsOfPixels store.now.streams) }
+    ensures asks { Asks (λ m. screen_context device port screen m) (λ x. context_made device x.0 x.1)
+        (side_of objects.now store.now) result }
+    ensures kept { IfOk result (λ x. IsTarget x.1 store.now.streams) }
+{
+    objects.check_device(store, device)?;
+    let target = screen_stream(store, screen)?;
+    let port = port_number(port);
+    if objects.has_port(port) {
+        return Err(Refusal::of(Code::InUse));
+    }
+    Ok((port, target))
+}
+
 pub(crate) fn try_screen_context(
     objects: &mut Objects,
     store: &mut Store,
@@ -54,13 +79,10 @@ pub(crate) fn try_screen_context(
     requires pixels { IfSome screen (IsOfPixels store.old.streams) }
     ensures { Does (λ m. screen_context device port screen m) objects.old objects.new store.old store.new result }
 {
-    objects.check_device(store, device)?;
-    let target = screen_stream(store, screen)?;
-    let port = port_number(port);
-    if objects.has_port(port) {
-        return Err(Refusal::of(Code::InUse));
+    match screen_target(objects, store, device, port, screen) {
+        Ok((port, target)) => objects.add_context(store, device, port, target),
+        Err(refusal) => Err(refusal),
     }
-    objects.add_context(store, device, port, target)
 }
 
 /// A context may draw pixels of a format: premultiplied ones, or ones without an alpha of their own.
@@ -70,14 +92,16 @@ fn is_drawable(format: Format) -> bool
     matches!(format, Format::Rgba8Pre | Format::Rgbx8)
 }
 
-pub(crate) fn try_stream_context(
-    objects: &mut Objects,
-    store: &mut Store,
+/// The stream that a new off-screen context is to draw into, or the refusal: BadDevice, BadHandle, Unsupported or InUse.
+pub(crate) fn stream_target(
+    objects: &Objects,
+    store: &Store,
     device: u32,
     stream: u32,
-) -> Result<u32, Refusal>
-    requires { Fits objects.old store.old }
-    ensures { Does (stream_context device stream) objects.old objects.new store.old store.new result }
+) -> Result<Seen, Refusal>
+    requires { Fits objects.now store.now }
+    ensures asks { Asks (stream_context device stream) (context_made device 0) (side_of objects.now store.now) result }
+    ensures kept { IfOk result (λ seen. IsTarget seen store.now.streams) }
 {
     objects.check_device(store, device)?;
     let Some(target) = seen_by_handle(store, stream) else {
@@ -89,7 +113,22 @@ pub(crate) fn try_stream_context(
     if objects.has_target(target.stream) {
         return Err(Refusal::of(Code::InUse));
     }
-    objects.add_context(store, device, 0, target)
+    Ok(target)
+}
+
+pub(crate) fn try_stream_context(
+    objects: &mut Objects,
+    store: &mut Store,
+    device: u32,
+    stream: u32,
+) -> Result<u32, Refusal>
+    requires { Fits objects.old store.old }
+    ensures { Does (stream_context device stream) objects.old objects.new store.old store.new result }
+{
+    match stream_target(objects, store, device, stream) {
+        Ok(target) => objects.add_context(store, device, 0, target),
+        Err(refusal) => Err(refusal),
+    }
 }
 
 pub(crate) fn try_context_destroy(

@@ -6,6 +6,7 @@ mod answers;
 mod commits;
 mod composition;
 mod contexts;
+mod denying;
 mod devices;
 mod elements;
 mod running;

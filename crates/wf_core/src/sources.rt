@@ -1,12 +1,14 @@
 //! Sources and masks.
 
-ghost use Rattle.std.specs.Prelude.{◌≡◌};
+ghost use Rattle.std.specs.Prelude.{◌≡◌, IfOk, IsSomeAnd};
+ghost use Rattle.wf_pixel.specs.Choice.{is_a8};
+ghost use Rattle.wf_stream.specs.Streams.{buffers_at};
 ghost use Rattle.wf_model.specs.Core.{mask_destroy, mask_new, source_destroy, source_new};
 ghost use Rattle.wf_core.specs.Links.{is_unfit, link_destroy, link_new};
-ghost use Rattle.wf_core.specs.Steps.{Steps};
-ghost use Rattle.wf_objects.specs.Does.{Does};
+ghost use Rattle.wf_core.specs.Steps.{Asks, Steps};
+ghost use Rattle.wf_objects.specs.Does.{Does, link_made};
 ghost use Rattle.wf_objects.specs.Fits.{Fits};
-ghost use Rattle.wf_objects.specs.Sides.{KeepsRest};
+ghost use Rattle.wf_objects.specs.Sides.{KeepsRest, side_of};
 
 use crate::answers::answer;
 use crate::composition::Core;
@@ -27,6 +29,29 @@ fn is_unfit(mask: bool, format: Format) -> bool
     }
 }
 
+/// The number of the stream that a new source or mask shows, or the refusal: BadDevice, BadHandle or Unsupported.
+pub(crate) fn linked_stream(
+    objects: &Objects,
+    store: &Store,
+    mask: bool,
+    device: u32,
+    context: u32,
+    stream: u32,
+) -> Result<u32, Refusal>
+    requires { Fits objects.now store.now }
+    ensures asks { Asks (link_new mask device context stream) (link_made mask context) (side_of objects.now store.now) result }
+    ensures kept { IfOk result (λ n. IsSomeAnd (buffers_at n store.now.streams) (λ b. is_a8 b.format ≡ mask)) }
+{
+    objects.context_place(store, device, context)?;
+    let Some(seen) = seen_by_handle(store, stream) else {
+        return Err(Refusal::of(Code::BadHandle));
+    };
+    if is_unfit(mask, seen.format) {
+        return Err(Refusal::of(Code::Unsupported));
+    }
+    Ok(seen.stream)
+}
+
 pub(crate) fn try_link_new(
     objects: &mut Objects,
     store: &mut Store,
@@ -38,14 +63,10 @@ pub(crate) fn try_link_new(
     requires { Fits objects.old store.old }
     ensures { Does (link_new mask device context stream) objects.old objects.new store.old store.new result }
 {
-    objects.context_place(store, device, context)?;
-    let Some(seen) = seen_by_handle(store, stream) else {
-        return Err(Refusal::of(Code::BadHandle));
-    };
-    if is_unfit(mask, seen.format) {
-        return Err(Refusal::of(Code::Unsupported));
+    match linked_stream(objects, store, mask, device, context, stream) {
+        Ok(number) => objects.add_link(store, mask, context, number),
+        Err(refusal) => Err(refusal),
     }
-    objects.add_link(store, mask, context, seen.stream)
 }
 
 pub(crate) fn try_link_destroy(

@@ -4,6 +4,7 @@
 mod answers;
 mod checking;
 mod commits;
+mod denying;
 mod display;
 mod finding;
 mod marking;

@@ -35,7 +35,7 @@ fn mint(store: &mut Store, stream: u32) -> Result<u32, Refusal>
 }
 
 /// The number of a live stream of pixels, or the refusal: BadHandle, or NotSupported for a stream of alphas.
-fn pixel_stream(store: &Store, stream: u32) -> Result<u32, Refusal>
+pub(crate) fn pixel_stream(store: &Store, stream: u32) -> Result<u32, Refusal>
     ensures found { result ≡ pixel_stream stream store.now.streams }
     ensures pixels { IfOk result (λ n. IsSomeAnd (buffers_at n store.now.streams) (λ b. is_a8 b.format ≡ false)) }
 {
@@ -61,7 +61,7 @@ fn leave_out(sources: &mut Vec<DisplaySource>, handle: u32)
 
 impl Display {
     /// As many sources and masks live as may, those of composition included.
-    fn all_sources(&self, store: &Store) -> bool
+    pub(crate) fn all_sources(&self, store: &Store) -> bool
         ensures { result ≡ all_sources (side_of self.now store.now) }
     {
         let here = self.sources.len();

@@ -17,6 +17,7 @@ use Rattle.wf_model.specs.Composing.{composed, core_side, with_side}
 use Rattle.wf_model.specs.Core.{core_call}
 use Rattle.wf_calls.specs.Parts.{device_of, is_of_core, of_core, part_of}
 use Rattle.wf_calls.specs.declared.reply.Answer.{Answer}
+use Rattle.wf_calls.specs.Replies.{told}
 use Rattle.wf_calls.specs.declared.part.Part.TheVariants as part
 use Rattle.std.proofs.Common.{◌&&◌}
 use Rattle.std.proofs.lemmas.List.Sums.{length-filter}
@@ -33,7 +34,7 @@ use Rattle.wf_display.specs.Does as does
 use Rattle.wf_display.specs.Fits.{Fits as Shows, source_live as shown_live}
 use Rattle.wf_display.specs.Sides as displays
 use Rattle.wf_core.specs.Steps.{Steps}
-use Rattle.wf_machine.specs.Object.{CarriesPaintable, SamePayload}
+use Rattle.wf_machine.specs.Object.{CarriesPaintable, IsMarkedAct, SamePayload}
 
 -- an answer without a Job to paint
 abbrev IsPlain : Reply → Type 0
@@ -61,14 +62,24 @@ itself : (r : Reply) → IsPlain r → IsAnswer r r
 itself r plain = record { code = refl; value = refl; payload = same_payload (is_ok_code r.code) r.payload; paintable = plain }
 
 -- a call was matched, and did and answered as the plain machine does, without a Job to paint
-pub as_act : (h left : State) (c wanted : Call) (reply : Reply) → c ≡ wanted → act h wanted (is_out_of_memory reply.code) ≡ (left, reply)
-    → IsPlain reply → IsAct h c left reply
-as_act h left c wanted reply is goes plain =
-    subst (λ x. IsAct h x left reply) (sym is)
+
+pub as_marked_act : (m : Bool) (h left : State) (c wanted : Call) (reply : Reply) → c ≡ wanted → act h wanted m ≡ (left, reply)
+    → IsPlain reply → IsMarkedAct m h c left reply
+as_marked_act m h left c wanted reply is goes plain =
+    subst (λ x. IsMarkedAct m h x left reply) (sym is)
     (record {
       left_is = sym (ap (λ x. x.0) goes);
       answer = subst (λ r. IsAnswer r reply) (sym (ap (λ x. x.1) goes)) (itself reply plain);
     })
+
+pub as_act : (h left : State) (c wanted : Call) (reply : Reply) → c ≡ wanted → act h wanted (is_out_of_memory reply.code) ≡ (left, reply)
+    → IsPlain reply → IsAct h c left reply
+as_act h left c wanted reply is goes plain = as_marked_act (is_out_of_memory reply.code) h left c wanted reply is goes plain
+
+-- nothing comes with an answer
+pub as_bare : (m : Bool) (h left : State) (c : Call) (reply : Reply) → reply ≡ bare (told reply)
+    → IsMarkedAct m h c left (bare (told reply)) → IsMarkedAct m h c left reply
+as_bare m h left c reply is done = subst (IsMarkedAct m h c left) (sym is) done
 
 -- a call was matched whose answer may have a Job
 pub as_begin : (h left : State) (c wanted : Call) (reply : Reply) → c ≡ wanted → left ≡ (act h wanted (is_out_of_memory reply.code)).0
@@ -234,18 +245,17 @@ module _ (inside : Inside) (h : State) (seen : state_of inside ≡ h) (sound : I
         known = rw rest.numbered sound.known;
       }
 
-  -- a call of composition did and answered as the plain call
-  pub as_composed : (c : Call) (screen : Option ℕ) (a : Answer) → is_of_core (part_of c) ≡ true → screen ≡ screen_of c h
-      → Steps (device_of c) (λ m. core_call screen m c) KeepsRest inside.core core inside.store store (bare a)
-      → IsAct h c (state_of (record inside { core = core; store = store })) (bare a)
+  -- a call of composition did and answered as the plain call, where memory is refused or not
+  pub as_marked_composed : (m : Bool) (c : Call) (screen : Option ℕ) (a : Answer) → is_of_core (part_of c) ≡ true
+      → screen ≡ screen_of c h
+      → core_answer (device_of c) (side_of inside.core inside.store) (core_call screen m c (side_of inside.core inside.store))
+      ≡ (side_of core store, a)
+      → IsMarkedAct m h c (state_of (record inside { core = core; store = store })) (bare a)
   unfolding act
-  as_composed c screen a ours asked steps =
-      as_act h left c c (bare a) refl (acts ∙ ap (λ x. (with_side x.0 h, bare x.1)) there
+  as_marked_composed m c screen a ours asked step =
+      as_marked_act m h left c c (bare a) refl (acts ∙ ap (λ x. (with_side x.0 h, bare x.1)) there
       ∙ ap (λ t. (t, bare a)) left_is) (plain_answer a)
     where
-      m : Bool
-      m = is_out_of_memory a.code
-
       left : State
       left = state_of (record inside { core = core; store = store })
 
@@ -260,7 +270,7 @@ module _ (inside : Inside) (h : State) (seen : state_of inside ≡ h) (sound : I
           ap (λ w. core_answer (device_of c) w (core_call (screen_of c h) m c w)) (sym side)
           ∙ ap (λ s. core_answer (device_of c) (side_of inside.core inside.store)
           (core_call s m c (side_of inside.core inside.store))) (sym asked)
-          ∙ steps.step
+          ∙ step
 
       left_is : with_side (side_of core store) h ≡ left
       left_is =
@@ -268,21 +278,27 @@ module _ (inside : Inside) (h : State) (seen : state_of inside ≡ h) (sound : I
           ∙ ap (λ n. record (state_of inside) { made = store.made; numbered = n; streams = store.streams; core = core })
           (sym rest.numbered)
 
+  -- so it is where want of memory is told by the answer
+  pub as_composed : (c : Call) (screen : Option ℕ) (a : Answer) → is_of_core (part_of c) ≡ true → screen ≡ screen_of c h
+      → Steps (device_of c) (λ m. core_call screen m c) KeepsRest inside.core core inside.store store (bare a)
+      → IsAct h c (state_of (record inside { core = core; store = store })) (bare a)
+  as_composed c screen a ours asked steps = as_marked_composed (is_out_of_memory a.code) c screen a ours asked steps.step
+
 -- calls of the display
 
-module _ (inside : Inside) (h : State) (seen : state_of inside ≡ h) (sound : IsSound inside) (d : DisplayState) (store : StoreView)
-    (c : Call)
-    (a : Answer) (steps : does.Steps (λ m. display_call m c) displays.KeepsRest inside.display d inside.store store (bare a)) where
+module _ (m : Bool) (inside : Inside) (h : State) (seen : state_of inside ≡ h) (sound : IsSound inside) (d : DisplayState)
+    (store : StoreView) (c : Call) (a : Answer) (rest : displays.KeepsRest inside.store store) (fits : Shows d store)
+    (step : display_answer (displays.side_of inside.display inside.store)
+    (display_call m c (displays.side_of inside.display inside.store)) ≡ (displays.side_of d store, a)) where
   -- what holds of the machine holds after a call of the display, which changes no modes
-  pub sound_displayed : IsSound (record inside { display = d; store = store })
-  sound_displayed =
-      let rest = steps.kept in
+  pub sound_marked_displayed : IsSound (record inside { display = d; store = store })
+  sound_marked_displayed =
       let side = displays.side_of inside.display inside.store in
       let same : modes_of d ≡ modes_of inside.display =
-      sym (ap (λ x. modes_in x.0) steps.step) ∙ modes_stay (is_out_of_memory a.code) c side in
+      sym (ap (λ x. modes_in x.0) step) ∙ modes_stay m c side in
       record {
-        fits = composed_shown inside.core d inside.store store rest steps.fits sound.fits;
-        shows = steps.fits;
+        fits = composed_shown inside.core d inside.store store rest fits sound.fits;
+        shows = fits;
         numbered = rw (rest.streams, rest.numbered) sound.numbered;
         few = sound.few;
         modes = sound.modes ∙ sym same;
@@ -294,16 +310,14 @@ module _ (inside : Inside) (h : State) (seen : state_of inside ≡ h) (sound : I
         known = rw rest.numbered sound.known;
       }
 
-  -- a call of the display did and answered as the plain call
-  pub as_displayed : part_of c ≡ part.Display → IsAct h c (state_of (record inside { display = d; store = store })) (bare a)
+  -- a call of the display did and answered as the plain call, where memory is refused or not
+  pub as_marked_displayed : part_of c ≡ part.Display
+      → IsMarkedAct m h c (state_of (record inside { display = d; store = store })) (bare a)
   unfolding act
-  as_displayed ours =
-      as_act h left c c (bare a) refl (acts ∙ ap (λ x. (with_display_side x.0 h, bare x.1)) there
+  as_marked_displayed ours =
+      as_marked_act m h left c c (bare a) refl (acts ∙ ap (λ x. (with_display_side x.0 h, bare x.1)) there
       ∙ ap (λ t. (t, bare a)) left_is) (plain_answer a)
     where
-      m : Bool
-      m = is_out_of_memory a.code
-
       left : State
       left = state_of (record inside { display = d; store = store })
 
@@ -314,10 +328,23 @@ module _ (inside : Inside) (h : State) (seen : state_of inside ≡ h) (sound : I
       side = display_side_is inside sound ∙ ap display_side seen
 
       there : display_answer (display_side h) (display_call m c (display_side h)) ≡ (displays.side_of d store, a)
-      there = ap (λ w. display_answer w (display_call m c w)) (sym side) ∙ steps.step
+      there = ap (λ w. display_answer w (display_call m c w)) (sym side) ∙ step
 
       left_is : with_display_side (displays.side_of d store) h ≡ left
       left_is =
           ap (λ s. with_display_side (displays.side_of d store) s) (sym seen)
           ∙ ap (λ n. record (state_of inside) { made = store.made; numbered = n; streams = store.streams; display = d })
-          (sym steps.kept.numbered)
+          (sym rest.numbered)
+
+-- so it is where want of memory is told by the answer
+
+module _ (inside : Inside) (h : State) (seen : state_of inside ≡ h) (sound : IsSound inside) (d : DisplayState) (store : StoreView)
+    (c : Call)
+    (a : Answer) (steps : does.Steps (λ m. display_call m c) displays.KeepsRest inside.display d inside.store store (bare a)) where
+  pub sound_displayed : IsSound (record inside { display = d; store = store })
+  sound_displayed =
+      sound_marked_displayed (is_out_of_memory a.code) inside h seen sound d store c a steps.kept steps.fits steps.step
+
+  pub as_displayed : part_of c ≡ part.Display → IsAct h c (state_of (record inside { display = d; store = store })) (bare a)
+  as_displayed ours =
+      as_marked_displayed (is_out_of_memory a.code) inside h seen sound d store c a steps.kept steps.fits steps.step ours

@@ -76,10 +76,15 @@ pub record IsAnswer (wanted reply : Reply) : Type 0 where
 abbrev pub MayAnswer : State → ℕ → Call → Reply → Type 0
 MayAnswer h client c reply = IsAnswer (answered_step h client c reply).1 reply
 
--- what a call does, before streams without a name are dropped: what it leaves, and what it answers
-pub record IsAct (h : State) (c : Call) (left : State) (reply : Reply) : Type 0 where
-  pub left_is : left ≡ (act h c (is_out_of_memory reply.code)).0
-  pub answer : IsAnswer (act h c (is_out_of_memory reply.code)).1 reply
+-- what a call does where memory is refused or not, before streams without a name are dropped: what it leaves, and what it
+-- answers
+pub record IsMarkedAct (memory_refused : Bool) (h : State) (c : Call) (left : State) (reply : Reply) : Type 0 where
+  pub left_is : left ≡ (act h c memory_refused).0
+  pub answer : IsAnswer (act h c memory_refused).1 reply
+
+-- where want of memory is told by the answer
+abbrev pub IsAct : State → Call → State → Reply → Type 0
+IsAct h c left reply = IsMarkedAct (is_out_of_memory reply.code) h c left reply
 
 -- each stream that is kept has a name
 abbrev pub IsSettled : State → Type 0
@@ -89,10 +94,22 @@ IsSettled h = h.streams ≡ kept h
 abbrev pub IsRefusal : State → State → Call → Code → Type 0
 IsRefusal h left c refused = IsTrue (not (is_ok_code refused)) → left ≡ offered (register_of c) refused h
 
--- a step of the machine: the state after it and the answer are the plain machine's; what is kept has a name, where that
--- was so before; and a refusal changes the call's register alone
-pub record IsStep (h : State) (client : ℕ) (c : Call) (left : State) (reply : Reply) : Type 0 where
-  pub after_is : left ≡ after h client c reply
-  pub answer : MayAnswer h client c reply
+-- what is left where memory is refused to a creation
+abbrev pub denied : State → ℕ → Call → State
+denied h client c = (step h client c true).0
+
+-- what a call may answer where memory is refused to a creation
+abbrev pub MayDeny : State → ℕ → Call → Reply → Type 0
+MayDeny h client c reply = IsAnswer (step h client c true).1 reply
+
+-- a step of the machine, where memory is refused or not: the state after it and the answer are the plain machine's; what is
+-- kept has a name, where that was so before; and a refusal changes the call's register alone
+pub record IsMarkedStep (memory_refused : Bool) (h : State) (client : ℕ) (c : Call) (left : State) (reply : Reply) : Type 0 where
+  pub after_is : left ≡ (step h client c memory_refused).0
+  pub answer : IsAnswer (step h client c memory_refused).1 reply
   pub settled : IsSettled h → IsSettled left
   pub refused : IsRefusal h left c reply.code
+
+-- where want of memory is told by the answer
+abbrev pub IsStep : State → ℕ → Call → State → Reply → Type 0
+IsStep h client c left reply = IsMarkedStep (is_out_of_memory reply.code) h client c left reply

@@ -3,11 +3,13 @@
 
 mod calls;
 mod composing;
+mod denying;
 mod frame;
 mod frames;
 mod latching;
 mod laws;
 mod machine;
+mod object;
 mod parts;
 mod port;
 mod replies;

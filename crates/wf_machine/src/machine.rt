@@ -1,14 +1,15 @@
 //! The machine.
 
-ghost use Rattle.std.specs.Prelude.{◌≡◌, IfOk, IfSome, IsTrue};
+ghost use Rattle.std.specs.Prelude.{◌≡◌, IfOk, IfSome, IsTrue, true};
 ghost use Rattle.std.specs.Option.{IfNone};
 ghost use Rattle.wf_stream.specs.Streams.{held};
+ghost use Rattle.wf_calls.specs.Creations.{is_creation};
 ghost use Rattle.wf_calls.specs.Parts.{carries, part_of};
 ghost use Rattle.wf_calls.specs.Replies.{bare};
 ghost use Rattle.wf_calls.specs.PortRules.{may_declare};
 ghost use Rattle.wf_model.specs.Names.{kept};
 ghost use Rattle.wf_model.specs.State.{opening};
-ghost use Rattle.wf_machine.specs.Object.{IsRefusal, IsStep, MayAnswer, after, is_ready};
+ghost use Rattle.wf_machine.specs.Object.{IsMarkedStep, IsRefusal, IsStep, MayAnswer, MayDeny, after, denied, is_ready};
 ghost use Rattle.wf_calls.specs.Parts.{is_begin};
 
 use crate::parts::Parts;
@@ -84,6 +85,32 @@ impl Machine {
         match self.answer(client, &call) {
             Some(answer) => Reply::bare(answer),
             None => self.carry(client, call),
+        }
+    }
+
+    /// Refuses a creation as `run` does where there is no memory for it: one that no other refusal meets answers OutOfMemory.
+    fn refuse(&mut self, client: u8, call: &Call) -> Reply
+        requires { IsTrue (is_creation call.now) }
+        ensures step { IsMarkedStep true self.old client call.now self.new result }
+        ensures lifetime { self.new.streams ≡ kept self.new }
+    {
+        let reply = self.parts.deny(call);
+        self.parts.settle_if(reply.code.is_ok());
+        reply
+    }
+
+    /// Answers a client's call as `run` does, but that memory is refused to it: a creation that no other refusal meets answers
+    /// OutOfMemory, and makes nothing. So an event is played again that was refused for want of memory.
+    pub fn deny(&mut self, client: u8, call: Call) -> Reply
+        ensures after { self.new ≡ denied self.old client call }
+        ensures may { MayDeny self.old client call result }
+        ensures lifetime { self.new.streams ≡ kept self.new }
+        ensures refused { IsRefusal self.old self.new call result.code }
+    {
+        if call.is_creation() {
+            self.refuse(client, &call)
+        } else {
+            self.run(client, call)
         }
     }
 

@@ -70,6 +70,19 @@ fn make(
     store.make(size, format, count(buffers))
 }
 
+/// No stream of these numbers, which are in their ranges, is made: too many are kept, or too many bytes, or all handles were
+/// given.
+fn at_limit(store: &Store, width: i64, height: i64, format: Format, buffers: i64) -> bool
+    requires { IsTrue (may_make width height buffers) }
+    ensures { result ≡ (has_no_room (new_buffers width height format buffers) store.now.streams || is_full store.now.made) }
+{
+    let size = Size {
+        w: count(width),
+        h: count(height),
+    };
+    store.at_limit(size, format, count(buffers))
+}
+
 /// Takes the write buffer of a stream that is kept.
 fn acquire_from(store: &mut Store, number: u32) -> Result<Canvas, Refused>
     requires { IsSome (stream_at number store.old.streams) }
@@ -158,6 +171,25 @@ impl Parts {
             Err(MakeStop::NoMemory) => return refuse(Code::OutOfMemory),
         };
         Answer::done(handle)
+    }
+
+    /// The refusal of a stream for which there is no memory.
+    pub(crate) fn deny_stream(
+        &self,
+        width: i64,
+        height: i64,
+        format: Format,
+        buffers: i64,
+    ) -> Answer
+        ensures { stream_step self.now (stream_new width height format buffers true self.now) ≡ (self.now, bare result) }
+    {
+        if !may_make(width, height, buffers) {
+            return refuse(Code::IllegalArgument);
+        }
+        if at_limit(&self.store, width, height, format, buffers) {
+            return refuse(Code::Limit);
+        }
+        refuse(Code::OutOfMemory)
     }
 
     /// Ends the life of a stream's handle. The stream is kept while something else names it.

@@ -1,8 +1,11 @@
 -- The step of the machine: for each call the state after it and the reply.
-use Rattle.std.specs.Prelude.{ℕ, Bool}
+use Rattle.std.proofs.Common.{◌≡◌, refl, ap}
+use Rattle.std.specs.Prelude.{ℕ, Bool, false}
 use Rattle.wf_calls.specs.Codes.{is_ok_code}
+use Rattle.wf_calls.specs.Creations.{is_creation}
 use Rattle.wf_calls.specs.Parts.{part_of, recorded_by}
 use Rattle.wf_calls.specs.declared.call.Call.{Call}
+use Rattle.wf_calls.specs.declared.call.Call.TheVariants as call
 use Rattle.wf_calls.specs.declared.part.Part.{Part}
 use Rattle.wf_calls.specs.declared.part.Part.TheVariants as part
 use Rattle.wf_calls.specs.declared.reply.Reply.{Reply}
@@ -32,3 +35,22 @@ unfoldable pub step : State → ℕ → Call → Bool → State × Reply
 step h client c memory_refused =
     let done : State × Reply = act h c memory_refused in
     (settle_if (is_ok_code done.1.code) done.0, done.1)
+
+-- the mark of refused memory says nothing to a call that makes nothing
+
+pub unmarked : (h : State) (c : Call) (m n : Bool) → is_creation c ≡ false → act h c m ≡ act h c n
+unfolding act
+unmarked h (call.StreamNew width height format buffers) m n other = absurd cc
+unmarked h call.DeviceNew m n other = absurd cc
+unmarked h (call.ScreenContext d port) m n other = absurd cc
+unmarked h (call.StreamContext d stream) m n other = absurd cc
+unmarked h (call.ElementNew d c) m n other = absurd cc
+unmarked h (call.SourceNew d c stream) m n other = absurd cc
+unmarked h (call.MaskNew d c stream) m n other = absurd cc
+unmarked h (call.DisplaySource pipe stream) m n other = absurd cc
+unmarked h _ m n other = refl
+
+pub unmarked_step : (h : State) (client : ℕ) (c : Call) (m n : Bool) → is_creation c ≡ false → step h client c m ≡ step h client c n
+unfolding step
+unmarked_step h client c m n other =
+    ap (λ (done : State × Reply). (settle_if (is_ok_code done.1.code) done.0, done.1)) (unmarked h c m n other)

@@ -2,6 +2,7 @@
 //! calls of composition find, make, change and drop objects here.
 #![tactic(auto)]
 
+mod denying;
 mod dropping;
 mod editing;
 mod emptying;

@@ -54,7 +54,7 @@ fn blank_scene(size: Size) -> Scene
 
 impl Objects {
     /// As many sources and masks live as may, those of the display included.
-    fn sources_full(&self, store: &Store) -> bool
+    pub(crate) fn sources_full(&self, store: &Store) -> bool
         ensures { result ≡ sources_full (side_of self.now store.now) }
     {
         let here = self.sources.len() + self.masks.len();

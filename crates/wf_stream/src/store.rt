@@ -131,6 +131,16 @@ impl Store {
         self.handles.full()
     }
 
+    /// No further stream is made of this size and format, with so many buffers: 64 are kept, there would be too many bytes, or
+    /// all handles were given.
+    pub fn at_limit(&self, size: Size, format: Format, buffers: u32) -> bool
+        requires sides { IsTrue (has_sides size) }
+        requires most { buffers ≤ 4 }
+        ensures { result ≡ (has_no_room (fresh size format buffers) self.now.streams || is_full self.now.made) }
+    {
+        has_no_room(&self.streams, size, format, buffers) || self.handles.full()
+    }
+
     /// A handle for an object of another kind, which keeps this key for its owner.
     pub fn mint(&mut self, kind: Kind, key: u32) -> Result<u32, MakeStop>
         requires { IsTrue (not (is_stream kind)) }

@@ -11,7 +11,7 @@ use clients::Client;
 use std::alloc::{AllocError, Global};
 use std::io;
 use std::process::ExitCode;
-use wf_calls::{Call, Reply};
+use wf_calls::Reply;
 use wf_cases::{Stage, number, word, words_of};
 use wf_machine::Machine;
 use wf_stream::Held;
@@ -53,8 +53,18 @@ impl Stage for Cases {
                 rounds::play(machine, &mut self.client);
                 held(alloc, machine)
             }
+            "denied" => match self.client.call(words.get(1..).unwrap_or(&[])) {
+                Some(call) => {
+                    let reply = machine.deny(0, call);
+                    told(alloc, &mut self.client, reply)
+                }
+                None => format!(in alloc; "no such call"),
+            },
             _ => match self.client.call(words) {
-                Some(call) => told(alloc, machine, &mut self.client, call),
+                Some(call) => {
+                    let reply = machine.run(0, call);
+                    told(alloc, &mut self.client, reply)
+                }
                 None => self.client.answer(alloc, words),
             },
         }
@@ -62,13 +72,7 @@ impl Stage for Cases {
 }
 
 /// The answer to a call, whose canvas or Job goes to the client.
-fn told(
-    alloc: Global,
-    machine: &mut Machine,
-    client: &mut Client,
-    call: Call,
-) -> Result<String, AllocError> {
-    let reply = machine.run(0, call);
+fn told(alloc: Global, client: &mut Client, reply: Reply) -> Result<String, AllocError> {
     let (code, value) = (reply.code, reply.value);
     client.take(reply);
     format!(in alloc; "{code:?} {value}")

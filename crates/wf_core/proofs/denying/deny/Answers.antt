@@ -1,0 +1,21 @@
+use Rattle.std.proofs.Common.{◌≡◌, true, refl}
+use Rattle.wf_calls.specs.Creations.{is_creation}
+use Rattle.wf_calls.specs.Parts.{is_of_core, part_of}
+use Rattle.wf_calls.specs.declared.call.Call.{Call}
+use Rattle.wf_calls.specs.declared.call.Call.TheVariants as call
+use Rattle.wf_core.proofs.denying.deny.Goals as goal
+
+-- each creation of composition has its arm
+pub unreachable-requires : goal.unreachable-requires
+unreachable-requires c = of_call c.args.call.now refl c.requires.creation c.requires.ours
+  where
+    of_call : (x : Call) → c.args.call.now ≡ x → is_creation x ≡ true → is_of_core (part_of x) ≡ true → ⊥
+    of_call call.DeviceNew is made ours = c.in_default.not-DeviceNew is
+    of_call (call.ScreenContext d p) is made ours = c.in_default.not-ScreenContext d p is
+    of_call (call.StreamContext d s) is made ours = c.in_default.not-StreamContext d s is
+    of_call (call.ElementNew d x) is made ours = c.in_default.not-ElementNew d x is
+    of_call (call.SourceNew d x s) is made ours = c.in_default.not-SourceNew d x s is
+    of_call (call.MaskNew d x s) is made ours = c.in_default.not-MaskNew d x s is
+    of_call (call.StreamNew w h f b) is made ours = absurd cc
+    of_call (call.DisplaySource l s) is made ours = absurd cc
+    of_call _ is made ours = absurd cc
