@@ -4,3 +4,4 @@ pub mod Bytes
 pub mod Parts
 pub mod Doubles
 pub mod Standard
+pub mod Tally

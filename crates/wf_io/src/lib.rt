@@ -1,5 +1,5 @@
 //! Where bytes come from and where they go: sources and sinks that count their faults, the calls that read
-//! and write all, doubles in memory for tests, and adapters over std's readers and writers.
+//! and write all, doubles in memory for tests, a sink that counts, and adapters over std's readers and writers.
 #![tactic(auto)]
 
 mod memory_sink;
@@ -8,6 +8,7 @@ mod reading;
 mod sink;
 mod source;
 mod standard;
+mod tally;
 #[cfg(test)]
 mod tests;
 mod writing;
@@ -18,5 +19,6 @@ pub use reading::{ReadStop, read_all};
 pub use sink::Sink;
 pub use source::{Failed, Source};
 pub use standard::{StdSink, StdSource};
+pub use tally::Tally;
 pub use wf_words::NoMemory;
 pub use writing::{WriteStop, write_all};

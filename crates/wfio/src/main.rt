@@ -9,7 +9,8 @@ use std::io;
 use std::process::ExitCode;
 use wf_cases::{Stage, number, word, words_of};
 use wf_io::{
-    MemorySink, MemorySource, ReadStop, Sink, StdSink, StdSource, WriteStop, read_all, write_all,
+    MemorySink, MemorySource, ReadStop, Sink, StdSink, StdSource, Tally, WriteStop, read_all,
+    write_all,
 };
 
 /// Each case has parts of its own.
@@ -32,6 +33,7 @@ impl Stage for Parts {
             "read" => read(alloc, words),
             "write" => write(alloc, words),
             "narrow" => narrow(alloc, words),
+            "tally" => tally(alloc, words),
             "adapted" => adapted(alloc),
             "broken" => broken(alloc, word(words, 1) == "flush"),
             _ => format!(in alloc; "no such call"),
@@ -109,6 +111,22 @@ fn narrow(alloc: Global, words: &[&str]) -> Result<String, AllocError> {
     let mut narrow = Narrow { sink };
     let written = write_all(&mut narrow, &bytes);
     told(alloc, written, &narrow.sink, &bytes)
+}
+
+/// Counts bytes, `tally BYTE COUNT TIMES`: which byte a piece has, how often, and how often the piece is put.
+fn tally(alloc: Global, words: &[&str]) -> Result<String, AllocError> {
+    let byte: u8 = number(words, 1);
+    let count: u16 = number(words, 2);
+    let times: u16 = number(words, 3);
+    let mut piece = Vec::new(alloc);
+    for _ in 0..count {
+        piece.push(byte)?;
+    }
+    let mut tally = Tally::new();
+    for _ in 0..times {
+        let _ = write_all(&mut tally, &piece);
+    }
+    format!(in alloc; "{} bytes, sum {}", tally.bytes(), tally.sum())
 }
 
 /// Reads 25 bytes from a slice and writes them into a vector, by the adapters.
