@@ -13,3 +13,17 @@ pub mod SizeRow
 pub mod TableRow
 pub mod Additions
 pub mod Tokens
+pub mod Clean
+pub mod Joined
+pub mod Numerals
+pub mod WordBack
+pub mod PaintBack
+pub mod ValueBack
+pub mod VerbBack
+pub mod LineBack
+pub mod ScriptBack
+pub mod Made
+pub mod Judged
+pub mod PaintJudged
+pub mod FormJudged
+pub mod LineJudged

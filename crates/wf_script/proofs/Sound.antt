@@ -162,7 +162,7 @@ parts_are : (p q : Parts) → AreWords p.arguments → (let r : Result Parts Rul
     → AreWords q.arguments
 parts_are p q are same = let is : p ≡ q = cc in subst (λ (x : Parts). AreWords x.arguments) is are
 
-parts_words : (ws : List Word) (parts : Parts) → AreWords ws → parts_of ws ≡ Ok parts → AreWords parts.arguments
+pub parts_words : (ws : List Word) (parts : Parts) → AreWords ws → parts_of ws ≡ Ok parts → AreWords parts.arguments
 unfolding parts_of
 parts_words [] parts words h = absurd cc
 parts_words (v ∷ []) parts words h = parts_are (record { name = None; verb = v; arguments = [] }) parts refl h
@@ -255,7 +255,7 @@ line_sound r left line sound h =
     let all = bind_ok (refuse_if rule.Byte (not (list_all is_allowed (without_return line)))) _ left h in
     words_sound r left (line_words line) (words_in_are (without_comment (without_return line))) sound all.2
 
-at_line_ok : (n : ℕ) (read : Result Reading Rule) (left : Reading) → at_line n read ≡ Ok left → read ≡ Ok left
+pub at_line_ok : (n : ℕ) (read : Result Reading Rule) (left : Reading) → at_line n read ≡ Ok left → read ≡ Ok left
 at_line_ok n (Ok r) left h = let is : r ≡ left = cc in ap (λ (x : Reading). Ok x) is
 at_line_ok n (Err broken) left h = absurd cc
 

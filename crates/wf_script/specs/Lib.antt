@@ -18,5 +18,7 @@ pub mod Grammar
 pub mod Seen
 pub mod Reader
 pub mod Canonical
+pub mod Generator
+pub mod Breaches
 pub mod Text
 pub mod Token

@@ -1,4 +1,4 @@
-//! Scripts: what one is, and how it is read.
+//! Scripts: what one is, and how it is read, printed and made.
 #![tactic(auto)]
 
 mod attributes;
@@ -6,8 +6,10 @@ mod composition;
 mod display;
 mod fault;
 mod form;
+mod generator;
 mod given;
 mod hex;
+mod laws;
 mod line;
 mod name;
 mod names;
@@ -34,6 +36,11 @@ mod verbs;
 mod words;
 
 pub use fault::ScriptFault;
+pub use generator::make;
+pub use laws::{
+    canonical_texts_stand, canonical_texts_tell_scripts_apart,
+    lines_are_refused_by_their_least_rule, scripts_are_refused_at_their_first_fault,
+};
 pub use line::{Line, Value, Verb};
 pub use name::Name;
 pub use printing::print;

@@ -1,4 +1,4 @@
-//! What no clause says: that a script is read where memory is at hand. And what no call shows yet of ports and pipelines.
+//! What no clause says: that a script is read, and one made, where memory is at hand. And what no call shows yet of ports and pipelines.
 
 use super::*;
 use std::test::Fail;
@@ -11,9 +11,16 @@ fn a_script_has_memory(rt: HostRuntime) -> Result<(), Fail> {
     let ports = script.ports();
     let first = ports.modes.first().map(|modes| modes.sizes.as_slice());
     let sizes = [Size { w: 4, h: 2 }, Size { w: 1, h: 1 }];
+    let made = make(rt.alloc(), 1)?;
     assert_eq!(rt;
-        (script.lines().len(), ports.pipes, ports.modes.len(), first),
-        (2, 3, 2, Some(sizes.as_slice()))
+        (
+            script.lines().len(),
+            ports.pipes,
+            ports.modes.len(),
+            first,
+            made.lines().len()
+        ),
+        (2, 3, 2, Some(sizes.as_slice()), 16)
     );
     Ok(())
 }

@@ -1,8 +1,10 @@
 //! The program `wfreader`: plays cases of the reader of scripts.
 #![tactic(auto)]
 
+mod making;
 mod printing;
 
+use making::{made, made_again, made_line};
 use printing::{failing, printed};
 use std::alloc::{AllocError, Global};
 use std::io;
@@ -50,6 +52,9 @@ impl Stage for Reader {
             }
             "printed" => self.printed(alloc, text),
             "failing" => failing_at(alloc, text),
+            "made" => made(alloc, text),
+            "made_line" => made_line(alloc, text),
+            "made_again" => made_again(alloc, text),
             _ => format!(in alloc; "no such call"),
         }
     }

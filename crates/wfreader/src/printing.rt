@@ -5,18 +5,12 @@ use wf_io::MemorySink;
 use wf_script::{Script, print};
 
 /// The most bytes that are printed here.
-const ROOM: usize = 262_144;
+pub(crate) const ROOM: usize = 262_144;
 
-/// The canonical text of a script on one line: `\n` for a line feed, and `\x3d` for `=`, which in a case stands before the answer.
-pub(crate) fn printed(alloc: Global, script: &Script) -> Result<String, AllocError> {
-    let Ok(mut sink) = MemorySink::new(alloc, ROOM, Vec::new(alloc)) else {
-        return Err(AllocError);
-    };
-    if print(script, &mut sink).is_err() {
-        return format!(in alloc; "too long");
-    }
+/// Bytes on one line: `\n` for a line feed, and `\x3d` for `=`, which in a case stands before the answer.
+pub(crate) fn told(alloc: Global, bytes: &[u8]) -> Result<String, AllocError> {
     let mut told = String::new(alloc);
-    for byte in sink.bytes() {
+    for byte in bytes {
         match byte {
             b'\n' => told.push_str("\\n")?,
             b'=' => told.push_str("\\x3d")?,
@@ -24,6 +18,17 @@ pub(crate) fn printed(alloc: Global, script: &Script) -> Result<String, AllocErr
         }
     }
     Ok(told)
+}
+
+/// The canonical text of a script on one line.
+pub(crate) fn printed(alloc: Global, script: &Script) -> Result<String, AllocError> {
+    let Ok(mut sink) = MemorySink::new(alloc, ROOM, Vec::new(alloc)) else {
+        return Err(AllocError);
+    };
+    if print(script, &mut sink).is_err() {
+        return format!(in alloc; "too long");
+    }
+    told(alloc, sink.bytes())
 }
 
 /// Prints into a sink whose call of this number fails, 0 for none, and tells what it holds then.
