@@ -13,14 +13,14 @@ use Rattle.wf_calls.specs.declared.order.Turn.{Turn}
 use Rattle.wf_film.specs.declared.form.FilmForm.{FilmForm}
 use Rattle.wf_film.specs.declared.form.FilmForm.TheVariants as forms
 use Rattle.wf_film.specs.declared.rule.Rule.TheVariants as rule
-use Rattle.wf_film.specs.Film.{turn_bytes}
-use Rattle.wf_film.specs.Plain.{IsFilm, IsFrame, IsTurn, PlainFilm, PlainFrame, begin_bytes, magic_of, plain_bytes, plain_frame}
+use Rattle.wf_film.specs.Film.{Frame, PlainFilm, begin_bytes, film_bytes, frame_bytes, magic, turn_bytes}
+use Rattle.wf_film.specs.Stands.{IsFilm, IsFrame, IsTurn}
 use Rattle.wf_film.specs.Reading.{Read, begin_at, byte_at, byte_within, end_at, fault_of, film_at, film_fault, form_at}
 use Rattle.wf_film.specs.Reading.{frame_at, frames_at, journal_at, number_at, pixels_at, read_film, side_at, turn_at, turns_at}
 use Rattle.wf_film.specs.Rules.{breach, ends_here}
 use Rattle.wf_film.proofs.FieldLaws.{begin_again, form_again, number_again, side_again, within_again}
 use Rattle.wf_film.proofs.FilmLaws.{film_again}
-use Rattle.wf_film.proofs.FrameLaws.{frame_again, frame_body, frames_again, frames_fit, plain_frame_is}
+use Rattle.wf_film.proofs.FrameLaws.{frame_again, frame_body, frames_again, frames_fit, frame_bytes_is}
 use Rattle.wf_film.proofs.JournalLaws.{journal_again, turn_again}
 
 -- steps
@@ -71,13 +71,13 @@ pixels_cut k pixels n len short =
     let few : nat_lt (length (take n pixels)) k ≡ true = lt-ltb _ _ (omega (arith, length-take n pixels)) in
     rw few refl
 
-form_cut : (form : FilmForm) (n : ℕ) → n < length (magic_of form) → form_at (take n (magic_of form)) ≡ Err ends_here
+form_cut : (form : FilmForm) (n : ℕ) → n < length (magic form) → form_at (take n (magic form)) ≡ Err ends_here
 unfolding form_at
 form_cut forms.One n short =
-    let few : nat_lt (length (take n (magic_of forms.One))) 4 ≡ true = lt-ltb _ _ (omega (arith, length-take n (magic_of forms.One))) in
+    let few : nat_lt (length (take n (magic forms.One))) 4 ≡ true = lt-ltb _ _ (omega (arith, length-take n (magic forms.One))) in
     rw few refl
 form_cut forms.Two n short =
-    let few : nat_lt (length (take n (magic_of forms.Two))) 4 ≡ true = lt-ltb _ _ (omega (arith, length-take n (magic_of forms.Two))) in
+    let few : nat_lt (length (take n (magic forms.Two))) 4 ≡ true = lt-ltb _ _ (omega (arith, length-take n (magic forms.Two))) in
     rw few refl
 
 begin_cut : (form : FilmForm) (x n : ℕ) → n < length (begin_bytes form x) → begin_at form (take n (begin_bytes form x)) ≡ Err ends_here
@@ -86,7 +86,7 @@ begin_cut forms.Two x n short = number_cut 4 x n short
 
 -- frames
 
-frame_cut : (form : FilmForm) (f : PlainFrame) (n : ℕ) → IsFrame form f → n < length (frame_body form f)
+frame_cut : (form : FilmForm) (f : Frame) (n : ℕ) → IsFrame form f → n < length (frame_body form f)
     → frame_at form (take n (frame_body form f)) ≡ Err ends_here
 unfolding frame_at
 frame_cut form f n is short =
@@ -106,18 +106,18 @@ frame_cut form f n is short =
     (λ m lt. last_cut (pixels_at (4 * (f.size.w * f.size.h))) _ f.pixels m
     (λ m lt. pixels_cut (4 * (f.size.w * f.size.h)) f.pixels m is.pixels lt) lt) lt) lt) lt) lt) short
 
-frames_cut : (form : FilmForm) (frames : List PlainFrame) (most n : ℕ) → AllByRecursion (IsFrame form) frames
-    → n < length (flat_map (plain_frame form) frames ++ byte "J" ∷ [])
-    → frames_at form most (take n (flat_map (plain_frame form) frames ++ byte "J" ∷ [])) ≡ Err ends_here
+frames_cut : (form : FilmForm) (frames : List Frame) (most n : ℕ) → AllByRecursion (IsFrame form) frames
+    → n < length (flat_map (frame_bytes form) frames ++ byte "J" ∷ [])
+    → frames_at form most (take n (flat_map (frame_bytes form) frames ++ byte "J" ∷ [])) ≡ Err ends_here
 unfolding frames_at
 frames_cut form frames zero n each short = refl
 frames_cut form [] (suc most) zero each short = refl
 frames_cut form [] (suc most) (suc n) each short = absurd (omega arith)
 frames_cut form (f ∷ frames) (suc most) n each short =
-    let later : List ℕ = flat_map (plain_frame form) frames ++ byte "J" ∷ [] in
-    let regrouped : flat_map (plain_frame form) (f ∷ frames) ++ byte "J" ∷ [] ≡ byte "F" ∷ (frame_body form f ++ later) =
-    append_assoc (plain_frame form f) (flat_map (plain_frame form) frames) (byte "J" ∷ [])
-    ∙ ap (λ (t : List ℕ). t ++ later) (plain_frame_is form f) in
+    let later : List ℕ = flat_map (frame_bytes form) frames ++ byte "J" ∷ [] in
+    let regrouped : flat_map (frame_bytes form) (f ∷ frames) ++ byte "J" ∷ [] ≡ byte "F" ∷ (frame_body form f ++ later) =
+    append_assoc (frame_bytes form f) (flat_map (frame_bytes form) frames) (byte "J" ∷ [])
+    ∙ ap (λ (t : List ℕ). t ++ later) (frame_bytes_is form f) in
     let fits : n < length (byte "F" ∷ (frame_body form f ++ later)) = omega (arith, ap length regrouped) in
     ap (λ (t : List ℕ). frames_at form (suc most) (take n t)) regrouped
     ∙ of_tag n later fits (λ m lt. frames_cut form frames most m each.1 lt)
@@ -163,34 +163,34 @@ end_cut n short = rw (byte_cut (byte "E") n short) refl
 
 -- the film
 
-film_cut : (film : PlainFilm) (n : ℕ) → IsFilm film → n < length (plain_bytes film) → film_at (take n (plain_bytes film)) ≡ Err ends_here
+film_cut : (film : PlainFilm) (n : ℕ) → IsFilm film → n < length (film_bytes film) → film_at (take n (film_bytes film)) ≡ Err ends_here
 unfolding film_at
 film_cut film n is short =
-    let shown : List ℕ = flat_map (plain_frame film.form) film.frames ++ byte "J" ∷ [] in
+    let shown : List ℕ = flat_map (frame_bytes film.form) film.frames ++ byte "J" ∷ [] in
     let journal : List ℕ = big_bytes 4 (length film.order) ++ flat_map turn_bytes film.order in
-    let regrouped : plain_bytes film ≡ magic_of film.form ++ (shown ++ (journal ++ byte "E" ∷ [])) = simp append_assoc in
+    let regrouped : film_bytes film ≡ magic film.form ++ (shown ++ (journal ++ byte "E" ∷ [])) = simp append_assoc in
     ap (λ (t : List ℕ). film_at (take n t)) regrouped
-    ∙ then_cut form_at _ (magic_of film.form) (shown ++ (journal ++ byte "E" ∷ [])) film.form n (form_again film.form) (form_cut film.form)
+    ∙ then_cut form_at _ (magic film.form) (shown ++ (journal ++ byte "E" ∷ [])) film.form n (form_again film.form) (form_cut film.form)
     (λ m lt. then_cut (λ bytes. frames_at film.form (length bytes) bytes) _ shown (journal ++ byte "E" ∷ []) film.frames m
     (λ rest. frames_whole rest) (λ m lt. frames_cut film.form film.frames (length (take m shown)) m is.frames lt)
     (λ m lt. then_cut journal_at _ journal (byte "E" ∷ []) film.order m (λ rest. journal_whole rest)
     (λ m lt. journal_cut film.order m is.turns is.few lt)
     (λ m lt. last_cut end_at _ (byte "E" ∷ []) m end_cut lt) lt) lt) (omega (arith, ap length regrouped))
   where
-    frames_whole : (rest : List ℕ) → (let shown : List ℕ = flat_map (plain_frame film.form) film.frames ++ byte "J" ∷ [] in
+    frames_whole : (rest : List ℕ) → (let shown : List ℕ = flat_map (frame_bytes film.form) film.frames ++ byte "J" ∷ [] in
         frames_at film.form (length (shown ++ rest)) (shown ++ rest) ≡ Ok (film.frames, rest))
     frames_whole rest =
-        let regrouped : (flat_map (plain_frame film.form) film.frames ++ byte "J" ∷ []) ++ rest
-        ≡ flat_map (plain_frame film.form) film.frames ++ byte "J" ∷ rest =
-        append_assoc (flat_map (plain_frame film.form) film.frames) (byte "J" ∷ []) rest in
-        let few : length film.frames < length (flat_map (plain_frame film.form) film.frames ++ byte "J" ∷ rest) =
+        let regrouped : (flat_map (frame_bytes film.form) film.frames ++ byte "J" ∷ []) ++ rest
+        ≡ flat_map (frame_bytes film.form) film.frames ++ byte "J" ∷ rest =
+        append_assoc (flat_map (frame_bytes film.form) film.frames) (byte "J" ∷ []) rest in
+        let few : length film.frames < length (flat_map (frame_bytes film.form) film.frames ++ byte "J" ∷ rest) =
         omega (
           arith,
           frames_fit film.form film.frames,
-          length-append (flat_map (plain_frame film.form) film.frames) (byte "J" ∷ rest),
+          length-append (flat_map (frame_bytes film.form) film.frames) (byte "J" ∷ rest),
         ) in
         ap (λ (t : List ℕ). frames_at film.form (length t) t) regrouped
-        ∙ frames_again film.form film.frames (length (flat_map (plain_frame film.form) film.frames ++ byte "J" ∷ rest)) rest is.frames few
+        ∙ frames_again film.form film.frames (length (flat_map (frame_bytes film.form) film.frames ++ byte "J" ∷ rest)) rest is.frames few
 
     journal_whole : (rest : List ℕ) → journal_at ((big_bytes 4 (length film.order) ++ flat_map turn_bytes film.order) ++ rest)
         ≡ Ok (film.order, rest)
@@ -199,23 +199,23 @@ film_cut film n is short =
         ∙ journal_again film.order rest is.turns is.few
 
 -- a film that is cut breaks the rule of its end, there
-pub cut_is_told : (film : PlainFilm) (n : ℕ) → IsFilm film → n < length (plain_bytes film)
-    → film_fault (take n (plain_bytes film)) ≡ Some (record { at = n; rule = 3 })
+pub cut_is_told : (film : PlainFilm) (n : ℕ) → IsFilm film → n < length (film_bytes film)
+    → film_fault (take n (film_bytes film)) ≡ Some (record { at = n; rule = 3 })
 unfolding read_film
 cut_is_told film n is short =
-    let cut : read_film (take n (plain_bytes film)) ≡ Err ends_here = rw (film_cut film n is short) refl in
-    let len : length (take n (plain_bytes film)) ≡ n = omega (arith, length-take n (plain_bytes film)) in
-    ap (fault_of (length (take n (plain_bytes film)))) cut
+    let cut : read_film (take n (film_bytes film)) ≡ Err ends_here = rw (film_cut film n is short) refl in
+    let len : length (take n (film_bytes film)) ≡ n = omega (arith, length-take n (film_bytes film)) in
+    ap (fault_of (length (take n (film_bytes film)))) cut
     ∙ ap (λ (k : ℕ). Some (record { at = k; rule = 3 })) (omega (arith, len))
 
 -- what follows a film breaks the last rule, where it begins
 pub more_is_told : (film : PlainFilm) (b : ℕ) (rest : List ℕ) → IsFilm film
-    → film_fault (plain_bytes film ++ b ∷ rest) ≡ Some (record { at = length (plain_bytes film); rule = 5 })
+    → film_fault (film_bytes film ++ b ∷ rest) ≡ Some (record { at = length (film_bytes film); rule = 5 })
 unfolding read_film
 more_is_told film b rest is =
-    let bytes : List ℕ = plain_bytes film ++ b ∷ rest in
+    let bytes : List ℕ = film_bytes film ++ b ∷ rest in
     let some : nat_lt 0 (length (b ∷ rest)) ≡ true = lt-ltb _ _ (omega arith) in
     let follows : read_film bytes ≡ Err (breach rule.Last (b ∷ rest)) = rw (film_again film (b ∷ rest) is, some) refl in
-    let place : length bytes - length (b ∷ rest) ≡ length (plain_bytes film) =
-    omega (arith, length-append (plain_bytes film) (b ∷ rest)) in
+    let place : length bytes - length (b ∷ rest) ≡ length (film_bytes film) =
+    omega (arith, length-append (film_bytes film) (b ∷ rest)) in
     ap (fault_of (length bytes)) follows ∙ ap (λ (k : ℕ). Some (record { at = k; rule = 5 })) place

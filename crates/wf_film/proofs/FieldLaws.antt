@@ -14,7 +14,8 @@ use Rattle.wf_film.specs.declared.form.FilmForm.{FilmForm}
 use Rattle.wf_film.specs.declared.form.FilmForm.TheVariants as forms
 use Rattle.wf_film.specs.declared.rule.Breach.{Breach}
 use Rattle.wf_film.specs.declared.rule.Rule.TheVariants as rule
-use Rattle.wf_film.specs.Plain.{IsSide, MayBegin, begin_bytes, magic_of}
+use Rattle.wf_film.specs.Film.{begin_bytes, magic}
+use Rattle.wf_film.specs.Stands.{IsSide, MayBegin}
 use Rattle.wf_film.specs.Reading.{begin_at, byte_at, byte_within, form_at, is_within, number_at, pixels_at, side_at}
 use Rattle.wf_film.specs.Rules.{breach, ends_here}
 use Rattle.wf_film.proofs.Steps.{AreBytes, Takes, bind_ok, bytes_before, bytes_behind, is_in_range, ok_is, passed, stays_in_range}
@@ -134,46 +135,46 @@ begin_again forms.Two n rest may = number_again 4 n rest may
 
 -- the magic
 
-pub form_takes : (bytes : List ℕ) (x : FilmForm × List ℕ) → AreBytes bytes → form_at bytes ≡ Ok x → Takes bytes (magic_of x.0) x.1
+pub form_takes : (bytes : List ℕ) (x : FilmForm × List ℕ) → AreBytes bytes → form_at bytes ≡ Ok x → Takes bytes (magic x.0) x.1
 unfolding form_at
 form_takes bytes x fits h = of_length (nat_lt (length bytes) 4) h
   where
-    taken : (form : FilmForm) → bytes_eq (take 4 bytes) (magic_of form) ≡ true → (form, drop 4 bytes) ≡ x → Takes bytes (magic_of x.0) x.1
+    taken : (form : FilmForm) → bytes_eq (take 4 bytes) (magic form) ≡ true → (form, drop 4 bytes) ≡ x → Takes bytes (magic x.0) x.1
     taken form is same =
-        let spelled : take 4 bytes ≡ magic_of form = (bytes_eq-Decides (take 4 bytes) (magic_of form)).0 is in
-        subst (λ (y : FilmForm × List ℕ). Takes bytes (magic_of y.0) y.1) same
+        let spelled : take 4 bytes ≡ magic form = (bytes_eq-Decides (take 4 bytes) (magic form)).0 is in
+        subst (λ (y : FilmForm × List ℕ). Takes bytes (magic y.0) y.1) same
         (record {
           parts = sym (take-append-drop 4 bytes) ∙ ap (λ (t : List ℕ). t ++ drop 4 bytes) spelled;
           fits = bytes_behind 4 bytes fits;
         })
 
-    of_two : (b : Bool) → bytes_eq (take 4 bytes) (magic_of forms.Two) ≡ b
-        → (if b then Ok (forms.Two, drop 4 bytes) else Err (breach rule.Magic bytes)) ≡ Ok x → Takes bytes (magic_of x.0) x.1
+    of_two : (b : Bool) → bytes_eq (take 4 bytes) (magic forms.Two) ≡ b
+        → (if b then Ok (forms.Two, drop 4 bytes) else Err (breach rule.Magic bytes)) ≡ Ok x → Takes bytes (magic x.0) x.1
     of_two true is same = taken forms.Two is (ok_is (forms.Two, drop 4 bytes) x same)
     of_two false is same = absurd cc
 
-    of_one : (b : Bool) → bytes_eq (take 4 bytes) (magic_of forms.One) ≡ b
+    of_one : (b : Bool) → bytes_eq (take 4 bytes) (magic forms.One) ≡ b
         → (if b then Ok (forms.One, drop 4 bytes)
-        else (if bytes_eq (take 4 bytes) (magic_of forms.Two) then Ok (forms.Two, drop 4 bytes) else Err (breach rule.Magic bytes))) ≡ Ok x
-        → Takes bytes (magic_of x.0) x.1
+        else (if bytes_eq (take 4 bytes) (magic forms.Two) then Ok (forms.Two, drop 4 bytes) else Err (breach rule.Magic bytes))) ≡ Ok x
+        → Takes bytes (magic x.0) x.1
     of_one true is same = taken forms.One is (ok_is (forms.One, drop 4 bytes) x same)
-    of_one false is same = of_two (bytes_eq (take 4 bytes) (magic_of forms.Two)) refl same
+    of_one false is same = of_two (bytes_eq (take 4 bytes) (magic forms.Two)) refl same
 
     of_length : (b : Bool)
         → (if b then Err ends_here
-        else (if bytes_eq (take 4 bytes) (magic_of forms.One) then Ok (forms.One, drop 4 bytes)
-        else (if bytes_eq (take 4 bytes) (magic_of forms.Two) then Ok (forms.Two, drop 4 bytes) else Err (breach rule.Magic bytes)))) ≡ Ok x
-        → Takes bytes (magic_of x.0) x.1
+        else (if bytes_eq (take 4 bytes) (magic forms.One) then Ok (forms.One, drop 4 bytes)
+        else (if bytes_eq (take 4 bytes) (magic forms.Two) then Ok (forms.Two, drop 4 bytes) else Err (breach rule.Magic bytes)))) ≡ Ok x
+        → Takes bytes (magic x.0) x.1
     of_length true same = absurd cc
-    of_length false same = of_one (bytes_eq (take 4 bytes) (magic_of forms.One)) refl same
+    of_length false same = of_one (bytes_eq (take 4 bytes) (magic forms.One)) refl same
 
-pub form_again : (form : FilmForm) (rest : List ℕ) → form_at (magic_of form ++ rest) ≡ Ok (form, rest)
+pub form_again : (form : FilmForm) (rest : List ℕ) → form_at (magic form ++ rest) ≡ Ok (form, rest)
 unfolding form_at
 form_again forms.One rest =
-    let long : nat_lt (length (magic_of forms.One ++ rest)) 4 ≡ false =
-    le-ltb _ _ (omega (arith, length-append (magic_of forms.One) rest)) in
+    let long : nat_lt (length (magic forms.One ++ rest)) 4 ≡ false =
+    le-ltb _ _ (omega (arith, length-append (magic forms.One) rest)) in
     rw long refl
 form_again forms.Two rest =
-    let long : nat_lt (length (magic_of forms.Two ++ rest)) 4 ≡ false =
-    le-ltb _ _ (omega (arith, length-append (magic_of forms.Two) rest)) in
+    let long : nat_lt (length (magic forms.Two ++ rest)) 4 ≡ false =
+    le-ltb _ _ (omega (arith, length-append (magic forms.Two) rest)) in
     rw long refl

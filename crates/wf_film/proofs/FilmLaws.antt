@@ -11,9 +11,8 @@ use Rattle.wf_film.specs.declared.form.FilmForm.{FilmForm}
 use Rattle.wf_film.specs.declared.form.FilmForm.TheVariants as forms
 use Rattle.wf_film.specs.declared.rule.Breach.{Breach}
 use Rattle.wf_film.specs.declared.rule.Rule.TheVariants as rule
-use Rattle.wf_film.specs.Film.{Film, Frame, film_bytes, frame_bytes, tail_bytes, turn_bytes}
-use Rattle.wf_film.specs.Plain.{IsFilm, IsWhole, Outline, PlainFilm, Stands, film_of_one, frame_of_one, magic_of, outline, plain_bytes}
-use Rattle.wf_film.specs.Plain.{plain_frame}
+use Rattle.wf_film.specs.Film.{Frame, PlainFilm, film_bytes, frame_bytes, head_bytes, tail_bytes, turn_bytes, magic}
+use Rattle.wf_film.specs.Stands.{IsFilm, IsWhole, Outline, Stands, as_read, frame_in, outline}
 use Rattle.wf_film.specs.Reading.{byte_at, end_at, fault_of, film_at, film_fault, form_at, frames_at, journal_at, outlined, read_film}
 use Rattle.wf_film.specs.Rules.{breach}
 use Rattle.wf_film.proofs.FieldLaws.{byte_takes, form_again, form_takes}
@@ -39,13 +38,13 @@ end_again rest = refl
 -- the whole film
 
 -- the parts of a film in one row
-in_a_row : (film : PlainFilm) (rest : List ℕ) → plain_bytes film ++ rest
-    ≡ magic_of film.form ++ (flat_map (plain_frame film.form) film.frames ++ byte "J" ∷ (big_bytes 4 (length film.order)
+in_a_row : (film : PlainFilm) (rest : List ℕ) → film_bytes film ++ rest
+    ≡ magic film.form ++ (flat_map (frame_bytes film.form) film.frames ++ byte "J" ∷ (big_bytes 4 (length film.order)
     ++ (flat_map turn_bytes film.order ++ byte "E" ∷ rest)))
 in_a_row film rest = simp append_assoc
 
 pub film_takes : (bytes : List ℕ) (x : PlainFilm × List ℕ) → AreBytes bytes → film_at bytes ≡ Ok x
-    → (bytes ≡ plain_bytes x.0 ++ x.1) × IsFilm x.0
+    → (bytes ≡ film_bytes x.0 ++ x.1) × IsFilm x.0
 unfolding film_at
 film_takes bytes x fits h =
     let form = bind_ok (form_at bytes) _ x h in
@@ -59,30 +58,30 @@ film_takes bytes x fits h =
     let film : PlainFilm = record { form = form.0.0; frames = frames.0.0; order = order.0.0 } in
     let count : List ℕ = big_bytes 4 (length order.0.0) in
     let entries : List ℕ = flat_map turn_bytes order.0.0 in
-    let shown : List ℕ = flat_map (plain_frame form.0.0) frames.0.0 in
+    let shown : List ℕ = flat_map (frame_bytes form.0.0) frames.0.0 in
     let text_order : List ℕ = (count ++ entries) ++ byte "E" ∷ [] in
     let text_frames : List ℕ = (shown ++ byte "J" ∷ []) ++ text_order in
     let from_order = takes_both frames.0.1 (count ++ entries) order.0.1 (byte "E" ∷ []) end.0.1 order_is.takes end_is in
     let from_frames = takes_both form.0.1 (shown ++ byte "J" ∷ []) frames.0.1 text_order end.0.1 frames_are.takes from_order in
-    let all = takes_both bytes (magic_of form.0.0) form.0.1 text_frames end.0.1 form_is from_frames in
-    let spelled : bytes ≡ plain_bytes film ++ end.0.1 = all.parts ∙ regrouped form.0.0 shown count entries end.0.1 in
+    let all = takes_both bytes (magic form.0.0) form.0.1 text_frames end.0.1 form_is from_frames in
+    let spelled : bytes ≡ film_bytes film ++ end.0.1 = all.parts ∙ regrouped form.0.0 shown count entries end.0.1 in
     let made : PlainFilm × List ℕ = (film, end.0.1) in
-    subst (λ (y : PlainFilm × List ℕ). (bytes ≡ plain_bytes y.0 ++ y.1) × IsFilm y.0) {x = made} (ok_is made x end.2)
+    subst (λ (y : PlainFilm × List ℕ). (bytes ≡ film_bytes y.0 ++ y.1) × IsFilm y.0) {x = made} (ok_is made x end.2)
     (spelled, record { frames = frames_are.each; turns = order_is.each; few = order_is.few })
   where
     regrouped : (form : FilmForm) (frames count entries rest : List ℕ)
-        → (magic_of form ++ ((frames ++ byte "J" ∷ []) ++ ((count ++ entries) ++ byte "E" ∷ []))) ++ rest
-        ≡ ((magic_of form ++ frames) ++ ((byte "J" ∷ count) ++ entries ++ byte "E" ∷ [])) ++ rest
+        → (magic form ++ ((frames ++ byte "J" ∷ []) ++ ((count ++ entries) ++ byte "E" ∷ []))) ++ rest
+        ≡ ((magic form ++ frames) ++ ((byte "J" ∷ count) ++ entries ++ byte "E" ∷ [])) ++ rest
     regrouped form frames count entries rest = simp append_assoc
 
-pub film_again : (film : PlainFilm) (rest : List ℕ) → IsFilm film → film_at (plain_bytes film ++ rest) ≡ Ok (film, rest)
+pub film_again : (film : PlainFilm) (rest : List ℕ) → IsFilm film → film_at (film_bytes film ++ rest) ≡ Ok (film, rest)
 unfolding film_at
 film_again film rest is =
     let entries = flat_map turn_bytes film.order ++ byte "E" ∷ rest in
     let journal = big_bytes 4 (length film.order) ++ entries in
-    let frames = flat_map (plain_frame film.form) film.frames ++ byte "J" ∷ journal in
+    let frames = flat_map (frame_bytes film.form) film.frames ++ byte "J" ∷ journal in
     let few : length film.frames < length frames =
-    omega (arith, frames_fit film.form film.frames, length-append (flat_map (plain_frame film.form) film.frames) (byte "J" ∷ journal)) in
+    omega (arith, frames_fit film.form film.frames, length-append (flat_map (frame_bytes film.form) film.frames) (byte "J" ∷ journal)) in
     ap film_at (in_a_row film rest)
     ∙ rw (
       form_again film.form frames,
@@ -100,23 +99,23 @@ read_stands bytes film fits h =
     let none : read.0.1 ≡ [] = nil_from_length read.0.1 (omega (arith, ltb-false 0 (length read.0.1) (passed _ _ test.0 test.1))) in
     let takes = film_takes bytes read.0 fits read.1 in
     subst (λ (x : PlainFilm). Stands bytes x) (ok_is read.0.0 film test.2)
-    (record { is = takes.1; spelled = takes.0 ∙ ap (λ (t : List ℕ). plain_bytes read.0.0 ++ t) none ∙ append-nil (plain_bytes read.0.0) })
+    (record { is = takes.1; spelled = takes.0 ∙ ap (λ (t : List ℕ). film_bytes read.0.0 ++ t) none ∙ append-nil (film_bytes read.0.0) })
 
 -- what bytes stand for is read
 pub stands_read : (bytes : List ℕ) (film : PlainFilm) → Stands bytes film → read_film bytes ≡ Ok film
 unfolding read_film
 stands_read bytes film stands =
-    let all : bytes ≡ plain_bytes film ++ [] = stands.spelled ∙ sym (append-nil (plain_bytes film)) in
+    let all : bytes ≡ film_bytes film ++ [] = stands.spelled ∙ sym (append-nil (film_bytes film)) in
     ap read_film all ∙ rw (film_again film [] stands.is) refl
 
 -- no film begins another
 
-pub begins_another : (film other : PlainFilm) (rest : List ℕ) → IsFilm film → IsFilm other → plain_bytes film ++ rest ≡ plain_bytes other
+pub begins_another : (film other : PlainFilm) (rest : List ℕ) → IsFilm film → IsFilm other → film_bytes film ++ rest ≡ film_bytes other
     → (film ≡ other) × (rest ≡ [])
 begins_another film other rest is other_is same =
     let x : PlainFilm × List ℕ = (film, rest) in
     let y : PlainFilm × List ℕ = (other, []) in
-    let one : x ≡ y = ok_is x y (sym (film_again film rest is) ∙ ap film_at (same ∙ sym (append-nil (plain_bytes other)))
+    let one : x ≡ y = ok_is x y (sym (film_again film rest is) ∙ ap film_at (same ∙ sym (append-nil (film_bytes other)))
     ∙ film_again other [] other_is) in
     (ap (λ (p : PlainFilm × List ℕ). p.0) one, ap (λ (p : PlainFilm × List ℕ). p.1) one)
 
@@ -164,14 +163,14 @@ no_fault bytes broken plain h stands = let same = ap outlined (stands_read bytes
 
 -- what the writer puts
 
-pub frames_of_one : (frames : List Frame) → flat_map frame_bytes frames ≡ flat_map (plain_frame forms.One) (map frame_of_one frames)
-frames_of_one [] = refl
-frames_of_one (f ∷ frames) = ap (λ (t : List ℕ). frame_bytes f ++ t) (frames_of_one frames)
+frames_as_read : (form : FilmForm) (frames : List Frame)
+    → flat_map (frame_bytes form) frames ≡ flat_map (frame_bytes form) (map (frame_in form) frames)
+frames_as_read form [] = refl
+frames_as_read forms.One (f ∷ frames) = ap (λ (t : List ℕ). frame_bytes forms.One f ++ t) (frames_as_read forms.One frames)
+frames_as_read forms.Two (f ∷ frames) = ap (λ (t : List ℕ). frame_bytes forms.Two f ++ t) (frames_as_read forms.Two frames)
 
-pub spelled_as_one : (film : Film) → film_bytes film ≡ plain_bytes (film_of_one film)
-spelled_as_one film = ap (λ (t : List ℕ). (magic_of forms.One ++ t) ++ tail_bytes film.order) (frames_of_one film.frames)
-
-pub reads_back : (film : Film) → IsFilm (film_of_one film) → film_fault (film_bytes film) ≡ None
-reads_back film is =
-    let stands : Stands (film_bytes film) (film_of_one film) = record { is = is; spelled = spelled_as_one film } in
-    ap (fault_of (length (film_bytes film))) (stands_read (film_bytes film) (film_of_one film) stands)
+pub reads_back : (film : PlainFilm) → IsFilm (as_read film) → Stands (film_bytes film) (as_read film)
+reads_back film is = record {
+  is = is;
+  spelled = ap (λ (t : List ℕ). (magic film.form ++ t) ++ tail_bytes film.order) (frames_as_read film.form film.frames);
+}

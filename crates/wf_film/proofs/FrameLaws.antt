@@ -11,7 +11,8 @@ use Rattle.wf_pixel.specs.declared.Size.{Size}
 use Rattle.wf_film.specs.declared.form.FilmForm.{FilmForm}
 use Rattle.wf_film.specs.declared.form.FilmForm.TheVariants as forms
 use Rattle.wf_film.specs.declared.rule.Rule.TheVariants as rule
-use Rattle.wf_film.specs.Plain.{PlainFrame, IsFrame, begin_bytes, plain_frame}
+use Rattle.wf_film.specs.Film.{Frame, begin_bytes, frame_bytes}
+use Rattle.wf_film.specs.Stands.{IsFrame}
 use Rattle.wf_film.specs.Reading.{begin_at, behind, byte_at, byte_within, frame_at, frames_at, number_at, pixels_at, side_at}
 use Rattle.wf_film.specs.Rules.{breach}
 use Rattle.wf_film.proofs.FieldLaws.{begin_again, begin_takes, byte_takes, four_come_back, number_again, number_takes, pixels_again}
@@ -21,11 +22,11 @@ use Rattle.wf_film.proofs.Steps.{AreBytes, Takes, bind_ok, not_false, ok_is, pas
 -- a frame
 
 -- what stands behind the tag of a frame
-abbrev pub frame_body : FilmForm → PlainFrame → List ℕ
+abbrev pub frame_body : FilmForm → Frame → List ℕ
 frame_body form f =
     (f.port ∷ []) ++ (big_bytes 4 f.tick ++ (begin_bytes form f.begin ++ (big_bytes 2 f.size.w ++ (big_bytes 2 f.size.h ++ f.pixels))))
 
-pub frame_takes : (form : FilmForm) (bytes : List ℕ) (x : PlainFrame × List ℕ) → AreBytes bytes → frame_at form bytes ≡ Ok x
+pub frame_takes : (form : FilmForm) (bytes : List ℕ) (x : Frame × List ℕ) → AreBytes bytes → frame_at form bytes ≡ Ok x
     → Takes bytes (frame_body form x.0) x.1 × IsFrame form x.0
 unfolding frame_at
 frame_takes form bytes x fits h =
@@ -51,9 +52,9 @@ frame_takes form bytes x fits h =
     let from_tick = takes_both port.0.1 (big_bytes 4 tick.0.0) tick.0.1 text_begin pixels.0.1 tick_is.0 from_begin in
     let from_port = takes_both bytes (port.0.0 ∷ []) port.0.1 text_tick pixels.0.1 port_is.0 from_tick in
     let size : Size = record { w = w.0.0; h = h.0.0 } in
-    let f : PlainFrame = record { port = port.0.0; tick = tick.0.0; begin = begin.0.0; size = size; pixels = pixels.0.0 } in
-    let made : PlainFrame × List ℕ = (f, pixels.0.1) in
-    subst (λ (y : PlainFrame × List ℕ). Takes bytes (frame_body form y.0) y.1 × IsFrame form y.0) {x = made} (ok_is made x pixels.2) (
+    let f : Frame = record { port = port.0.0; tick = tick.0.0; begin = begin.0.0; size = size; pixels = pixels.0.0 } in
+    let made : Frame × List ℕ = (f, pixels.0.1) in
+    subst (λ (y : Frame × List ℕ). Takes bytes (frame_body form y.0) y.1 × IsFrame form y.0) {x = made} (ok_is made x pixels.2) (
       from_port,
       record {
         low_port = port_is.1;
@@ -66,7 +67,7 @@ frame_takes form bytes x fits h =
       },
     )
 
-pub frame_again : (form : FilmForm) (f : PlainFrame) (rest : List ℕ) → IsFrame form f
+pub frame_again : (form : FilmForm) (f : Frame) (rest : List ℕ) → IsFrame form f
     → frame_at form (frame_body form f ++ rest) ≡ Ok (f, rest)
 unfolding frame_at
 frame_again form f rest is =
@@ -85,34 +86,34 @@ frame_again form f rest is =
 
 -- frames
 
-pub plain_frame_is : (form : FilmForm) (f : PlainFrame) → plain_frame form f ≡ byte "F" ∷ frame_body form f
-plain_frame_is forms.One f = refl
-plain_frame_is forms.Two f = refl
+pub frame_bytes_is : (form : FilmForm) (f : Frame) → frame_bytes form f ≡ byte "F" ∷ frame_body form f
+frame_bytes_is forms.One f = refl
+frame_bytes_is forms.Two f = refl
 
 -- these frames stand at the front, and then the tag of the journal
-pub record FramesTake (form : FilmForm) (bytes : List ℕ) (frames : List PlainFrame) (rest : List ℕ) : Type 0 where
-  pub takes : Takes bytes (flat_map (plain_frame form) frames ++ byte "J" ∷ []) rest
+pub record FramesTake (form : FilmForm) (bytes : List ℕ) (frames : List Frame) (rest : List ℕ) : Type 0 where
+  pub takes : Takes bytes (flat_map (frame_bytes form) frames ++ byte "J" ∷ []) rest
   pub each : AllByRecursion (IsFrame form) frames
 
 no_frames_take : (form : FilmForm) (bytes rest : List ℕ) (tag : ℕ) → Takes bytes (tag ∷ []) rest → tag ≡ byte "J"
     → FramesTake form bytes [] rest
 no_frames_take form bytes rest tag takes is = record { takes = subst (λ (t : ℕ). Takes bytes (t ∷ []) rest) is takes; each = tt }
 
-one_frame_takes : (form : FilmForm) (bytes behind after rest : List ℕ) (tag : ℕ) (f : PlainFrame) (frames : List PlainFrame)
+one_frame_takes : (form : FilmForm) (bytes behind after rest : List ℕ) (tag : ℕ) (f : Frame) (frames : List Frame)
     → Takes bytes (tag ∷ []) behind → tag ≡ byte "F" → Takes behind (frame_body form f) after → IsFrame form f
     → FramesTake form after frames rest → FramesTake form bytes (f ∷ frames) rest
 one_frame_takes form bytes behind after rest tag f frames first is body f_is later =
     let front : Takes bytes (byte "F" ∷ []) behind = subst (λ (t : ℕ). Takes bytes (t ∷ []) behind) is first in
-    let frame : Takes bytes (plain_frame form f) after =
-    subst (λ (t : List ℕ). Takes bytes t after) (sym (plain_frame_is form f))
+    let frame : Takes bytes (frame_bytes form f) after =
+    subst (λ (t : List ℕ). Takes bytes t after) (sym (frame_bytes_is form f))
     (takes_both bytes (byte "F" ∷ []) behind (frame_body form f) after front body) in
-    let all = takes_both bytes (plain_frame form f) after (flat_map (plain_frame form) frames ++ byte "J" ∷ []) rest frame later.takes in
-    let regrouped : plain_frame form f ++ (flat_map (plain_frame form) frames ++ byte "J" ∷ [])
-    ≡ flat_map (plain_frame form) (f ∷ frames) ++ byte "J" ∷ [] =
-    sym (append_assoc (plain_frame form f) (flat_map (plain_frame form) frames) (byte "J" ∷ [])) in
+    let all = takes_both bytes (frame_bytes form f) after (flat_map (frame_bytes form) frames ++ byte "J" ∷ []) rest frame later.takes in
+    let regrouped : frame_bytes form f ++ (flat_map (frame_bytes form) frames ++ byte "J" ∷ [])
+    ≡ flat_map (frame_bytes form) (f ∷ frames) ++ byte "J" ∷ [] =
+    sym (append_assoc (frame_bytes form f) (flat_map (frame_bytes form) frames) (byte "J" ∷ [])) in
     record { takes = subst (λ (t : List ℕ). Takes bytes t rest) regrouped all; each = (f_is, later.each) }
 
-pub frames_take : (form : FilmForm) (most : ℕ) (bytes : List ℕ) (x : List PlainFrame × List ℕ) → AreBytes bytes
+pub frames_take : (form : FilmForm) (most : ℕ) (bytes : List ℕ) (x : List Frame × List ℕ) → AreBytes bytes
     → frames_at form most bytes ≡ Ok x → FramesTake form bytes x.0 x.1
 unfolding frames_at
 frames_take form zero bytes x fits h = absurd cc
@@ -124,11 +125,11 @@ frames_take form (suc most) bytes x fits h =
     of_tag : (tag : ℕ) (behind : List ℕ) → Takes bytes (tag ∷ []) behind → (b : Bool) → (tag == byte "J") ≡ b
         → (if b then Ok ([], behind) else (refuse_if (breach rule.Tag bytes) (not (tag == byte "F")) >>= λ _. frame_at form behind
         >>= λ frame. frames_at form most frame.1 >>= λ others. Ok (frame.0 ∷ others.0, others.1))) ≡ Ok x
-        → ((after : List ℕ) (y : List PlainFrame × List ℕ) → AreBytes after → frames_at form most after ≡ Ok y
+        → ((after : List ℕ) (y : List Frame × List ℕ) → AreBytes after → frames_at form most after ≡ Ok y
         → FramesTake form after y.0 y.1)
         → FramesTake form bytes x.0 x.1
     of_tag tag behind first true is same later =
-        subst (λ (y : List PlainFrame × List ℕ). FramesTake form bytes y.0 y.1) (ok_is ([], behind) x same)
+        subst (λ (y : List Frame × List ℕ). FramesTake form bytes y.0 y.1) (ok_is ([], behind) x same)
         (no_frames_take form bytes behind tag first (eqb-true tag (byte "J") is))
     of_tag tag behind first false is same later =
         let test = bind_ok (refuse_if (breach rule.Tag bytes) (not (tag == byte "F"))) _ x same in
@@ -136,32 +137,32 @@ frames_take form (suc most) bytes x fits h =
         let others = bind_ok (frames_at form most frame.0.1) _ x frame.2 in
         let tag_is : tag ≡ byte "F" = eqb-true tag (byte "F") (not_false (tag == byte "F") (passed _ _ test.0 test.1)) in
         let body = frame_takes form behind frame.0 first.fits frame.1 in
-        let made : List PlainFrame × List ℕ = (frame.0.0 ∷ others.0.0, others.0.1) in
-        subst (λ (y : List PlainFrame × List ℕ). FramesTake form bytes y.0 y.1) {x = made} (ok_is made x others.2)
+        let made : List Frame × List ℕ = (frame.0.0 ∷ others.0.0, others.0.1) in
+        subst (λ (y : List Frame × List ℕ). FramesTake form bytes y.0 y.1) {x = made} (ok_is made x others.2)
         (one_frame_takes form bytes behind frame.0.1 others.0.1 tag frame.0.0 others.0.0 first tag_is body.0 body.1
         (later frame.0.1 others.0 body.0.fits others.1))
 
-pub frames_again : (form : FilmForm) (frames : List PlainFrame) (most : ℕ) (rest : List ℕ) → AllByRecursion (IsFrame form) frames
-    → length frames < most → frames_at form most (flat_map (plain_frame form) frames ++ byte "J" ∷ rest) ≡ Ok (frames, rest)
+pub frames_again : (form : FilmForm) (frames : List Frame) (most : ℕ) (rest : List ℕ) → AllByRecursion (IsFrame form) frames
+    → length frames < most → frames_at form most (flat_map (frame_bytes form) frames ++ byte "J" ∷ rest) ≡ Ok (frames, rest)
 unfolding frames_at
 frames_again form [] zero rest each few = absurd (omega arith)
 frames_again form [] (suc most) rest each few = refl
 frames_again form (f ∷ frames) zero rest each few = absurd (omega arith)
 frames_again form (f ∷ frames) (suc most) rest each few =
-    let regrouped : flat_map (plain_frame form) (f ∷ frames) ++ byte "J" ∷ rest
-    ≡ byte "F" ∷ (frame_body form f ++ (flat_map (plain_frame form) frames ++ byte "J" ∷ rest)) =
-    append_assoc (plain_frame form f) (flat_map (plain_frame form) frames) (byte "J" ∷ rest)
-    ∙ ap (λ (t : List ℕ). t ++ (flat_map (plain_frame form) frames ++ byte "J" ∷ rest)) (plain_frame_is form f) in
+    let regrouped : flat_map (frame_bytes form) (f ∷ frames) ++ byte "J" ∷ rest
+    ≡ byte "F" ∷ (frame_body form f ++ (flat_map (frame_bytes form) frames ++ byte "J" ∷ rest)) =
+    append_assoc (frame_bytes form f) (flat_map (frame_bytes form) frames) (byte "J" ∷ rest)
+    ∙ ap (λ (t : List ℕ). t ++ (flat_map (frame_bytes form) frames ++ byte "J" ∷ rest)) (frame_bytes_is form f) in
     ap (frames_at form (suc most)) regrouped
     ∙ rw (
-      frame_again form f (flat_map (plain_frame form) frames ++ byte "J" ∷ rest) each.0,
+      frame_again form f (flat_map (frame_bytes form) frames ++ byte "J" ∷ rest) each.0,
       frames_again form frames most rest each.1 (omega arith),
     ) refl
 
 -- there are no more frames than bytes
-pub frames_fit : (form : FilmForm) (frames : List PlainFrame) → length frames ≤ length (flat_map (plain_frame form) frames)
+pub frames_fit : (form : FilmForm) (frames : List Frame) → length frames ≤ length (flat_map (frame_bytes form) frames)
 frames_fit form [] = omega arith
 frames_fit form (f ∷ frames) =
     let later = frames_fit form frames in
-    let one = ap length (plain_frame_is form f) in
-    omega (arith, later, one, length-append (plain_frame form f) (flat_map (plain_frame form) frames))
+    let one = ap length (frame_bytes_is form f) in
+    omega (arith, later, one, length-append (frame_bytes form f) (flat_map (frame_bytes form) frames))

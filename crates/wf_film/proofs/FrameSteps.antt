@@ -7,7 +7,7 @@ use Rattle.wf_words.specs.Refusals.{◌>>=◌}
 use Rattle.wf_film.specs.declared.form.FilmForm.{FilmForm}
 use Rattle.wf_film.specs.declared.rule.Breach.{Breach}
 use Rattle.wf_film.specs.declared.rule.Rule.TheVariants as rule
-use Rattle.wf_film.specs.Plain.{PlainFrame}
+use Rattle.wf_film.specs.Film.{Frame}
 use Rattle.wf_film.specs.Reading.{Read, behind, byte_at, counted, frame_at, frames_at}
 use Rattle.wf_film.specs.Rules.{breach}
 use Rattle.wf_film.proofs.FieldLaws.{byte_takes}
@@ -15,11 +15,11 @@ use Rattle.wf_film.proofs.Steps.{AreBytes, Takes, takes_length}
 use Rattle.wf_film.proofs.FrameLaws.{frame_body, frame_takes}
 
 -- with so many frames before
-abbrev pub more_frames : ℕ → Read (List PlainFrame) → Read ℕ
+abbrev pub more_frames : ℕ → Read (List Frame) → Read ℕ
 more_frames n (Ok read) = Ok (n + length read.0, read.1)
 more_frames n (Err broken) = Err broken
 
-pub none_before : (read : Read (List PlainFrame)) → more_frames 0 read ≡ counted read
+pub none_before : (read : Read (List Frame)) → more_frames 0 read ≡ counted read
 none_before (Ok read) = ap (λ (n : ℕ). Ok (n, read.1)) (omega arith)
 none_before (Err broken) = refl
 
@@ -59,7 +59,7 @@ broken_frame form zero n [] rest e few read broken = absurd cc
 broken_frame form zero n (b ∷ bytes) rest e few read broken = absurd (omega arith)
 broken_frame form (suc most) n bytes rest e few read broken = rw read (of_frame (frame_at form rest) broken)
   where
-    of_frame : (r : Read PlainFrame) → behind r ≡ Err e
+    of_frame : (r : Read Frame) → behind r ≡ Err e
         → more_frames n (r >>= λ frame. frames_at form most frame.1 >>= λ others. Ok (frame.0 ∷ others.0, others.1)) ≡ Err e
     of_frame (Ok x) same = absurd cc
     of_frame (Err d) same = cc
@@ -71,12 +71,12 @@ pub one_frame : (form : FilmForm) (most n : ℕ) (bytes rest after : List ℕ) �
 unfolding frames_at
 one_frame form most n bytes rest after read frame = rw read (of_frame (frame_at form rest) frame)
   where
-    of_others : (f : PlainFrame) (r : Read (List PlainFrame))
+    of_others : (f : Frame) (r : Read (List Frame))
         → more_frames n (r >>= λ others. Ok (f ∷ others.0, others.1)) ≡ more_frames (n + 1) r
     of_others f (Ok x) = ap (λ (k : ℕ). Ok (k, x.1)) (omega arith)
     of_others f (Err d) = refl
 
-    of_frame : (r : Read PlainFrame) → behind r ≡ Ok after
+    of_frame : (r : Read Frame) → behind r ≡ Ok after
         → more_frames n (r >>= λ frame. frames_at form most frame.1 >>= λ others. Ok (frame.0 ∷ others.0, others.1))
         ≡ more_frames (n + 1) (frames_at form most after)
     of_frame (Ok x) same =
@@ -92,7 +92,7 @@ behind_one_frame form bytes rest after tag fits read h = of_frame (frame_at form
     first : Takes bytes (tag ∷ []) rest
     first = byte_takes bytes (tag, rest) fits read
 
-    of_frame : (r : Read PlainFrame) → frame_at form rest ≡ r → behind r ≡ Ok after → (length after < length bytes) × AreBytes after
+    of_frame : (r : Read Frame) → frame_at form rest ≡ r → behind r ≡ Ok after → (length after < length bytes) × AreBytes after
     of_frame (Ok x) read same =
         let is : x.1 ≡ after = cc in
         let takes = (frame_takes form rest x first.fits read).0 in

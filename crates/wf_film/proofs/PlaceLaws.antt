@@ -10,7 +10,7 @@ use Rattle.wf_film.specs.declared.form.FilmForm.{FilmForm}
 use Rattle.wf_film.specs.declared.form.FilmForm.TheVariants as forms
 use Rattle.wf_film.specs.declared.rule.Breach.{Breach}
 use Rattle.wf_film.specs.declared.rule.Rule.TheVariants as rule
-use Rattle.wf_film.specs.Plain.{PlainFilm, magic_of}
+use Rattle.wf_film.specs.Film.{PlainFilm, magic}
 use Rattle.wf_film.specs.Reading.{Read, begin_at, byte_at, byte_within, end_at, film_at, form_at, frame_at, frames_at, is_within}
 use Rattle.wf_film.specs.Reading.{journal_at, number_at, outlined, pixels_at, read_film, side_at, turn_at, turns_at}
 use Rattle.wf_film.specs.Rules.{breach, ends_here}
@@ -83,8 +83,8 @@ unfolding form_at
 form_less bytes =
     let behind = length-drop 4 bytes in
     chosen_less bytes (nat_lt (length bytes) 4) (Err ends_here) _ (omega arith)
-    (chosen_less bytes (bytes_eq (take 4 bytes) (magic_of forms.One)) (Ok (forms.One, drop 4 bytes)) _ (omega (arith, behind))
-    (chosen_less bytes (bytes_eq (take 4 bytes) (magic_of forms.Two)) (Ok (forms.Two, drop 4 bytes)) (Err (breach rule.Magic bytes))
+    (chosen_less bytes (bytes_eq (take 4 bytes) (magic forms.One)) (Ok (forms.One, drop 4 bytes)) _ (omega (arith, behind))
+    (chosen_less bytes (bytes_eq (take 4 bytes) (magic forms.Two)) (Ok (forms.Two, drop 4 bytes)) (Err (breach rule.Magic bytes))
     (omega (arith, behind)) (omega arith)))
 
 begin_less : (form : FilmForm) (bytes : List ℕ) → LeavesLess bytes (begin_at form bytes)

@@ -1,5 +1,5 @@
 -- Films as bytes, and how they are read.
 pub mod Film
-pub mod Plain
+pub mod Stands
 pub mod Rules
 pub mod Reading

@@ -11,7 +11,8 @@ use Rattle.wf_film.specs.declared.form.FilmForm.{FilmForm}
 use Rattle.wf_film.specs.declared.form.FilmForm.TheVariants as forms
 use Rattle.wf_film.specs.declared.rule.Breach.{Breach}
 use Rattle.wf_film.specs.declared.rule.Rule.TheVariants as rule
-use Rattle.wf_film.specs.Plain.{PlainFrame, PlainFilm, Outline, magic_of, outline}
+use Rattle.wf_film.specs.Film.{Frame, PlainFilm, magic}
+use Rattle.wf_film.specs.Stands.{Outline, outline}
 use Rattle.wf_film.specs.Rules.{breach, ends_here, rule_number}
 
 -- what was read from the front of the bytes and the bytes behind it, or the rule that is broken and how many bytes are left there
@@ -59,8 +60,8 @@ pixels_at n bytes = if nat_lt (length bytes) n then Err ends_here else Ok (take 
 unfoldable pub form_at : List ℕ → Read FilmForm
 form_at bytes =
     if nat_lt (length bytes) 4 then Err ends_here
-    else (if bytes_eq (take 4 bytes) (magic_of forms.One) then Ok (forms.One, drop 4 bytes)
-    else (if bytes_eq (take 4 bytes) (magic_of forms.Two) then Ok (forms.Two, drop 4 bytes)
+    else (if bytes_eq (take 4 bytes) (magic forms.One) then Ok (forms.One, drop 4 bytes)
+    else (if bytes_eq (take 4 bytes) (magic forms.Two) then Ok (forms.Two, drop 4 bytes)
     else Err (breach rule.Magic bytes)))
 
 -- the begin of a frame, which form 1 leaves out
@@ -71,7 +72,7 @@ begin_at forms.Two bytes = number_at 4 bytes
 -- frames
 
 -- a frame behind its tag
-unfoldable pub frame_at : FilmForm → List ℕ → Read PlainFrame
+unfoldable pub frame_at : FilmForm → List ℕ → Read Frame
 frame_at form bytes = do
   port ← byte_within 1 4 bytes
   tick ← number_at 4 port.1
@@ -82,7 +83,7 @@ frame_at form bytes = do
   Ok (record { port = port.0; tick = tick.0; begin = begin.0; size = record { w = w.0; h = h.0 }; pixels = pixels.0 }, pixels.1)
 
 -- the frames up to the tag of the journal, and that tag; `most` is no less than the number of bytes
-unfoldable pub frames_at : FilmForm → ℕ → List ℕ → Read (List PlainFrame)
+unfoldable pub frames_at : FilmForm → ℕ → List ℕ → Read (List Frame)
 frames_at form zero bytes = Err ends_here
 frames_at form (suc most) bytes = do
   tag ← byte_at bytes

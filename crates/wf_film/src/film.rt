@@ -1,7 +1,7 @@
 //! The film that was read.
 
 ghost use Rattle.std.specs.Prelude.{◌≡◌};
-ghost use Rattle.wf_film.specs.Plain.{Outline};
+ghost use Rattle.wf_film.specs.Stands.{Outline};
 
 use crate::form::FilmForm;
 use std::marker::Model;
@@ -16,7 +16,7 @@ pub struct Film {
 }
 
 impl Model for Film {
-    ghost use Rattle.wf_film.specs.Plain.{Outline};
+    ghost use Rattle.wf_film.specs.Stands.{Outline};
 
     ghost Value = { Outline };
 

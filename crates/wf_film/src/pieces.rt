@@ -1,8 +1,10 @@
 //! The small pieces of a film, made on the stack.
 
-ghost use Rattle.std.specs.Prelude.{◌≡◌, ◌*◌, ◌^◌, ◌<◌, ◌≤◌, length};
-ghost use Rattle.wf_film.specs.Film.{frame_of, frame_head, journal_head, turn_bytes};
+ghost use Rattle.std.specs.Prelude.{◌≡◌, ℕ, ◌*◌, ◌^◌, ◌<◌, ◌≤◌, length};
+ghost use Rattle.wf_film.specs.Film.{frame_head, frame_of, journal_head, magic, turn_bytes};
+ghost use Rattle.wf_film.specs.declared.form.FilmForm.TheVariants as forms;
 
+use crate::form::FilmForm;
 use byteorder::{BigEndian, ByteOrder};
 use wf_calls::{Order, Turn};
 use wf_image::Image;
@@ -16,10 +18,20 @@ pub(crate) const MAGIC_OF_TWO: [u8; 4] = *b"WFF2";
 /// What a film ends with.
 pub(crate) const END: [u8; 1] = *b"E";
 
-/// What stands before a frame's pixels.
-pub(crate) fn head_of_frame(port: u8, tick: u32, image: &Image) -> [u8; 10]
-    ensures bytes { result ≡ frame_head (frame_of port tick image.now) }
-    ensures most { image.now.size.w * image.now.size.h ≤ 1024 * 1024 }
+/// What a film of a form begins with.
+pub(crate) fn magic_of(form: FilmForm) -> [u8; 4]
+    ensures { result ≡ magic form }
+{
+    match form {
+        FilmForm::One => MAGIC,
+        FilmForm::Two => MAGIC_OF_TWO,
+    }
+}
+
+/// What stands before a frame's pixels in form 1.
+pub(crate) fn head_without_begin(port: u8, tick: u32, image: &Image) -> [u8; 10]
+    ensures bytes { (begin : ℕ) → result ≡ frame_head forms.One (frame_of port tick begin image.now) }
+    ensures small { image.now.size.w * image.now.size.h ≤ 1024 * 1024 }
 {
     let size = image.size();
     let mut head = [b'F'; 10];
@@ -27,6 +39,21 @@ pub(crate) fn head_of_frame(port: u8, tick: u32, image: &Image) -> [u8; 10]
     BigEndian::write_u32(&mut head[2..], tick);
     BigEndian::write_u16(&mut head[6..], size.w as u16);
     BigEndian::write_u16(&mut head[8..], size.h as u16);
+    head
+}
+
+/// What stands before a frame's pixels in form 2.
+pub(crate) fn head_with_begin(port: u8, tick: u32, begin: u32, image: &Image) -> [u8; 14]
+    ensures bytes { result ≡ frame_head forms.Two (frame_of port tick begin image.now) }
+    ensures small { image.now.size.w * image.now.size.h ≤ 1024 * 1024 }
+{
+    let size = image.size();
+    let mut head = [b'F'; 14];
+    head[1] = port;
+    BigEndian::write_u32(&mut head[2..], tick);
+    BigEndian::write_u32(&mut head[6..], begin);
+    BigEndian::write_u16(&mut head[10..], size.w as u16);
+    BigEndian::write_u16(&mut head[12..], size.h as u16);
     head
 }
 

@@ -1,7 +1,8 @@
 //! Reads a film.
 
 ghost use Rattle.std.specs.Prelude.{◌≡◌, IfOk, OnOk};
-ghost use Rattle.wf_film.specs.Plain.{IsWhole, PlainFilm, Stands, outline};
+ghost use Rattle.wf_film.specs.Film.{PlainFilm};
+ghost use Rattle.wf_film.specs.Stands.{IsWhole, Stands, outline};
 ghost use Rattle.wf_film.specs.Reading.{TellsFault, TellsFilm, behind, end_at, film_fault, outlined, read_film};
 ghost use Rattle.wf_film.specs.Rules.{Finds, Gives};
 

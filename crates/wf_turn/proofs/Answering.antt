@@ -60,15 +60,15 @@ same_canvas is_new (payload.Canvas canvas) (payload.Job wanted) same = absurd cc
 same_canvas is_new given payload.Nothing same = ap given_canvas same
 same_canvas is_new given (payload.Canvas canvas) same = ap given_canvas same
 
--- a program with its Job painted, and the frame that is shown with it
-abbrev pub outcome : Program → Program × List Frame
-outcome p = (worked p, frames_of p)
+-- a program with its Job painted, and the frame that is shown with it, by the place of the turn that begins it
+abbrev pub outcome : Program → Program × (ℕ → List Frame)
+outcome p = (worked p, λ begin. frames_of begin p)
 
 same_job : (p : Program) (is_new : Bool) (given wanted : Payload) (l : Option Leg) → SamePayload is_new wanted given
     → outcome (took_job p given l) ≡ outcome (took_job p wanted l)
 same_job p is_new (payload.Job job) (payload.Job wanted) l same =
     let of : JobKind → Job → Program
-    × List Frame = λ k j. (record p { job = Some j; unpainted = false; stage = stage.Ending l }, shown k p.tick j) in
+    × (ℕ → List Frame) = λ k j. (record p { job = Some j; unpainted = false; stage = stage.Ending l }, λ begin. shown k p.tick begin j) in
     ap (λ k. of k (painted_job job)) same.kind ∙ ap (of wanted.kind) (same_work is_new wanted job same)
 same_job p is_new payload.Nothing (payload.Job wanted) l same = absurd cc
 same_job p is_new (payload.Canvas canvas) (payload.Job wanted) l same = absurd cc

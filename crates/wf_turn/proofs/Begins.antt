@@ -16,10 +16,10 @@ use Rattle.wf_model.specs.Registers.{offered}
 -- the same; without a running frame it shows nothing
 pub record Leaves (p now : Program) (frame : Option Running) : Type 0 where
   pub ends : IfSome frame (λ f. Ends f (worked now) × (now.lines ≡ p.lines))
-  pub shows : frame ≡ None → frames_of now ≡ []
+  pub shows : frame ≡ None → (begin : ℕ) → frames_of begin now ≡ []
 
 no_frame : (p now : Program) (o : Option Running) → o ≡ None → now.unpainted ≡ false → Leaves p now o
-no_frame p now o none painted = record { ends = rw none tt; shows = λ free. rw painted refl }
+no_frame p now o none painted = record { ends = rw none tt; shows = λ free begin. rw painted refl }
 
 -- a turn while no frame runs
 module _ (p : Program) (h : State) (client : ℕ) (m : Bool) (free : h.frame ≡ None) (painted : p.unpainted ≡ false) where
@@ -43,7 +43,7 @@ module _ (p : Program) (h : State) (client : ℕ) (m : Bool) (free : h.frame ≡
       by_begin (λ x. Leaves p (took_job q x.1.payload (next_of x.1.value)) x.0.frame) h w.call m begin
       (λ register code a. no_frame p (go_on q (next_of a.value)) (offered register code h).frame (offered_frame register code h ∙ free)
       (on_painted q clean (next_of a.value)))
-      (λ b is. record { ends = (own_job b h, same); shows = λ none. absurd cc })
+      (λ b is. record { ends = (own_job b h, same); shows = λ none begin. absurd cc })
 
   at_end : (job : Job) (l : Option Leg) → Left (plain (call.End job)) (λ reply. go_on (record p { job = None; unpainted = false }) l)
   unfolding step act
@@ -64,8 +64,8 @@ module _ (p : Program) (h : State) (client : ℕ) (m : Bool) (free : h.frame ≡
         ended = λ job held l. at_end job l;
       }) asks
 
-pub nothing_shown : (q : Program) → q.unpainted ≡ false → frames_of q ≡ []
-nothing_shown q painted = rw painted refl
+pub nothing_shown : (begin : ℕ) (q : Program) → q.unpainted ≡ false → frames_of begin q ≡ []
+nothing_shown begin q painted = rw painted refl
 
 -- a turn of the program that ends the running frame
 module _ (p : Program) (h : State) (client : ℕ) (m : Bool) (w : Wanted) (f : Running) (runs : h.frame ≡ Some f) (ends : Ends f p)
@@ -74,7 +74,7 @@ module _ (p : Program) (h : State) (client : ℕ) (m : Bool) (w : Wanted) (f : R
   pub record Ended : Type 0 where
     pub plain_is : w.wait ≡ false
     pub free : (step h client w.call m).0.frame ≡ None
-    pub shows : frames_of (took p (step h client w.call m).1) ≡ []
+    pub shows : (begin : ℕ) → frames_of begin (took p (step h client w.call m).1) ≡ []
 
   at_job : (l : Line) (leg : Option Leg) (o : Option Job) → first_line p ≡ Some l → p.stage ≡ stage.Ending leg → p.job ≡ o
       → EndsAt o f (stage.Ending leg) → Ended
@@ -86,10 +86,10 @@ module _ (p : Program) (h : State) (client : ℕ) (m : Bool) (w : Wanted) (f : R
       record {
         plain_is = ap (λ y. y.wait) (sym is_end);
         free = subst (λ y. (step h client y.call m).0.frame ≡ None) is_end (rw (runs, own) refl);
-        shows =
+        shows = λ begin.
             let q : Program = go_on (record p { job = None; unpainted = false }) leg in
             let goes : took p (step h client w.call m).1 ≡ q = rw (is, at) refl in
-            ap frames_of goes ∙ nothing_shown q (on_painted (record p { job = None; unpainted = false }) refl leg);
+            ap (frames_of begin) goes ∙ nothing_shown begin q (on_painted (record p { job = None; unpainted = false }) refl leg);
       }
 
   at_stage : (l : Line) (s : Stage) → first_line p ≡ Some l → p.stage ≡ s → EndsAt p.job f s → Ended

@@ -20,12 +20,13 @@ plain_calls handle (verb.Compose d c) = tt
 plain_calls handle (verb.TryCompose d c) = tt
 plain_calls handle _ = refl
 
--- the tick in which a frame is asked for: a port's frame waits, and is of the running tick; a new tick begins with contexts
+-- the tick in which a frame is asked for: a port's frame waits, and is of the running tick, in which that port comes next; a new
+-- tick begins with contexts
 abbrev pub IsTick : Program → Wanted → ℕ → Type 0
 IsTick p w tick = of_call w.call
   where
     of_call : Call → Type 0
-    of_call (call.BeginPort port) = (n : ℕ) × (port ≡ pos n) × (w.wait ≡ true) × (p.tick ≡ tick)
+    of_call (call.BeginPort port) = (n : ℕ) × (port ≡ pos n) × (w.wait ≡ true) × (p.tick ≡ tick) × (p.stage ≡ stage.Ticking (leg.Ports n))
     of_call (call.BeginNext after) = w.wait ≡ true
     of_call _ = Unit {0}
 
@@ -90,17 +91,18 @@ module _ (p : Program) (T : Wanted → (Reply → Program) → Type 0) where
       (cases.asks begins refl p.tick p.stage (λ v. None) tt)
   first_case w cases l v asks = of_plain w cases (plain_call (handle p) v) asks (plain_calls (handle p) v)
 
-  stage_case : (w : Wanted) → Cases → (l : Line) (s : Stage) → wanted_at p l.verb s ≡ Some w → T w (λ reply. took_at p l reply s)
-  stage_case w cases l stage.Fresh asks = first_case w cases l l.verb asks
-  stage_case w cases l stage.Posting asks = canvas_goes w cases call.Post (λ c. refl) asks
-  stage_case w cases l (stage.Ticking (leg.Contexts asked last)) asks =
+  stage_case : (w : Wanted) → Cases → (l : Line) (s : Stage) → p.stage ≡ s → wanted_at p l.verb s ≡ Some w
+      → T w (λ reply. took_at p l reply s)
+  stage_case w cases l stage.Fresh is asks = first_case w cases l l.verb asks
+  stage_case w cases l stage.Posting is asks = canvas_goes w cases call.Post (λ c. refl) asks
+  stage_case w cases l (stage.Ticking (leg.Contexts asked last)) is asks =
       of_begin w (waiting (call.BeginNext last)) (λ reply. took_job p reply.payload (Some (leg.Contexts (asked + 1) reply.value))) asks
       (cases.asks (waiting (call.BeginNext last)) refl p.tick p.stage (λ v. Some (leg.Contexts (asked + 1) v)) refl)
-  stage_case w cases l (stage.Ticking (leg.Ports port)) asks =
+  stage_case w cases l (stage.Ticking (leg.Ports port)) is asks =
       of_begin w (waiting (call.BeginPort (pos port))) (λ reply. took_job p reply.payload (Some (leg.Ports (port + 1)))) asks
       (cases.asks (waiting (call.BeginPort (pos port))) refl p.tick p.stage (λ v. Some (leg.Ports (port + 1)))
-      (port, refl, refl, refl))
-  stage_case w cases l (stage.Ending m) asks =
+      (port, refl, refl, refl, is))
+  stage_case w cases l (stage.Ending m) is asks =
       of_held w p.job call.End (λ reply. go_on (record p { job = None; unpainted = false }) m) asks (λ job held. cases.ended job held m)
 
   pub turn_case : (w : Wanted) → Cases → next p ≡ Some w → T w (λ reply. took p reply)
@@ -108,4 +110,4 @@ module _ (p : Program) (T : Wanted → (Reply → Program) → Type 0) where
     where
       of_line : (o : Option Line) → first_line p ≡ o → T w (λ reply. took p reply)
       of_line None none = absurd (let no : None ≡ Some w = rw none at asks in cc)
-      of_line (Some l) is = rw is (stage_case w cases l p.stage (rw is at asks))
+      of_line (Some l) is = rw is (stage_case w cases l p.stage refl (rw is at asks))

@@ -105,19 +105,19 @@ handed_get P keeps before now i q found holds =
     taught_get (clock ∷ others) zero r found holds = (let same : r ≡ clock = cc in subst P same holds)
     taught_get (clock ∷ others) (suc j) r found holds = mapped_get clock others j r found holds
 
-pub shown_handed : (painted : Bool) (before now : List Program) (i : ℕ) (q : Program) → slice_get now i ≡ Some q
-    → shown_by painted (handed_on before now) i ≡ frames_if painted q
-shown_handed painted before now i q found =
+pub shown_handed : (begin : ℕ) (painted : Bool) (before now : List Program) (i : ℕ) (q : Program) → slice_get now i ≡ Some q
+    → shown_by begin painted (handed_on before now) i ≡ frames_if begin painted q
+shown_handed begin painted before now i q found =
     elim (is_setting_up before && not (is_setting_up now))
-    as (λ b. shown_by painted (cond b (all_taught now) now) i ≡ frames_if painted q) [
+    as (λ b. shown_by begin painted (cond b (all_taught now) now) i ≡ frames_if begin painted q) [
       | true ↦ taught_shown now i q found
       | false ↦ rw found refl
     ]
   where
     taught_shown : (ps : List Program) (j : ℕ) (r : Program) → slice_get ps j ≡ Some r
-        → shown_by painted (all_taught ps) j ≡ frames_if painted r
+        → shown_by begin painted (all_taught ps) j ≡ frames_if begin painted r
     taught_shown [] j r found = absurd cc
-    taught_shown (clock ∷ others) zero r found = (let same : clock ≡ r = cc in ap (frames_if painted) same)
+    taught_shown (clock ∷ others) zero r found = (let same : clock ≡ r = cc in ap (frames_if begin painted) same)
     taught_shown (clock ∷ others) (suc j) r found = rw (get_map (taught clock) others j r found) refl
 
 -- the program of another client than the clock's

@@ -23,6 +23,7 @@ pub use Rattle.wf_calls.specs.declared.code.Code.{Code}
 pub use Rattle.wf_calls.specs.declared.order.Turn.{Turn}
 pub use Rattle.wf_calls.specs.declared.reply.Payload.{Payload}
 pub use Rattle.wf_calls.specs.declared.reply.Reply.{Reply}
+pub use Rattle.wf_film.specs.declared.form.FilmForm.{FilmForm}
 pub use Rattle.wf_film.specs.Film.{Frame, frame_bytes, frame_of, tail_bytes}
 pub use Rattle.wf_image.specs.Bitmap.{Bitmap}
 unfoldable pub use Rattle.wf_image.specs.Bitmap.{drawn}
@@ -50,6 +51,7 @@ pub use Rattle.wf_script.specs.declared.name.Name.{Name}
 pub use Rattle.wf_stream.specs.Buffers.{Buffers, acquired}
 pub use Rattle.wf_stream.specs.Streams.{KeptStream, stream_at, stream_of}
 pub use Rattle.wf_turn.specs.Calls.{IsPut, context_call, element_call, plain_call}
+pub use Rattle.wf_turn.specs.Films.{PlaysFilm}
 pub use Rattle.wf_turn.specs.Index.{names_of, next_place, place_in}
 pub use Rattle.wf_turn.specs.Inside.{IsProgram, program_of}
 pub use Rattle.wf_turn.specs.Moments.{Begins, IsOfMoment}
@@ -67,7 +69,7 @@ pub use Rattle.wf_turn.specs.Program.{ticking, took, took_at, took_canvas, took_
 pub use Rattle.wf_turn.specs.Program.{worked}
 pub use Rattle.wf_turn.specs.Quota.{all_left, left, line_quota, lines_left, most_turns, quota, quota_of}
 pub use Rattle.wf_turn.specs.Ready.{AreOf, IsAsking, IsAt, IsFit, IsWork}
-pub use Rattle.wf_turn.specs.Serial.{IsNextTurn, IsRun, PlaysFilm}
+pub use Rattle.wf_turn.specs.Serial.{IsNextTurn, IsRun}
 pub use Rattle.wf_turn.specs.Turns.{Show, all_taught, answered, frames_of, handed_on, is_setting_up, opening_show, program_at, shown}
 unfoldable pub use Rattle.wf_turn.specs.Turns.{turn}
 pub use Rattle.wf_turn.specs.declared.program.Program.TheInside.{Inside}

@@ -4,16 +4,22 @@ use Rattle.wf_turn.proofs.Common.{inl, inr, refl, sym, ap, subst, arith, append_
 use Rattle.wf_turn.proofs.Common.{range_with_len, length-append, sum_by-cons, Turn, Frame, frame_bytes, tail_bytes, Puts, PutsPart}
 use Rattle.wf_turn.proofs.Common.{puts_both, stops_late, Line, PlainScript, first_client, frames_after, replay, PlaysTurns, StopsTurns}
 use Rattle.wf_turn.proofs.Common.{with_frames, Program, lines_from, place_of, program, all_left, left, line_quota, lines_left, most_turns}
-use Rattle.wf_turn.proofs.Common.{quota, quota_of, IsRun, PlaysFilm, Show, opening_show}
-use Rattle.std.proofs.Common.{Err}
-use Rattle.wf_film.specs.Film.{head_bytes, magic}
+use Rattle.wf_turn.proofs.Common.{quota, quota_of, IsRun, PlaysFilm, Show, FilmForm, IsTrue, opening_show}
+use Rattle.std.proofs.Common.{Err, Result}
+use Rattle.std.specs.List.{list_all}
+use Rattle.wf_film.specs.declared.form.FilmForm.TheVariants as forms
+use Rattle.wf_film.specs.Film.{Writing, head_bytes, magic}
+use Rattle.wf_script.specs.Script.{may_tick}
 use Rattle.wf_turn.specs.declared.player.PlayStop.{PlayStop}
 use Rattle.wf_turn.specs.declared.player.PlayStop.TheVariants as stop
 use Rattle.wf_turn.specs.declared.stage.Stage.TheVariants as stage
 use Rattle.wf_turn.proofs.Framing.{next_behind}
 use Rattle.wf_turn.proofs.Lefts.{left_before}
 use Rattle.wf_turn.proofs.QuotaSums.{most_40}
-use Rattle.wf_turn.proofs.Serials.{begins_serial, complete, is_serial, replayed, run_more}
+use Rattle.wf_turn.specs.Films.{clock_turns}
+use Rattle.wf_turn.specs.Serial.{IsInFileOrder}
+use Rattle.wf_turn.proofs.Clocks.{opening_clocked, run_clocked, shows_alone}
+use Rattle.wf_turn.proofs.Serials.{begins_serial, complete, is_serial, legal, replayed, run_more}
 
 -- how many events the programs make at most
 
@@ -40,7 +46,7 @@ quota_from client at (l ∷ lines) =
           omega (arith, rest, this, sum_by-cons (quota_of client) l lines))
     ] refl
 
-left_opening : (script : PlainScript) (client : ℕ) → left (program script client) ≤ quota script.lines client
+pub left_opening : (script : PlainScript) (client : ℕ) → left (program script client) ≤ quota script.lines client
 left_opening script client =
     let start : Program = record {
       script = script;
@@ -72,61 +78,81 @@ left_most script = left_all script (range_with_len 0 8)
 pub left_few : (script : PlainScript) → all_left (opening_show script).programs ≤ 40 * length script.lines
 left_few script = omega (arith, left_most script, most_40 script.lines)
 
-module _ {K : Type 0} (took : K → List ℕ → Type 0) (script : PlainScript) where
+pub magic_length : (form : FilmForm) → length (magic form) ≡ 4
+magic_length forms.One = refl
+magic_length forms.Two = refl
+
+-- the clock's entries of an order that ends with one of them
+one_turn : (t : Turn) → t.client ≡ 0 → clock_turns (t ∷ []) ≡ t ∷ []
+one_turn t own = rw own refl
+
+module _ {K : Type 0} (took : K → List ℕ → Type 0) (form : FilmForm) (script : PlainScript) where
   abbrev start : Show
   start = opening_show script
+
+  -- a play of the script has put its film, and its order is that of the file
+  abbrev pub Plays : K → K → Result (List Turn) PlayStop → Type 0
+  Plays k a result = PlaysFilm took k a form script result × IsInFileOrder script result
 
   -- the magic and the frames of a run
   head_is : (now : Show) (order : List Turn) (frames : List Frame) → IsRun start order (with_frames frames now)
       → length order ≤ 40 * length script.lines → frames_after (replay script order) ≡ frames
   head_is now order frames run few = ap frames_after (replayed script (with_frames frames now) order run few)
 
-  head_put : (k a b : K) (written : ℕ) (now : Show) (order : List Turn) → Puts took k a magic
-      → (plays : PlaysTurns took a b (length magic) written start now order) → Puts took k b (head_bytes plays.frames)
-  head_put k a b written now order first plays = puts_both took k a b magic (flat_map frame_bytes plays.frames) first plays.put
+  head_put : (k a b : K) (written : ℕ) (now : Show) (order : List Turn) → Puts took k a (magic form)
+      → (plays : PlaysTurns took a b form (length (magic form)) written start now order) → Puts took k b (head_bytes form plays.frames)
+  head_put k a b written now order first plays =
+      puts_both took k a b (magic form) (flat_map (frame_bytes form) plays.frames) first plays.put
 
-  pub whole : (k a b c : K) (written : ℕ) (now : Show) (order : List Turn) → Puts took k a magic
-      → PlaysTurns took a b (length magic) written start now order → first_client (map place_of now.programs) ≡ None
+  pub whole : (k a b c : K) (written : ℕ) (now : Show) (order : List Turn) → Puts took k a (magic form)
+      → PlaysTurns took a b form (length (magic form)) written start now order → first_client (map place_of now.programs) ≡ None
       → length order ≤ all_left start.programs
-      → Puts took b c (tail_bytes order) → PlaysFilm took k c script (Ok order)
+      → Puts took b c (tail_bytes order) → Plays k c (Ok order)
   whole k a b c written now order first plays over many tail =
       let few : length order ≤ 40 * length script.lines = omega (arith, many, left_few script) in
-      let frames = head_is now order plays.frames plays.run few in (
-        subst (λ fs. Puts took k c (head_bytes fs ++ tail_bytes order)) (sym frames)
-            (puts_both took k b c (head_bytes plays.frames) (tail_bytes order) (head_put k a b written now order first plays) tail),
-        is_serial script (with_frames plays.frames now) order plays.run few over,
+      let frames = head_is now order plays.frames plays.run few in
+      let last = with_frames plays.frames now in (
+        (
+          subst (λ fs. Puts took k c (head_bytes form fs ++ tail_bytes order)) (sym frames)
+              (puts_both took k b c (head_bytes form plays.frames) (tail_bytes order) (head_put k a b written now order first plays) tail),
+          complete script last order plays.run few over,
+        ),
+        is_serial script last order plays.run few over,
       )
 
-  pub cut_magic : (k a : K) (written : ℕ) → PutsPart took k a 0 magic written → PlaysFilm took k a script (Err (stop.WriteFault written []))
-  cut_magic k a written part = record {
-    serial = begins_serial script start [] refl (omega arith);
-    cut = inl (record { put = part; none = refl });
-  }
+  pub cut_magic : (k a : K) (written : ℕ) → PutsPart took k a 0 (magic form) written → Plays k a (Err (stop.WriteFault written []))
+  cut_magic k a written part = (
+    record { legal = legal script start [] refl (omega arith); cut = inl (record { put = part; none = refl }) },
+    begins_serial script start [] refl (omega arith),
+  )
 
-  pub cut_journal : (k a b c : K) (middle written : ℕ) (now : Show) (order : List Turn) → Puts took k a magic
-      → PlaysTurns took a b (length magic) middle start now order → first_client (map place_of now.programs) ≡ None
+  pub cut_journal : (k a b c : K) (middle written : ℕ) (now : Show) (order : List Turn) → Puts took k a (magic form)
+      → PlaysTurns took a b form (length (magic form)) middle start now order → first_client (map place_of now.programs) ≡ None
       → length order ≤ all_left start.programs → PutsPart took b c middle (tail_bytes order) written
-      → PlaysFilm took k c script (Err (stop.WriteFault written order))
+      → Plays k c (Err (stop.WriteFault written order))
   cut_journal k a b c middle written now order first plays over many part =
       let few : length order ≤ 40 * length script.lines = omega (arith, many, left_few script) in
       let frames = head_is now order plays.frames plays.run few in
-      let at : middle ≡ 0 + length (head_bytes plays.frames) =
-      omega (arith, plays.written_is, length-append magic (flat_map frame_bytes plays.frames)) in
-      record {
-        serial = begins_serial script (with_frames plays.frames now) order plays.run few;
-        cut = inr (inr (record {
-          complete = complete script (with_frames plays.frames now) order plays.run few over;
-          put = subst (λ fs. PutsPart took k c 0 (head_bytes fs ++ tail_bytes order) written) (sym frames)
-              (stops_late took k b c 0 middle (head_bytes plays.frames) (tail_bytes order) written
-              (head_put k a b middle now order first plays) at part);
-          least = subst (λ fs. length (head_bytes fs) ≤ written) (sym frames) (omega (arith, at, part.least));
-        }));
-      }
+      let last = with_frames plays.frames now in
+      let at : middle ≡ 0 + length (head_bytes form plays.frames) =
+      omega (arith, plays.written_is, length-append (magic form) (flat_map (frame_bytes form) plays.frames)) in (
+        record {
+          legal = legal script last order plays.run few;
+          cut = inr (inr (record {
+            complete = complete script last order plays.run few over;
+            put = subst (λ fs. PutsPart took k c 0 (head_bytes form fs ++ tail_bytes order) written) (sym frames)
+                (stops_late took k b c 0 middle (head_bytes form plays.frames) (tail_bytes order) written
+                (head_put k a b middle now order first plays) at part);
+            least = subst (λ fs. length (head_bytes form fs) ≤ written) (sym frames) (omega (arith, at, part.least));
+          }));
+        },
+        begins_serial script last order plays.run few,
+      )
 
-  pub cut_frame : (k a b : K) (written : ℕ) (now : Show) (order : List Turn) → Puts took k a magic
-      → StopsTurns took a b (length magic) written start now order → length order ≤ all_left start.programs
-      → PlaysFilm took k b script (Err (stop.WriteFault written order))
-  cut_frame k a b written now order first stops many =
+  pub cut_frame : list_all may_tick script.lines ≡ true → (k a b : K) (written : ℕ) (now : Show) (order : List Turn)
+      → Puts took k a (magic form) → StopsTurns took a b form (length (magic form)) written start now order
+      → length order ≤ all_left start.programs → Plays k b (Err (stop.WriteFault written order))
+  cut_frame ticks k a b written now order first stops many =
       let few : length order ≤ 40 * length script.lines = omega (arith, many, left_few script) in
       let fs = stops.frames ++ stops.frame ∷ [] in
       let begun : IsRun start (stops.before ++ stops.begins ∷ []) (with_frames fs stops.middle) =
@@ -148,42 +174,53 @@ module _ {K : Type 0} (took : K → List ℕ → Type 0) (script : PlainScript) 
       let frames = head_is now order fs run few in
       let joined : fs ≡ frames_after (replay script stops.before) ++ stops.frame ∷ [] =
       ap (λ gs. gs ++ stops.frame ∷ []) (sym before_frames) in
-      record {
-        serial = begins_serial script (with_frames fs now) order run few;
-        cut = inr (inl (record {
-          before = stops.before;
-          begins = stops.begins;
-          ends = stops.ends;
-          frame = stops.frame;
-          order_is = stops.played_is;
-          shows = begun_frames ∙ joined;
-          last = frames ∙ joined;
-          own = stops.own;
-          put = subst (λ gs. PutsPart took k b 0 (head_bytes gs) written) (sym frames)
-              (stops_late took k a b 0 (length magic) magic (flat_map frame_bytes fs) written first refl stops.part);
-          least = subst (λ gs. length (head_bytes gs) ≤ written) (sym before_frames)
-              (omega (arith, stops.least, length-append magic (flat_map frame_bytes stops.frames)));
-        }));
-      }
+      let clocked = run_clocked start (with_frames stops.frames stops.last) stops.before stops.run (opening_clocked script ticks) in
+      let own = shows_alone (with_frames stops.frames stops.last) stops.middle stops.begins stops.frame clocked stops.begun in (
+        record {
+          legal = legal script (with_frames fs now) order run few;
+          cut = inr (inl (record {
+            before = stops.before;
+            begins = stops.begins;
+            later = stops.ends ∷ [];
+            ends = stops.ends;
+            frame = stops.frame;
+            order_is = stops.played_is;
+            own = own;
+            only = one_turn stops.ends (stops.own ∙ own);
+            shows = begun_frames ∙ joined;
+            last = frames ∙ joined;
+            put = subst (λ gs. PutsPart took k b 0 (head_bytes form gs) written) (sym frames)
+                (stops_late took k a b 0 (length (magic form)) (magic form) (flat_map (frame_bytes form) fs) written first
+                (omega arith) stops.part);
+            least = subst (λ gs. length (head_bytes form gs) ≤ written) (sym before_frames)
+                (omega (arith, stops.least, length-append (magic form) (flat_map (frame_bytes form) stops.frames)));
+          }));
+        },
+        begins_serial script (with_frames fs now) order run few,
+      )
 
   -- the stop that is answered
   pub stop_is : (k a : K) (r : PlayStop) (written : ℕ) (given order : List Turn) → r ≡ stop.WriteFault written given → given ≡ order
-      → PlaysFilm took k a script (Err (stop.WriteFault written order)) → PlaysFilm took k a script (Err r)
-  stop_is k a r written given order is same plays = subst (λ x. PlaysFilm took k a script (Err x))
+      → Plays k a (Err (stop.WriteFault written order)) → Plays k a (Err r)
+  stop_is k a r written given order is same plays = subst (λ x. Plays k a (Err x))
       (sym (is ∙ ap (λ o. stop.WriteFault written o) same)) plays
 
   -- a show that is open, and what was written before it
-  pub turns_open : (s : Show) → s ≡ start → (a b : K) (was written : ℕ) (now : Show) (order : List Turn) → was ≡ length magic
-      → PlaysTurns took a b was written s now order → PlaysTurns took a b (length magic) written start now order
+  pub turns_open : (s : Show) → s ≡ start → (a b : K) (was : Writing) (written : ℕ) (now : Show) (order : List Turn)
+      → was ≡ record { form = form; written = length (magic form) }
+      → PlaysTurns took a b was.form was.written written s now order
+      → PlaysTurns took a b form (length (magic form)) written start now order
   turns_open s opened a b was written now order begins plays =
-      subst (λ v. PlaysTurns took a b (length magic) written v now order) opened
-      (subst (λ n. PlaysTurns took a b n written s now order) begins plays)
+      subst (λ v. PlaysTurns took a b form (length (magic form)) written v now order) opened
+      (subst (λ (w : Writing). PlaysTurns took a b w.form w.written written s now order) begins plays)
 
-  pub stops_open : (s : Show) → s ≡ start → (a b : K) (was written : ℕ) (now : Show) (order : List Turn) → was ≡ length magic
-      → StopsTurns took a b was written s now order → StopsTurns took a b (length magic) written start now order
+  pub stops_open : (s : Show) → s ≡ start → (a b : K) (was : Writing) (written : ℕ) (now : Show) (order : List Turn)
+      → was ≡ record { form = form; written = length (magic form) }
+      → StopsTurns took a b was.form was.written written s now order
+      → StopsTurns took a b form (length (magic form)) written start now order
   stops_open s opened a b was written now order begins stops =
-      subst (λ v. StopsTurns took a b (length magic) written v now order) opened
-      (subst (λ n. StopsTurns took a b n written s now order) begins stops)
+      subst (λ v. StopsTurns took a b form (length (magic form)) written v now order) opened
+      (subst (λ (w : Writing). StopsTurns took a b w.form w.written written s now order) begins stops)
 
 -- there is room for all turns of a show that is open, and few enough bytes
 pub left_open : (s : Show) (script : PlainScript) → s ≡ opening_show script → all_left s.programs ≤ most_turns script.lines

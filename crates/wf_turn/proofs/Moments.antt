@@ -27,11 +27,13 @@ module _ (show : Show) (client : ℕ) (m : Bool) (p : Program) (stands : program
     abbrev AreBegun : Turn → List Frame → Type 0
     AreBegun t frames = All (λ f. Begins f show t) frames
 
-    none_begun : (t : Turn) (q : Program) → q.unpainted ≡ false → AreBegun t (frames_of q)
-    none_begun t q clean = subst (AreBegun t) (sym (nothing_shown q clean)) (All-nil (λ f. Begins f show t))
+    none_begun : (t : Turn) (q : Program) → q.unpainted ≡ false → AreBegun t (frames_of show.turns q)
+    none_begun t q clean = subst (AreBegun t) (sym (nothing_shown show.turns q clean)) (All-nil (λ f. Begins f show t))
 
     abbrev Told : Wanted → (Reply → Program) → Type 0
-    Told w now = next p ≡ Some w → AreBegun (entry client (step h client w.call m).1) (frames_of (now (step h client w.call m).1))
+    Told w now =
+        let reply = (step h client w.call m).1 in
+        next p ≡ Some w → AreBegun (entry client reply) (frames_of show.turns (now reply))
 
     -- a call whose answer brings no Job
     at_other : (c : Call) (now : Reply → Program) → ((reply : Reply) → (now reply).unpainted ≡ false) → Told (plain c) now
@@ -39,25 +41,26 @@ module _ (show : Show) (client : ℕ) (m : Bool) (p : Program) (stands : program
 
     -- a frame of a context shows nothing
     of_context : (c : Context) (tick : ℕ) (b : Beginning) → IsOfContext c h b
-        → AreBegun (entry client (start b h).1) (shown b.kind tick (painted_job (job_of b h)))
+        → AreBegun (entry client (start b h).1) (shown b.kind tick show.turns (painted_job (job_of b h)))
     of_context c tick b own =
         let t = entry client (start b h).1 in
-        subst (λ k. AreBegun t (shown k tick (painted_job (job_of b h)))) (sym (ap (λ x. x.kind) own.is))
+        subst (λ k. AreBegun t (shown k tick show.turns (painted_job (job_of b h)))) (sym (ap (λ x. x.kind) own.is))
         (All-nil (λ f. Begins f show t))
 
     -- a frame of a port shows what the port shows
     of_port : (n tick : ℕ) → p.tick ≡ tick → next p ≡ Some (waiting (call.BeginPort (pos n))) → (b : Beginning)
         → begin_call (call.BeginPort (pos n)) h ≡ Ok (Some b)
-        → AreBegun (entry client (start b h).1) (shown b.kind tick (painted_job (job_of b h)))
+        → AreBegun (entry client (start b h).1) (shown b.kind tick show.turns (painted_job (job_of b h)))
     of_port n tick at asks b is =
         let own = port_is (pos n) h b is in
         let its = port_beginning (pos n) (begun_display n h.display) own.scene in
         let t = entry client (start its h).1 in
-        subst (λ x. AreBegun (entry client (start x h).1) (shown x.kind tick (painted_job (job_of x h)))) (sym own.is)
-        (All-cons (λ f. Begins f show t) (frame_of n tick (painted_job (job_of its h)).image) []
+        subst (λ x. AreBegun (entry client (start x h).1) (shown x.kind tick show.turns (painted_job (job_of x h)))) (sym own.is)
+        (All-cons (λ f. Begins f show t) (frame_of n tick show.turns (painted_job (job_of its h)).image) []
         (record {
           asks = record { program = p; own = stands; next_is = asks };
           tick = at;
+          place = refl;
           code = refl;
           value = refl;
           shows = rw own.shows refl;
@@ -67,7 +70,7 @@ module _ (show : Show) (client : ℕ) (m : Bool) (p : Program) (stands : program
     -- a frame that is asked for
     begun : (c : Call) (wait : Bool) (tick : ℕ) → IsTick p (record { call = c; wait = wait }) tick
         → next p ≡ Some (record { call = c; wait = wait }) → is_begin c ≡ true → (b : Beginning) → begin_call c h ≡ Ok (Some b)
-        → AreBegun (entry client (start b h).1) (shown b.kind tick (painted_job (job_of b h)))
+        → AreBegun (entry client (start b h).1) (shown b.kind tick show.turns (painted_job (job_of b h)))
     begun (call.BeginNext after) wait tick at asks begins b is =
         let own = next_is after h b is in
         of_context own.context tick b own.own
@@ -86,7 +89,7 @@ module _ (show : Show) (client : ℕ) (m : Bool) (p : Program) (stands : program
     unfolding step
     at_question w begins tick s next_of at asks =
         let q = record p { tick = tick; stage = s } in
-        by_begin (λ x. AreBegun (entry client x.1) (frames_of (took_job q x.1.payload (next_of x.1.value)))) h w.call m begins
+        by_begin (λ x. AreBegun (entry client x.1) (frames_of show.turns (took_job q x.1.payload (next_of x.1.value)))) h w.call m begins
         (λ register code a. none_begun (entry client (bare a)) (go_on q (next_of a.value)) (on_painted q painted (next_of a.value)))
         (begun w.call w.wait tick at asks begins)
 
@@ -106,14 +109,14 @@ module _ (show : Show) (client : ℕ) (m : Bool) (p : Program) (stands : program
         }) asks
 
 -- what a turn adds to a show: frames that its entry tells of
-record Adds (show after : Show) (t : Turn) : Type 0 where
-  painted : AllHold IsPainted after.programs
-  frames : List Frame
-  behind : after.frames ≡ show.frames ++ frames
-  begun : All (λ f. Begins f show t) frames
+pub record Adds (show after : Show) (t : Turn) : Type 0 where
+  pub painted : AllHold IsPainted after.programs
+  pub frames : List Frame
+  pub behind : after.frames ≡ show.frames ++ frames
+  pub begun : All (λ f. Begins f show t) frames
 
-turn_adds : (show : Show) (client : ℕ) (m : Bool) (done : Show × Turn) → AllHold IsPainted show.programs → turn show client m ≡ Some done
-    → Adds show done.0 done.1
+pub turn_adds : (show : Show) (client : ℕ) (m : Bool) (done : Show × Turn) → AllHold IsPainted show.programs
+    → turn show client m ≡ Some done → Adds show done.0 done.1
 turn_adds show client m done are taken =
     let t = turn_of show client m done taken in
     let reply : Reply = (step show.state client t.wanted.call m).1 in
@@ -121,7 +124,7 @@ turn_adds show client m done are taken =
     subst (λ x. Adds show x.0 x.1) t.is
     (record {
       painted = handed_hold IsPainted show.programs client (worked (took t.program reply)) (worked_painted (took t.program reply)) are;
-      frames = frames_of (took t.program reply);
+      frames = frames_of show.turns (took t.program reply);
       behind = refl;
       begun = turn_told show client m t.program t.stands own t.wanted t.asks t.asks;
     })

@@ -1,7 +1,7 @@
 -- The show before the first turn.
 use Rattle.wf_turn.proofs.Common.{◌≡◌, ◌∙◌, ℕ, zero, suc, ◌+◌, ◌≤◌, true, false, ◌&&◌, [], ◌∷◌, ◌++◌, map, length, None, refl, ap}
 use Rattle.wf_turn.proofs.Common.{arith, nat_le, list_all, range_with_len, and_parts, length-map, may_declare, PlainScript, IsCast, Program}
-use Rattle.wf_turn.proofs.Common.{lines_from, program, AreOf, opening_show, ArePainted}
+use Rattle.wf_turn.proofs.Common.{lines_from, program, AreOf, IsFit, opening_show, ArePainted}
 use Rattle.std.proofs.lemmas.Bool.{leb-true}
 use Rattle.wf_calls.specs.PortRules.{may_have}
 use Rattle.wf_turn.specs.declared.stage.Stage.TheVariants as stage
@@ -18,18 +18,11 @@ few_ports script declared =
     let third = and_parts (nat_le 1 (length script.ports.modes.items)) (nat_le (length script.ports.modes.items) 4) second.0 in
     leb-true (length script.ports.modes.items) 4 third.1
 
-are_opening : (script : PlainScript) → length script.ports.modes.items ≤ 4 → (k n : ℕ)
-    → AreOf script k (map (program script) (range_with_len k n))
-are_opening script few k zero = tt
-are_opening script few k (suc n) = (
-  refl,
-  refl,
-  fit_before (start k) (lines_from k 0 script.lines) few refl,
-  are_opening script few (k + 1) n,
-)
+fit_opening : (script : PlainScript) → length script.ports.modes.items ≤ 4 → (client : ℕ) → IsFit (program script client)
+fit_opening script few client = fit_before start (lines_from client 0 script.lines) few refl
   where
-    start : ℕ → Program
-    start client = record {
+    start : Program
+    start = record {
       script = script;
       client = client;
       lines = [];
@@ -41,6 +34,15 @@ are_opening script few k (suc n) = (
       stage = stage.Fresh;
       tick = 0;
     }
+
+-- a program can make its first call
+pub opening_fit : (script : PlainScript) → may_declare script.ports ≡ true → (client : ℕ) → IsFit (program script client)
+opening_fit script declared client = fit_opening script (few_ports script declared) client
+
+are_opening : (script : PlainScript) → length script.ports.modes.items ≤ 4 → (k n : ℕ)
+    → AreOf script k (map (program script) (range_with_len k n))
+are_opening script few k zero = tt
+are_opening script few k (suc n) = (refl, refl, fit_opening script few k, are_opening script few (k + 1) n)
 
 pub opening_cast : (script : PlainScript) → may_declare script.ports ≡ true → IsCast (opening_show script)
 opening_cast script declared =

@@ -30,11 +30,10 @@ carried wanted given job ok answer has =
     rw is at carries
 
 -- a Job that comes with the answer to a call that begins a frame can be painted
-begun_paintable : (h : State) (client : ℕ) (c : Call) (reply : Reply) (job : Job) → is_begin c ≡ true → MayAnswer h client c reply
-    → reply.payload ≡ payload.Job job → IsPaintable job
+begun_paintable : (m : Bool) (h : State) (client : ℕ) (c : Call) (reply : Reply) (job : Job) → is_begin c ≡ true
+    → IsAnswer (step h client c m).1 reply → reply.payload ≡ payload.Job job → IsPaintable job
 unfolding step
-begun_paintable h client c reply job begins may has =
-    let m = is_out_of_memory reply.code in
+begun_paintable m h client c reply job begins may has =
     carried (act h c m).1 reply job
     (by_begin (λ x. JobIsOk x.1) h c m begins (λ register code a j has. absurd cc) (λ b is j has. refl)) may has
 
@@ -52,11 +51,15 @@ on_painted p painted l = on_holds IsPainted p l painted
 abbrev CanBePainted : Option Job → Bool → Type 0
 CanBePainted job unpainted = IsTrue unpainted → IfSome job IsPaintable
 
+pub took_marked_work : (m : Bool) (p : Program) (h : State) (client : ℕ) (w : Wanted) (reply : Reply) → p.unpainted ≡ false
+    → IsAnswer (step h client w.call m).1 reply → next p ≡ Some w → IsWork (took p reply)
+took_marked_work m p h client w reply painted may asks =
+    took_holds CanBePainted (λ unpainted. tt) p w reply (λ unpainted. absurd (cc (painted, unpainted)))
+    (λ begins job has unpainted. begun_paintable m h client w.call reply job begins may has) asks
+
 pub took_work : (p : Program) (h : State) (client : ℕ) (w : Wanted) (reply : Reply) → p.unpainted ≡ false → MayAnswer h client w.call reply
     → next p ≡ Some w → IsWork (took p reply)
-took_work p h client w reply painted may asks =
-    took_holds CanBePainted (λ unpainted. tt) p w reply (λ unpainted. absurd (cc (painted, unpainted)))
-    (λ begins job has unpainted. begun_paintable h client w.call reply job begins may has) asks
+took_work p h client w reply painted may asks = took_marked_work (is_out_of_memory reply.code) p h client w reply painted may asks
 
 pub canvas_painted : (p : Program) → p.unpainted ≡ false → (reply : Reply) → (took_canvas p reply.payload).unpainted ≡ false
 canvas_painted p painted reply = done_painted (record p { canvas = given_canvas reply.payload }) painted 0

@@ -28,13 +28,13 @@ taken_turn t (Some done) after is = of_same (same_turn done.1 t) refl
 abbrev pub next_show : Show → Turn → Option Show
 next_show show t = replay_turn t (turn show t.client (is_marked t))
 
-replay_step : (show : Show) (t : Turn) (ts : List Turn) (o : Option Show) → next_show show t ≡ o
+pub replay_step : (show : Show) (t : Turn) (ts : List Turn) (o : Option Show) → next_show show t ≡ o
     → replay_from show (t ∷ ts) ≡ elim o as (λ _. Option Show) [ None ↦ None | Some after ↦ replay_from after ts ]
 unfolding replay_from
 replay_step show t ts o is = ap (λ x. elim x as (λ _. Option Show) [ None ↦ None | Some after ↦ replay_from after ts ]) is
 
 -- an entry more is a turn more
-replay_more : (start show after : Show) (ts : List Turn) (t : Turn) → replay_from start ts ≡ Some show → next_show show t ≡ Some after
+pub replay_more : (start show after : Show) (ts : List Turn) (t : Turn) → replay_from start ts ≡ Some show → next_show show t ≡ Some after
     → replay_from start (ts ++ t ∷ []) ≡ Some after
 replay_more start show after [] t reached is =
     let same : Some start ≡ Some show = sym (nothing_replayed start) ∙ reached in
@@ -45,6 +45,20 @@ replay_more start show after (u ∷ us) t reached is =
       | None ↦ λ none. absurd (let no : None ≡ Some show = sym (replay_step start u us None none) ∙ reached in cc)
       | Some s ↦ λ some. replay_step start u (us ++ t ∷ []) (Some s) some
           ∙ replay_more s show after us t (sym (replay_step start u us (Some s) some) ∙ reached) is
+    ] refl
+
+-- an entry more that is no turn ends it
+pub replay_ends : (start show : Show) (ts : List Turn) (t : Turn) → replay_from start ts ≡ Some show → next_show show t ≡ None
+    → replay_from start (ts ++ t ∷ []) ≡ None
+replay_ends start show [] t reached is =
+    let same : Some start ≡ Some show = sym (nothing_replayed start) ∙ reached in
+    let own : start ≡ show = ap (λ o. unwrap_or o show) same in
+    replay_step start t [] None (ap (λ s. next_show s t) own ∙ is)
+replay_ends start show (u ∷ us) t reached is =
+    elim (next_show start u) as (λ o. next_show start u ≡ o → replay_from start (u ∷ us ++ t ∷ []) ≡ None) [
+      | None ↦ λ none. replay_step start u (us ++ t ∷ []) None none
+      | Some s ↦ λ some. replay_step start u (us ++ t ∷ []) (Some s) some
+          ∙ replay_ends s show us t (sym (replay_step start u us (Some s) some) ∙ reached) is
     ] refl
 
 -- a turn of the order: the entries before it and behind it, and the show that it leaves
@@ -98,7 +112,7 @@ pub record TurnOf (show : Show) (client : ℕ) (m : Bool) (done : Show × Turn) 
   pub asks : next program ≡ Some wanted
   pub is : answered show client program (step show.state client wanted.call m) ≡ done
 
-own_program : (show : Show) (client : ℕ) (p : Program) → program_at show client ≡ Some p → slice_get show.programs client ≡ Some p
+pub own_program : (show : Show) (client : ℕ) (p : Program) → program_at show client ≡ Some p → slice_get show.programs client ≡ Some p
 own_program show client p at =
     elim (not (client == 0) && is_setting_up show.programs) as (λ b. cond b None (slice_get show.programs client) ≡ Some p
     → slice_get show.programs client ≡ Some p) [ true ↦ λ e. absurd cc | false ↦ λ e. e ] at

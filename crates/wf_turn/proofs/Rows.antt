@@ -13,6 +13,7 @@ use Rattle.wf_script.specs.declared.line.Value.{Value}
 use Rattle.wf_script.specs.declared.line.Value.TheVariants as value
 use Rattle.wf_script.specs.declared.line.Verb.TheVariants as verb
 use Rattle.wf_calls.specs.declared.call.Call.TheVariants as call
+use Rattle.wf_film.specs.declared.form.FilmForm.TheVariants as forms
 use Rattle.wf_turn.specs.Play.{film}
 
 abbrev line : ℕ → Verb → Line
@@ -56,7 +57,7 @@ written_serially : serial_order written [] ≡ written_order
 unfolding serial_from turn step act drawn
 written_serially = refl
 
-written_film : length (film written written_order) ≡ 46
+written_film : length (film forms.Two written written_order) ≡ 46
 unfolding replay_from turn step act drawn
 written_film = refl
 
@@ -99,6 +100,7 @@ grey_screen =
     record {
       port = 1;
       tick = 1;
+      begin = 16;
       size = record { w = 4; h = 2 };
       pixels = 9 ∷ 9 ∷ 9 ∷ 255 ∷ 9 ∷ 9 ∷ 9 ∷ 255 ∷ 9 ∷ 9 ∷ 9 ∷ 255 ∷ 9 ∷ 9 ∷ 9 ∷ 255 ∷ 9 ∷ 9 ∷ 9 ∷ 255 ∷ 9 ∷ 9 ∷ 9 ∷ 255 ∷ 9 ∷ 9 ∷ 9 ∷ 255
           ∷ 9 ∷ 9 ∷ 9 ∷ 255 ∷ [];
@@ -108,9 +110,13 @@ composed_frames : frames_after (replay composed composed_order) ≡ grey_screen 
 unfolding replay_from turn step act drawn
 composed_frames = refl
 
-composed_film : length (film composed composed_order) ≡ 160
+composed_film_of_one : length (film forms.One composed composed_order) ≡ 160
 unfolding replay_from turn step act drawn
-composed_film = refl
+composed_film_of_one = refl
+
+composed_film_of_two : length (film forms.Two composed composed_order) ≡ 164
+unfolding replay_from turn step act drawn
+composed_film_of_two = refl
 
 -- a device, and a tick without any scene: the creation of the device tells 1, and so does the Begin of port 1. The frame
 -- is of the moment of that Begin, and not of the creation
@@ -124,7 +130,7 @@ abbrev created_order : List Turn
 created_order = before_port ++ entry 0 0 1 ∷ entry 0 0 0 ∷ []
 
 abbrev black : Frame
-black = record { port = 1; tick = 1; size = record { w = 1; h = 1 }; pixels = 0 ∷ 0 ∷ 0 ∷ 255 ∷ [] }
+black = record { port = 1; tick = 1; begin = 2; size = record { w = 1; h = 1 }; pixels = 0 ∷ 0 ∷ 0 ∷ 255 ∷ [] }
 
 created_frames : frames_after (replay created created_order) ≡ black ∷ []
 unfolding replay_from turn step act drawn
@@ -144,6 +150,7 @@ begun_at_port =
     record {
       asks = record { program = clock_of (show_after before_port).programs; own = refl; next_is = refl };
       tick = refl;
+      place = refl;
       code = refl;
       value = refl;
       shows = refl;

@@ -3,15 +3,15 @@ use Rattle.wf_turn.proofs.Common.{◌≡◌, ◌∙◌, ℕ, zero, suc, ◌+◌,
 use Rattle.wf_turn.proofs.Common.{length, Option, Some, None, refl, sym, ap, subst, arith, append-nil, filter, enumerate_from, IsSomeAnd}
 use Rattle.wf_turn.proofs.Common.{eq-eqb, nat_tests, is_in, Turn, PlainScript, first_client, is_marked, replay, replay_from, replay_turn}
 use Rattle.wf_turn.proofs.Common.{same_turn, serial_from, serial_order, place_of, IsNextTurn, IsRun, Show, opening_show, turn}
-use Rattle.wf_turn.specs.Play.{IsComplete, marks}
-use Rattle.wf_turn.specs.Serial.{BeginsSerial, IsSerial}
+use Rattle.wf_turn.specs.Play.{IsComplete, IsLegal, marks}
+use Rattle.wf_turn.specs.Serial.{BeginsSerial}
 use Rattle.wf_turn.proofs.Clients.{all_through}
 
 same_self : (t : Turn) → same_turn t t ≡ true
 same_self t = rw (eq-eqb t.client t.client refl, eq-eqb t.code t.code refl, eq-eqb t.value t.value refl) refl
 
 -- one turn of a replay
-replay_next : (show after : Show) (t : Turn) (ts : List Turn) → turn show t.client (is_marked t) ≡ Some (after, t)
+pub replay_next : (show after : Show) (t : Turn) (ts : List Turn) → turn show t.client (is_marked t) ≡ Some (after, t)
     → replay_from show (t ∷ ts) ≡ replay_from after ts
 unfolding replay_from
 replay_next show after t ts e =
@@ -133,10 +133,12 @@ module _ (script : PlainScript) (after : Show) (order : List Turn) (run : IsRun 
       ++ serial_from (40 * length script.lines - length order) (0 + length order) (marks order) after
   begins_with = run_serial (40 * length script.lines) 0 (marks order) (opening_show script) after order run (marks_tell 0 order) few
 
+  pub legal : IsLegal script order
+  legal = rw replayed refl
+
   pub begins_serial : BeginsSerial script order
   begins_serial =
       record {
-        legal = rw replayed refl;
         rest = serial_from (40 * length script.lines - length order) (0 + length order) (marks order) after;
         serial = begins_with;
       }
@@ -145,10 +147,6 @@ module _ (script : PlainScript) (after : Show) (order : List Turn) (run : IsRun 
     pub complete : IsComplete script order
     complete = rw replayed (all_through after.programs over)
 
-    pub is_serial : IsSerial script order
-    is_serial =
-        record {
-          complete = complete;
-          serial = sym (begins_with ∙ ap (λ us. order ++ us)
-              (serial_end (40 * length script.lines - length order) (0 + length order) (marks order) after over) ∙ append-nil order);
-        }
+    pub is_serial : order ≡ serial_order script (marks order)
+    is_serial = sym (begins_with ∙ ap (λ us. order ++ us)
+        (serial_end (40 * length script.lines - length order) (0 + length order) (marks order) after over) ∙ append-nil order)

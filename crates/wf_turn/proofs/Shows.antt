@@ -77,10 +77,10 @@ module _ (s : Show) (client : ℕ) (p q : Program) (left_state : State) (t : Tur
   programs_now = handed_on s.programs placed
 
   abbrev pub show_now : Show
-  show_now = record { state = left_state; programs = programs_now; frames = [] }
+  show_now = record { state = left_state; programs = programs_now; frames = []; turns = s.turns + 1 }
 
-  frames_are : frames_of (took p W.1) ≡ shown_by painted programs_now client
-  frames_are = takes.frames ∙ sym (shown_handed painted s.programs placed client q (get_set s.programs client p q found))
+  frames_are : frames_of s.turns (took p W.1) ≡ shown_by s.turns painted programs_now client
+  frames_are = takes.frames s.turns ∙ sym (shown_handed s.turns painted s.programs placed client q (get_set s.programs client p q found))
 
   takes_turn : turn (with_frames [] s) client (is_marked t) ≡ Some (answered (with_frames [] s) client p W)
   unfolding turn
@@ -89,22 +89,23 @@ module _ (s : Show) (client : ℕ) (p q : Program) (left_state : State) (t : Tur
   pub client_is : t.client ≡ client
   client_is = ap (λ x. x.client) takes.entry_is
 
-  pub turns : TurnsTo s t (shown_by painted programs_now client) show_now
+  pub turns : TurnsTo s t (shown_by s.turns painted programs_now client) show_now
   turns =
       let show : State → Program → List Frame → Show = λ h r frames. record {
         state = h;
         programs = handed_on s.programs (set s.programs client r);
         frames = frames;
+        turns = s.turns + 1;
       } in
       record {
         first = subst (λ n. IsFirst s.programs n) (sym client_is) first;
         taken =
             ap (λ n. turn (with_frames [] s) n (is_marked t)) client_is
             ∙ takes_turn
-            ∙ ap (λ h. Some (show h (worked (took p W.1)) (frames_of (took p W.1)), entry client W.1)) (sym takes.state)
-            ∙ ap (λ r. Some (show left_state r (frames_of (took p W.1)), entry client W.1)) (sym takes.program)
+            ∙ ap (λ h. Some (show h (worked (took p W.1)) (frames_of s.turns (took p W.1)), entry client W.1)) (sym takes.state)
+            ∙ ap (λ r. Some (show left_state r (frames_of s.turns (took p W.1)), entry client W.1)) (sym takes.program)
             ∙ ap (λ frames. Some (show left_state q frames, entry client W.1)) frames_are
-            ∙ ap (λ x. Some (show left_state q (shown_by painted programs_now client), x)) (sym takes.entry_is);
+            ∙ ap (λ x. Some (show left_state q (shown_by s.turns painted programs_now client), x)) (sym takes.entry_is);
       }
 
   of_p : IsOf cast.script (0 + client) p
@@ -229,18 +230,18 @@ module _ (s : Show) (client : ℕ) (p q : Program) (left_state : State) (t : Tur
   paintable is = handed_get (λ r. IsSomeAnd r.job IsPaintable) (λ clock r can. can) s.programs placed client q
       (get_set s.programs client p q found) (takes.paintable is)
 
-  pub begun : left_state.frame ≡ None → shown_by painted programs_now client ≡ []
+  pub begun : left_state.frame ≡ None → shown_by s.turns painted programs_now client ≡ []
   begun free_now = sym frames_are ∙ of_frame s.state.frame refl
     where
-      of_frame : (o : Option Running) → s.state.frame ≡ o → frames_of (took p W.1) ≡ []
-      of_frame (Some f) was = (ended p s.state client (is_marked t) takes.wanted f was (ends_now f was) takes.asks).shows
-      of_frame None free = (leaves free).shows (sym (ap (λ h. h.frame) takes.state) ∙ free_now)
+      of_frame : (o : Option Running) → s.state.frame ≡ o → frames_of s.turns (took p W.1) ≡ []
+      of_frame (Some f) was = (ended p s.state client (is_marked t) takes.wanted f was (ends_now f was) takes.asks).shows s.turns
+      of_frame None free = (leaves free).shows (sym (ap (λ h. h.frame) takes.state) ∙ free_now) s.turns
 
-  pub ended_shows : IsSome s.state.frame → shown_by painted programs_now client ≡ []
+  pub ended_shows : IsSome s.state.frame → shown_by s.turns painted programs_now client ≡ []
   ended_shows runs = sym frames_are ∙ of_frame s.state.frame refl
     where
-      of_frame : (o : Option Running) → s.state.frame ≡ o → frames_of (took p W.1) ≡ []
-      of_frame (Some f) was = (ended p s.state client (is_marked t) takes.wanted f was (ends_now f was) takes.asks).shows
+      of_frame : (o : Option Running) → s.state.frame ≡ o → frames_of s.turns (took p W.1) ≡ []
+      of_frame (Some f) was = (ended p s.state client (is_marked t) takes.wanted f was (ends_now f was) takes.asks).shows s.turns
       of_frame None free = absurd (let no : IsSome none_running = subst (λ o. IsSome o) free runs in cc)
 
 -- the program whose turn it is, if the client is one of the eight
@@ -285,7 +286,7 @@ has_turn s seen client is cast are first allowed within =
 module _ (s : Show) (client : ℕ) (h : State) (placed : List Program) (t : Turn) (has : HasTurn s client)
     (takes : TakesTurnAt client s.state h s.programs placed t) where
   abbrev pub show_left : Show
-  show_left = record { state = h; programs = handed_on s.programs placed; frames = [] }
+  show_left = record { state = h; programs = handed_on s.programs placed; frames = []; turns = s.turns + 1 }
 
   -- the program whose turn it was
   record Taken : Type 0 where
@@ -327,7 +328,7 @@ module _ (s : Show) (client : ℕ) (h : State) (placed : List Program) (t : Turn
   work_after = rw here taken.work
 
   abbrev with_programs : List Program → Show
-  with_programs ps = record { state = h; programs = ps; frames = [] }
+  with_programs ps = record { state = h; programs = ps; frames = []; turns = s.turns + 1 }
 
   pub cast_after : IsCast (all_painted show_left)
   cast_after =
@@ -354,6 +355,7 @@ module _ (s : Show) (client : ℕ) (h : State) (placed : List Program) (t : Turn
           let k = again s client p q h t b has.cast has.first has.allowed found one in
           record {
             next = turns s client p q h t b has.cast has.first has.allowed found one;
+            turns = refl;
             client_is = client_is s client p q h t b has.cast has.first has.allowed found one;
             fewer = fewer s client p q h t b has.cast has.first has.allowed found one;
             paintable = paintable s client p q h t b has.cast has.first has.allowed found one;

@@ -11,7 +11,7 @@ use Rattle.wf_turn.proofs.Begins.{ended}
 use Rattle.wf_turn.proofs.Painting.{took_work}
 
 -- an entry marks what the answer tells
-marked_is : (c : Code) → (code_number c == 1) ≡ is_out_of_memory c
+pub marked_is : (c : Code) → (code_number c == 1) ≡ is_out_of_memory c
 marked_is code.Ok = refl
 marked_is code.OutOfMemory = refl
 marked_is code.IllegalArgument = refl
@@ -27,11 +27,11 @@ marked_is code.Inconsistency = refl
 marked_is code.Limit = refl
 
 -- the frame of a Job is that of the painted one
-work_frames : (p : Program) → frames_of p ≡ frames_if (is_work p) (worked p)
-work_frames p = by_parts p.unpainted p.job
+pub work_frames : (begin : ℕ) (p : Program) → frames_of begin p ≡ frames_if begin (is_work p) (worked p)
+work_frames begin p = by_parts p.unpainted p.job
   where
-    by_parts : (b : Bool) (o : Option Job) → frames_of (record p { job = o; unpainted = b })
-        ≡ frames_if (is_work (record p { job = o; unpainted = b })) (worked (record p { job = o; unpainted = b }))
+    by_parts : (b : Bool) (o : Option Job) → frames_of begin (record p { job = o; unpainted = b })
+        ≡ frames_if begin (is_work (record p { job = o; unpainted = b })) (worked (record p { job = o; unpainted = b }))
     by_parts true None = refl
     by_parts true (Some job) = refl
     by_parts false None = refl
@@ -42,7 +42,7 @@ painted_one : (job : Job) → IsPaintable job → IsPaintable (painted_job job)
 unfolding drawn
 painted_one job can = record { port = can.port; fits = can.fits; size = refl; four = can.four }
 
-still_paintable : (p : Program) → IsWork p → IsTrue (is_work p) → IsSomeAnd (worked p).job IsPaintable
+pub still_paintable : (p : Program) → IsWork p → IsTrue (is_work p) → IsSomeAnd (worked p).job IsPaintable
 still_paintable p work is = by_parts p.unpainted p.job work is
   where
     by_parts : (b : Bool) (o : Option Job) → IsWork (record p { job = o; unpainted = b })
@@ -106,11 +106,11 @@ turn_taken client h left p now w t fit alone asks answers = (takes, subst IsWork
               ∙ ap (λ c. record { client = client; code = code_number c; value = reply.value }) answers.may.code
               ∙ ap (λ v. record { client = client; code = code_number wanted.code; value = v }) answers.may.value
               ∙ ap (λ m. entry client (W m).1) (sym marks);
-          frames =
-              ap (λ m. frames_of (took p (W m).1)) marks
-              ∙ sym (ap (λ x. x.1) both)
-              ∙ work_frames q
-              ∙ ap (λ b. frames_if b (worked q)) (sym work_is)
-              ∙ ap (frames_if (is_work now)) (sym now_w);
+          frames = λ begin.
+              ap (λ m. frames_of begin (took p (W m).1)) marks
+              ∙ sym (ap (λ x. x.1 begin) both)
+              ∙ work_frames begin q
+              ∙ ap (λ b. frames_if begin b (worked q)) (sym work_is)
+              ∙ ap (frames_if begin (is_work now)) (sym now_w);
           paintable = λ is. subst (λ x. IsSomeAnd x.job IsPaintable) (sym now_w) (still_paintable q work (sym work_is ∙ is));
         }

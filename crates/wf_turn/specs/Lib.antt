@@ -13,4 +13,7 @@ pub mod Turns
 pub mod Play
 pub mod Moments
 pub mod Serial
+pub mod Films
 pub mod Playing
+pub mod Going
+pub mod Replayed

@@ -1,6 +1,6 @@
 -- What each frame of a film shows, and what each screen has: the picture of one scene, and of the newest images, at one
 -- moment of the order.
-use Rattle.std.specs.Prelude.{◌≡◌, ℕ, Bool, false, pos, List, ◌∷◌, ◌++◌, Option, Some, None, option_map, Ok}
+use Rattle.std.specs.Prelude.{◌≡◌, ℕ, Bool, false, pos, List, ◌∷◌, ◌++◌, Option, Some, None, option_map, slice_get, Ok, IsSomeAnd}
 use Rattle.wf_pixel.specs.declared.Format.TheVariants.{Rgba8Pre}
 use Rattle.wf_image.specs.Bitmap.{Bitmap}
 use Rattle.wf_stream.specs.Streams.{buffers_at, stream_at}
@@ -35,26 +35,31 @@ pub record Asks (show : Show) (t : Turn) (w : Wanted) : Type 0 where
   pub own : program_at show t.client ≡ Some program
   pub next_is : next program ≡ Some w
 
--- the frame that a port shows in a state: the picture of its scene, once what waits at its pipelines is current, with the newest
--- images of the streams that it names
-abbrev pub port_frame : State → ℕ → ℕ → Option Frame
-port_frame h port tick =
+-- the frame that a port shows in a state, begun by the turn of a place: the picture of its scene, once what waits at its pipelines
+-- is current, with the newest images of the streams that it names
+abbrev pub port_frame : State → ℕ → ℕ → ℕ → Option Frame
+port_frame h port tick begin =
     option_map
-    (λ scene. frame_of port tick (picture scene (newest_images (scene_streams scene) h.streams) Rgba8Pre))
+    (λ scene. frame_of port tick begin (picture scene (newest_images (scene_streams scene) h.streams) Rgba8Pre))
     (port_scene port (begun_display port h.display))
 
--- an entry answers the Begin of the frame's port, in the frame's tick, with Ok and the port: the frame is what the port
--- shows at that moment
+-- an entry answers the Begin of the frame's port, in the frame's tick and at the frame's place, with Ok and the port: the frame is
+-- what the port shows at that moment
 pub record Begins (f : Frame) (show : Show) (t : Turn) : Type 0 where
   pub asks : Asks show t (waiting (call.BeginPort (pos f.port)))
   pub tick : asks.program.tick ≡ f.tick
+  pub place : show.turns ≡ f.begin
   pub code : t.code ≡ 0
   pub value : t.value ≡ f.port
-  pub shows : port_frame show.state f.port f.tick ≡ Some f
+  pub shows : port_frame show.state f.port f.tick f.begin ≡ Some f
 
 -- one entry of the order answers the Begin of the frame
 abbrev pub IsOfMoment : PlainScript → List Turn → Frame → Type 0
 IsOfMoment script order f = At script order (Begins f)
+
+-- the entry of the order at the frame's place answers with Ok and the frame's port
+abbrev pub TellsPlace : List Turn → Frame → Type 0
+TellsPlace order f = IsSomeAnd (slice_get order f.begin) (λ t. (t.code ≡ 0) × (t.value ≡ f.port))
 
 -- what a context composes in a state: the picture of its committed scene, with the newest images of the streams that it
 -- names, in the format of the stream that it draws into

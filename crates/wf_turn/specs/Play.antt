@@ -4,6 +4,7 @@ use Rattle.std.specs.Prelude.{Some, None, IsSome, IsTrue, if◌then◌else◌}
 use Rattle.std.specs.List.{enumerate_from}
 use Rattle.wf_words.specs.Keyed.{is_in}
 use Rattle.wf_calls.specs.declared.order.Turn.{Turn}
+use Rattle.wf_film.specs.declared.form.FilmForm.{FilmForm}
 use Rattle.wf_film.specs.Film.{Frame, film_bytes, head_bytes}
 use Rattle.wf_script.specs.Script.{PlainScript}
 use Rattle.wf_turn.specs.Program.{place_of}
@@ -45,13 +46,13 @@ over_after (Some show) = is_over show
 abbrev pub IsComplete : PlainScript → List Turn → Type 0
 IsComplete script order = IsTrue (over_after (replay script order))
 
--- the magic and the frames of an order
-abbrev pub head : PlainScript → List Turn → List ℕ
-head script order = head_bytes (frames_after (replay script order))
+-- the magic and the frames of an order, in a form
+abbrev pub head : FilmForm → PlainScript → List Turn → List ℕ
+head form script order = head_bytes form (frames_after (replay script order))
 
--- the film of an order
-abbrev pub film : PlainScript → List Turn → List ℕ
-film script order = film_bytes (record { frames = frames_after (replay script order); order = order })
+-- the film of an order, in a form
+abbrev pub film : FilmForm → PlainScript → List Turn → List ℕ
+film form script order = film_bytes (record { form = form; frames = frames_after (replay script order); order = order })
 
 -- the places of an order at which a creation had no memory
 abbrev pub marks : List Turn → List ℕ

@@ -7,6 +7,7 @@ use Rattle.wf_calls.specs.declared.call.Job.{Job}
 use Rattle.wf_calls.specs.declared.order.Turn.{Turn}
 use Rattle.wf_calls.specs.declared.reply.Reply.{Reply}
 use Rattle.wf_calls.specs.Codes.{entry}
+use Rattle.wf_film.specs.declared.form.FilmForm.{FilmForm}
 use Rattle.wf_film.specs.Film.{Frame, frame_bytes}
 use Rattle.wf_io.specs.Bytes.{Puts, PutsPart}
 use Rattle.wf_machine.specs.Object.{IsPaintable, MayAnswer, after}
@@ -27,7 +28,7 @@ use Rattle.wf_turn.specs.Serial.{IsFirst, IsNextTurn, IsRun}
 
 -- a show, as it is seen: its frames are in the film already
 abbrev pub show_of : Inside → Show
-show_of s = record { state = s.machine; programs = s.clock ∷ s.others.items; frames = [] }
+show_of s = record { state = s.machine; programs = s.clock ∷ s.others.items; frames = []; turns = s.turns }
 
 abbrev pub with_frames : List Frame → Show → Show
 with_frames frames show = record show { frames = frames }
@@ -95,17 +96,17 @@ may_turn programs client = not (not (client == 0) && is_setting_up programs)
 abbrev pub StandsOwn : List Program → ℕ × ℕ → Type 0
 StandsOwn programs c = IfSome (slice_get programs c.0) (λ p. IsSomeAnd (slice_get p.script.lines c.1) (λ l. l.client ≡ p.client))
 
--- the frame of the Job that a program holds
-abbrev pub job_frames : Program → List Frame
-job_frames p = of_job p.job
+-- the frame of the Job that a program holds, begun by the turn of a place
+abbrev pub job_frames : ℕ → Program → List Frame
+job_frames begin p = of_job p.job
   where
     of_job : Option Job → List Frame
     of_job None = []
-    of_job (Some job) = shown job.kind p.tick job
+    of_job (Some job) = shown job.kind p.tick begin job
 
 -- the frame that is shown, where one was painted
-abbrev pub frames_if : Bool → Program → List Frame
-frames_if painted p = if painted then job_frames p else []
+abbrev pub frames_if : ℕ → Bool → Program → List Frame
+frames_if begin painted p = if painted then job_frames begin p else []
 
 -- a program that is not through can have a turn, and ends the running frame if there is one
 pub record IsReady (h : State) (p : Program) : Type 0 where
@@ -122,7 +123,7 @@ pub record TakesTurn (client : ℕ) (h left : State) (p now : Program) (t : Turn
   pub state : left ≡ (step h client wanted.call (is_marked t)).0
   pub program : now ≡ worked (took p (step h client wanted.call (is_marked t)).1)
   pub entry_is : t ≡ entry client (step h client wanted.call (is_marked t)).1
-  pub frames : frames_of (took p (step h client wanted.call (is_marked t)).1) ≡ frames_if painted now
+  pub frames : (begin : ℕ) → frames_of begin (took p (step h client wanted.call (is_marked t)).1) ≡ frames_if begin painted now
   pub paintable : IsTrue painted → IsSomeAnd now.job IsPaintable
 
 -- the machine answers a call of a client, and the client's program takes the answer: what that leaves of both, and the entry
@@ -139,13 +140,13 @@ TakesTurnAt client h left programs now t =
     IfSome (slice_get programs client) (λ p. (q : Program)
     × ((now ≡ slice_set programs client q) × TakesTurn client h left p (worked q) t (is_work q) × IsWork q))
 
--- the frames that a turn of a client shows
-abbrev pub shown_by : Bool → List Program → ℕ → List Frame
-shown_by painted programs client = of_program (slice_get programs client)
+-- the frames that a turn of a client, of a place, shows
+abbrev pub shown_by : ℕ → Bool → List Program → ℕ → List Frame
+shown_by begin painted programs client = of_program (slice_get programs client)
   where
     of_program : Option Program → List Frame
     of_program None = []
-    of_program (Some p) = frames_if painted p
+    of_program (Some p) = frames_if begin painted p
 
 -- the client that a program is of holds a Job that can be painted
 abbrev pub HoldsPaintable : List Program → ℕ → Type 0
@@ -157,24 +158,25 @@ TurnsTo show t frames after = IsNextTurn (with_frames [] show) t (with_frames fr
 
 -- what a turn of the first client leaves: a running frame is that client's to end, and an end shows nothing
 pub record Turned (show : Show) (client : ℕ) (now : Show) (t : Turn) (painted : Bool) : Type 0 where
-  pub next : TurnsTo show t (shown_by painted now.programs client) now
+  pub next : TurnsTo show t (shown_by show.turns painted now.programs client) now
+  pub turns : now.turns ≡ show.turns + 1
   pub client_is : t.client ≡ client
   pub fewer : all_left now.programs + 1 ≤ all_left show.programs
   pub paintable : IsTrue painted → HoldsPaintable now.programs client
-  pub begun : now.state.frame ≡ None → shown_by painted now.programs client ≡ []
-  pub ended : IsSome show.state.frame → shown_by painted now.programs client ≡ []
+  pub begun : now.state.frame ≡ None → shown_by show.turns painted now.programs client ≡ []
+  pub ended : IsSome show.state.frame → shown_by show.turns painted now.programs client ≡ []
   pub again : IsSome now.state.frame → IsFirst now.programs client
   pub still : IsSome now.state.frame → IsTrue (may_turn now.programs client)
 
-module _ {K : Type 0} (took : K → List ℕ → Type 0) (old new : K) (was written : ℕ) where
+module _ {K : Type 0} (took : K → List ℕ → Type 0) (old new : K) (form : FilmForm) (was written : ℕ) where
   -- one turn was played, and its frames are put
   pub record PlaysTurn (show now : Show) (played after : List Turn) : Type 0 where
     pub turn : Turn
     pub frames : List Frame
     pub next : TurnsTo show turn frames now
     pub after_is : after ≡ played ++ turn ∷ []
-    pub put : Puts took old new (flat_map frame_bytes frames)
-    pub written_is : written ≡ was + length (flat_map frame_bytes frames)
+    pub put : Puts took old new (flat_map (frame_bytes form) frames)
+    pub written_is : written ≡ was + length (flat_map (frame_bytes form) frames)
 
   -- a turn was played whose frame was not put whole, and then the end of that frame
   pub record StopsTurn (show now : Show) (played after : List Turn) : Type 0 where
@@ -186,14 +188,14 @@ module _ {K : Type 0} (took : K → List ℕ → Type 0) (old new : K) (was writ
     pub ended : TurnsTo middle ends [] now
     pub own : ends.client ≡ begins.client
     pub after_is : after ≡ played ++ begins ∷ ends ∷ []
-    pub part : PutsPart took old new was (frame_bytes frame) written
+    pub part : PutsPart took old new was (frame_bytes form frame) written
 
   -- these turns were played from a show on, and their frames are put
   pub record PlaysTurns (start now : Show) (played : List Turn) : Type 0 where
     pub frames : List Frame
     pub run : IsRun (with_frames [] start) played (with_frames frames now)
-    pub put : Puts took old new (flat_map frame_bytes frames)
-    pub written_is : written ≡ was + length (flat_map frame_bytes frames)
+    pub put : Puts took old new (flat_map (frame_bytes form) frames)
+    pub written_is : written ≡ was + length (flat_map (frame_bytes form) frames)
 
   -- these turns were played from a show on, up to a frame that was not put whole, and its end
   pub record StopsTurns (start now : Show) (played : List Turn) : Type 0 where
@@ -209,5 +211,5 @@ module _ {K : Type 0} (took : K → List ℕ → Type 0) (old new : K) (was writ
     pub ended : TurnsTo middle ends [] now
     pub own : ends.client ≡ begins.client
     pub played_is : played ≡ before ++ begins ∷ ends ∷ []
-    pub part : PutsPart took old new was (flat_map frame_bytes (frames ++ frame ∷ [])) written
-    pub least : was + length (flat_map frame_bytes frames) ≤ written
+    pub part : PutsPart took old new was (flat_map (frame_bytes form) (frames ++ frame ∷ [])) written
+    pub least : was + length (flat_map (frame_bytes form) frames) ≤ written

@@ -1,5 +1,6 @@
 -- Turns: one step of the machine for the next call of a client's program.
-use Rattle.std.specs.Prelude.{ℕ, Bool, false, not, ◌&&◌, ◌==◌, List, [], ◌∷◌, ◌++◌, map, Option, Some, None, is_none, slice_get, slice_set}
+use Rattle.std.specs.Prelude.{ℕ, ◌+◌, Bool, false, not, ◌&&◌, ◌==◌, List, [], ◌∷◌, ◌++◌, map, Option, Some, None, is_none, slice_get}
+use Rattle.std.specs.Prelude.{slice_set}
 use Rattle.std.specs.Prelude.{if◌then◌else◌}
 use Rattle.std.specs.List.{range_with_len, list_all}
 use Rattle.wf_calls.specs.declared.call.Job.{Job}
@@ -16,15 +17,16 @@ use Rattle.wf_script.specs.Script.{PlainScript}
 use Rattle.wf_turn.specs.declared.stage.Wanted.{Wanted}
 use Rattle.wf_turn.specs.Program.{Program, in_setup, next, painted_job, place_of, program, taught, took, worked}
 
--- the state, the eight programs by client, and the frames so far
+-- the state, the eight programs by client, the frames so far, and how many turns there were
 pub record Show : Type 0 where
   pub state : State
   pub programs : List Program
   pub frames : List Frame
+  pub turns : ℕ
 
 abbrev pub opening_show : PlainScript → Show
 opening_show script =
-    record { state = opening script.ports; programs = map (program script) (range_with_len 0 8); frames = [] }
+    record { state = opening script.ports; programs = map (program script) (range_with_len 0 8); frames = []; turns = 0 }
 
 -- the clock, which is client 0's program, has a line of the setup left
 abbrev pub is_setting_up : List Program → Bool
@@ -45,18 +47,18 @@ abbrev pub program_at : Show → ℕ → Option Program
 program_at show client =
     if not (client == 0) && is_setting_up show.programs then None else slice_get show.programs client
 
--- the frame that a Job shows in a tick; that of a context shows none
-abbrev pub shown : JobKind → ℕ → Job → List Frame
-shown (kind.Context handle target) tick job = []
-shown (kind.Port port) tick job = frame_of port tick job.image ∷ []
+-- the frame that a Job shows in a tick, begun by the turn of a place; that of a context shows none
+abbrev pub shown : JobKind → ℕ → ℕ → Job → List Frame
+shown (kind.Context handle target) tick begin job = []
+shown (kind.Port port) tick begin job = frame_of port tick begin job.image ∷ []
 
--- the frame of a Job that is painted next
-abbrev pub frames_of : Program → List Frame
-frames_of p = if p.unpainted then of_job p.job else []
+-- the frame of a Job that is painted next, begun by the turn of a place
+abbrev pub frames_of : ℕ → Program → List Frame
+frames_of begin p = if p.unpainted then of_job p.job else []
   where
     of_job : Option Job → List Frame
     of_job None = []
-    of_job (Some job) = shown job.kind p.tick (painted_job job)
+    of_job (Some job) = shown job.kind p.tick begin (painted_job job)
 
 -- the show after an answer, with the entry
 abbrev pub answered : Show → ℕ → Program → State × Reply → Show × Turn
@@ -64,7 +66,8 @@ answered show client p done = (
   record {
     state = done.0;
     programs = handed_on show.programs (slice_set show.programs client (worked (took p done.1)));
-    frames = show.frames ++ frames_of (took p done.1);
+    frames = show.frames ++ frames_of show.turns (took p done.1);
+    turns = show.turns + 1;
   },
   entry client done.1,
 )

@@ -9,6 +9,8 @@ mod names;
 mod player;
 mod program;
 mod quotas;
+mod replaying;
+mod retaking;
 mod setup;
 mod show;
 mod skipping;
@@ -16,10 +18,12 @@ mod stage;
 mod taking;
 #[cfg(test)]
 mod tests;
+mod troupe;
 mod turning;
 
-pub use laws::each_frame_is_of_a_moment;
+pub use laws::{each_frame_is_of_a_moment, each_frame_tells_its_place, each_screen_is_of_a_moment};
 pub use player::{PlayStop, serial, serial_by};
 pub use program::Program;
 pub use quotas::quota;
+pub use replaying::{ReplayStop, replay, replay_by};
 pub use stage::{Leg, Stage, Wanted};

@@ -1,19 +1,22 @@
 //! Plays a script serially: the events of each line stand together, in the order of the file.
 
-ghost use Rattle.std.specs.Prelude.{◌≡◌, ◌+◌, ◌*◌, ◌<◌, ◌≤◌, ◌^◌, [], map, length, vec_capacity, IfErr, IsTrue, None, OnErr, OnOk};
+ghost use Rattle.std.specs.Prelude.{◌≡◌, ◌+◌, ◌-◌, ◌*◌, ◌<◌, ◌≤◌, ◌^◌, [], map, length, vec_capacity, IfErr, IsTrue, None, OnErr, OnOk};
+ghost use Rattle.std.specs.List.{list_all};
 ghost use Rattle.wf_io.specs.Causes.{HasCause};
+ghost use Rattle.wf_script.specs.Script.{may_tick};
+ghost use Rattle.wf_turn.specs.Films.{IsCaused, PlaysFilm};
 ghost use Rattle.wf_turn.specs.Play.{first_client};
 ghost use Rattle.wf_turn.specs.Playing.{ArePainted, PlaysTurn, PlaysTurns, StopsTurn, StopsTurns, Turned, may_turn, script_of};
 ghost use Rattle.wf_turn.specs.Program.{place_of};
 ghost use Rattle.wf_turn.specs.Quota.{all_left, most_turns};
-ghost use Rattle.wf_turn.specs.Serial.{IsCaused, IsFirst, PlaysFilm};
+ghost use Rattle.wf_turn.specs.Serial.{IsFirst, IsInFileOrder};
 ghost use Rattle.wf_turn.specs.Turns.{opening_show};
 
 use crate::quotas::most_turns;
 use crate::show::Show;
 use std::alloc::Global;
 use wf_calls::{Order, Turn};
-use wf_film::Writer;
+use wf_film::{FilmForm, Writer};
 use wf_io::{Sink, WriteStop};
 use wf_kernel::{Painter, Plain};
 use wf_script::Script;
@@ -39,13 +42,19 @@ impl From<NoMemory> for PlayStop {
     }
 }
 
-/// Plays the lines of a script in file order, and writes its film. All memory but that of the script's own creations is
-/// taken before the first byte is put. Where the sink fails at a frame, that frame ends, and then play stops.
-pub fn serial<K: Sink>(alloc: Global, script: &Script, k: &mut K) -> Result<Order, PlayStop>
-    ensures plays { PlaysFilm K.took k.old k.new script.now result }
+/// Plays the lines of a script in file order, and writes its film in a form. All memory but that of the script's own
+/// creations is taken before the first byte is put. Where the sink fails at a frame, that frame ends, and then play stops.
+pub fn serial<K: Sink>(
+    alloc: Global,
+    script: &Script,
+    form: FilmForm,
+    k: &mut K,
+) -> Result<Order, PlayStop>
+    ensures plays { PlaysFilm K.took k.old k.new form script.now result }
+    ensures file_order { IsInFileOrder script.now result }
     ensures caused { IsCaused (K.faults k.old) (K.faults k.new) result }
 {
-    serial_by(alloc, script, k, &mut Plain)
+    serial_by(alloc, script, form, k, &mut Plain)
 }
 
 /// Plays and writes the same as `serial`, with a painter that paints the frames. What the painter takes of memory, it takes when
@@ -53,16 +62,19 @@ pub fn serial<K: Sink>(alloc: Global, script: &Script, k: &mut K) -> Result<Orde
 pub fn serial_by<K: Sink, P: Painter>(
     alloc: Global,
     script: &Script,
+    form: FilmForm,
     k: &mut K,
     painter: &mut P,
 ) -> Result<Order, PlayStop>
-    ensures plays { PlaysFilm K.took k.old k.new script.now result }
+    ensures plays { PlaysFilm K.took k.old k.new form script.now result }
+    ensures file_order { IsInFileOrder script.now result }
     ensures caused { IsCaused (K.faults k.old) (K.faults k.new) result }
 {
+    let most = most_turns(script.lines());
     // The show stays where it was opened: it is large.
     match &mut Show::open(alloc, script) {
-        Ok(show) => match Vec::with_capacity(alloc, most_turns(script)) {
-            Ok(played) => write_film(show, k, painter, played),
+        Ok(show) => match Vec::with_capacity(alloc, most) {
+            Ok(played) => write_film(show, form, k, painter, played),
             Err(_) => Err(PlayStop::NoMemory),
         },
         Err(_) => Err(PlayStop::NoMemory),
@@ -72,18 +84,21 @@ pub fn serial_by<K: Sink, P: Painter>(
 /// Writes the film of a show that is open, into an order that has room for all turns.
 fn write_film<K: Sink, P: Painter>(
     show: &mut Show,
+    form: FilmForm,
     k: &mut K,
     painter: &mut P,
     mut played: Vec<Turn>,
 ) -> Result<Order, PlayStop>
     requires opened { show.old ≡ opening_show (script_of show.old) }
     requires few { length (script_of show.old).lines ≤ 16384 }
+    requires ticks { IsTrue (list_all may_tick (script_of show.old).lines) }
     requires none { played.items ≡ [] }
     requires room { most_turns (script_of show.old).lines ≤ vec_capacity played }
-    ensures plays { PlaysFilm K.took k.old k.new (script_of show.old) result }
+    ensures plays { PlaysFilm K.took k.old k.new form (script_of show.old) result }
+    ensures file_order { IsInFileOrder (script_of show.old) result }
     ensures caused { IsCaused (K.faults k.old) (K.faults k.new) result }
 {
-    let mut writer = match Writer::new(k) {
+    let mut writer = match Writer::new(k, form) {
         Ok(writer) => writer,
         Err(stop) => return Err(write_fault(stop, Order::new(played))),
     };
@@ -118,12 +133,15 @@ fn play_turns<K: Sink, P: Painter>(
     requires painted { ArePainted show.old.programs }
     requires none { played.old.items ≡ [] }
     requires room { all_left show.old.programs ≤ vec_capacity played.old }
-    requires few { writer.old + all_left show.old.programs * 4194314 < 2 ^ 62 }
-    ensures all { OnOk result (PlaysTurns K.took k.old k.new writer.old writer.new show.old show.new played.new.items) }
+    requires few { writer.old.written + all_left show.old.programs * 4194318 < 2 ^ 62 }
+    requires early { show.old.turns + all_left show.old.programs < 2 ^ 31 }
+    ensures all { OnOk result (PlaysTurns K.took k.old k.new writer.old.form writer.old.written writer.new.written show.old show.new
+        played.new.items) }
     ensures over { OnOk result (first_client (map place_of show.new.programs) ≡ None) }
-    ensures few { OnOk result (writer.new < 2 ^ 62) }
+    ensures few { OnOk result (writer.new.written < 2 ^ 62) }
     ensures many { length played.new.items ≤ all_left show.old.programs }
-    ensures part { IfErr result (λ stop. StopsTurns K.took k.old k.new writer.old stop.written show.old show.new played.new.items) }
+    ensures part { IfErr result (λ stop. StopsTurns K.took k.old k.new writer.old.form writer.old.written stop.written
+        show.old show.new played.new.items) }
     ensures cause { HasCause (K.faults k.old) (K.faults k.new) result }
 {
     while let Some(client) = show.first() {
@@ -149,21 +167,26 @@ fn play_turn<K: Sink, P: Painter>(
     requires allowed { IsTrue (may_turn show.old.programs client) }
     requires within { client < 8 }
     requires room { length played.old.items + all_left show.old.programs ≤ vec_capacity played.old }
-    requires few { writer.old + all_left show.old.programs * 4194314 < 2 ^ 62 }
-    ensures all { OnOk result (PlaysTurn K.took k.old k.new writer.old writer.new show.old show.new played.old.items played.new.items) }
+    requires few { writer.old.written + all_left show.old.programs * 4194318 < 2 ^ 62 }
+    requires early { show.old.turns + all_left show.old.programs < 2 ^ 31 }
+    ensures all { OnOk result (PlaysTurn K.took k.old k.new writer.old.form writer.old.written writer.new.written show.old show.new
+        played.old.items played.new.items) }
     ensures painted { OnOk result (ArePainted show.new.programs) }
     ensures fewer { OnOk result (all_left show.new.programs + 1 ≤ all_left show.old.programs) }
     ensures many { length played.new.items + all_left show.new.programs ≤ length played.old.items + all_left show.old.programs }
-    ensures most { OnOk result (writer.new ≤ writer.old + 4194314) }
+    ensures most { OnOk result (writer.new.written ≤ writer.old.written + 4194318) }
+    ensures form { writer.new.form ≡ writer.old.form }
+    ensures early { OnOk result (show.new.turns ≡ show.old.turns + 1) }
     ensures room { OnOk result (vec_capacity played.old ≤ vec_capacity played.new) }
-    ensures part { IfErr result (λ stop. StopsTurn K.took k.old k.new writer.old stop.written show.old show.new played.old.items
-        played.new.items) }
+    ensures part { IfErr result (λ stop. StopsTurn K.took k.old k.new writer.old.form writer.old.written stop.written
+        show.old show.new played.old.items played.new.items) }
     ensures cause { HasCause (K.faults k.old) (K.faults k.new) result }
 {
+    let begin = show.turns();
     let (turn, painted) = turn_and_paint(show, client, painter);
     played.push_reserved(turn);
     if painted {
-        if let Err(stop) = show.put_frame(client, k, writer) {
+        if let Err(stop) = show.put_frame(client, begin, k, writer) {
             let (end, _) = turn_and_paint(show, client, painter);
             played.push_reserved(end);
             return Err(stop);
@@ -179,6 +202,7 @@ fn turn_and_paint<P: Painter>(show: &mut Show, client: usize, painter: &mut P) -
     requires first { IsFirst show.old.programs client }
     requires allowed { IsTrue (may_turn show.old.programs client) }
     requires within { client < 8 }
+    requires early { show.old.turns < 2 ^ 32 - 1 }
     ensures turned { Turned show.old client show.new result.0 result.1 }
     ensures painted { ArePainted show.new.programs }
 {

@@ -1,13 +1,17 @@
 //! The program of a client: its lines one after another, as calls.
 
-ghost use Rattle.std.specs.Prelude.{◌≡◌, is_some, option_map, slice_get, IfOk, IfSome, IsSomeAnd, IsTrue, Some, None, true};
+ghost use Rattle.std.specs.Prelude.{◌≡◌, ◌<◌, ◌≤◌, is_some, option_map, slice_get, IfOk, IfSome, IsSomeAnd, IsTrue, Some, None, true};
 ghost use Rattle.std.specs.Prelude.{if◌then◌else◌};
 ghost use Rattle.std.specs.List.{list_all};
-ghost use Rattle.std.specs.Option.{option_copied};
+ghost use Rattle.std.specs.Option.{option_copied, IfNone};
+ghost use Rattle.wf_calls.specs.Parts.{is_begin};
 ghost use Rattle.wf_script.specs.Script.{is_line};
 ghost use Rattle.wf_turn.specs.Calls.{IsPut, plain_call};
+ghost use Rattle.wf_turn.specs.Going.{GoesOnAfter};
 ghost use Rattle.wf_turn.specs.Program.{asked_for, first_call, first_line, handed, handle, in_setup, kept_first, next, plain, place_of};
 ghost use Rattle.wf_turn.specs.Program.{line_of, program, taught};
+ghost use Rattle.wf_turn.specs.Quota.{left, quota};
+ghost use Rattle.wf_turn.specs.Ready.{IsFit};
 
 use crate::calls::put;
 use crate::names::Names;
@@ -94,7 +98,9 @@ fn ask_leg(place: &mut Wanted, leg: Leg) -> bool
 impl<'a> Program<'a> {
     /// The program of a client before its first call.
     pub fn new(alloc: Global, script: &'a Script, client: u8) -> Result<Program<'a>, NoMemory>
-        ensures { IfOk result (λ p. p ≡ program script.now client) }
+        ensures program { IfOk result (λ p. p ≡ program script.now client) }
+        ensures fit { IfOk result IsFit }
+        ensures left { IfOk result (λ p. left p ≤ quota script.now.lines client) }
     {
         let lines = script.lines();
         let setup = setup_lines(lines);
@@ -254,10 +260,16 @@ impl<'a> Program<'a> {
     }
 
     /// The next call, or none where the client's lines are through. What the call carries goes out with it. No Job is
-    /// held that is not painted yet, and no answer is owed.
+    /// held that is not painted yet, and no answer is owed. Once an answer is taken, and the Job that came is painted, there
+    /// is a next call again, or the lines are through; a call that waits begins a frame.
     pub fn next(&mut self) -> Option<Wanted>
         ensures wanted { result ≡ next self.old }
         ensures handed { self.new ≡ handed self.old }
+        ensures waits { IfSome result (λ w. IsTrue w.wait → IsTrue (is_begin w.call)) }
+        ensures left { IsFit self.old → IfSome result (λ _. 0 < left self.old) }
+        ensures goes_on { IsFit self.old → IfSome result (GoesOnAfter self.old) }
+        ensures through { IsFit self.old → IfNone result (place_of self.old ≡ None) }
+        ensures same { IsFit self.old → IfNone result (self.new ≡ self.old) }
     {
         let mut wanted = unasked();
         if self.next_into(&mut wanted) {
@@ -265,6 +277,13 @@ impl<'a> Program<'a> {
         } else {
             None
         }
+    }
+
+    /// The client whose program it is.
+    pub fn client(&self) -> u8
+        ensures { result ≡ self.now.client }
+    {
+        self.client
     }
 
     /// The number of the running tick, from 1, or of the last one.
@@ -315,7 +334,9 @@ impl<'a> Program<'a> {
     pub fn learn(&mut self, clock: &Program)
         requires script { clock.now.script ≡ self.old.script }
         requires clock { clock.now.client ≡ 0 }
-        ensures { self.new ≡ taught clock.now self.old }
+        ensures taught { self.new ≡ taught clock.now self.old }
+        ensures fit { IsFit self.old → IsFit self.new }
+        ensures left { left self.new ≡ left self.old }
     {
         self.learned.learn(&clock.own);
     }

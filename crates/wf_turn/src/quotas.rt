@@ -30,26 +30,36 @@ fn quota_of(client: u8, line: &Line) -> u32
     }
 }
 
+/// How many events these lines make at most that are a client's.
+fn quota_in(lines: &[Line], client: u8) -> u32
+    requires few { length lines.now ≤ 16384 }
+    ensures count { result ≡ quota lines.now client }
+    ensures most { result ≤ 40 * 16384 }
+{
+    let mut sum = 0;
+    for line in lines {
+        sum += quota_of(client, line);
+    }
+    sum
+}
+
 /// How many events the lines of a client make at most: 40 for a `tick`, 2 for a `frame`, a `compose` or a
 /// `trycompose`, none for a `paint`, and one for any other line.
 pub fn quota(script: &Script, client: u8) -> u32
     ensures count { result ≡ quota script.now.lines client }
     ensures most { result ≤ 40 * 16384 }
 {
-    let mut sum = 0;
-    for line in script.lines() {
-        sum += quota_of(client, line);
-    }
-    sum
+    quota_in(script.lines(), client)
 }
 
-/// How many events the lines of all clients make at most.
-pub(crate) fn most_turns(script: &Script) -> usize
-    ensures { result ≡ most_turns script.now.lines }
+/// How many events these lines make at most.
+pub(crate) fn most_turns(lines: &[Line]) -> usize
+    requires few { length lines.now ≤ 16384 }
+    ensures { result ≡ most_turns lines.now }
 {
     let mut sum = 0;
     for client in 0..8u8 {
-        sum += quota(script, client) as usize;
+        sum += quota_in(lines, client) as usize;
     }
     sum
 }

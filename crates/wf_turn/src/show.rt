@@ -1,6 +1,6 @@
 //! A show: the machine, and the programs of the eight clients.
 
-ghost use Rattle.std.specs.Prelude.{◌≡◌, ◌+◌, ◌*◌, ◌<◌, ◌≤◌, ◌^◌, ◌&&◌, not, if◌then◌else◌, ◌∷◌, map, slice_get, option_map, length};
+ghost use Rattle.std.specs.Prelude.{◌≡◌, ◌+◌, ◌-◌, ◌*◌, ◌<◌, ◌≤◌, ◌^◌, ◌&&◌, not, if◌then◌else◌, ◌∷◌, map, slice_get, option_map, length};
 ghost use Rattle.std.specs.Prelude.{flat_map, Some, IfOk, IfErr, IfSome, IsSomeAnd, IsTrue, OnOk, All, true};
 ghost use Rattle.wf_film.specs.Film.{frame_bytes};
 ghost use Rattle.wf_io.specs.Bytes.{Puts, PutsPart};
@@ -28,16 +28,17 @@ use wf_script::Script;
 use wf_words::NoMemory;
 
 /// How many clients there are beside the clock.
-const OTHERS: u8 = 7;
+pub(crate) const OTHERS: u8 = 7;
 
-/// The machine, the program of the clock, which is client 0, and those of the other clients of a script, and the place
-/// where each turn puts its call.
+/// The machine, the program of the clock, which is client 0, and those of the other clients of a script, the place
+/// where each turn puts its call, and how many turns there were.
 #[derive(Drop)]
 pub(crate) struct Show<'a> {
     machine: Machine,
     clock: Program<'a>,
     others: Vec<Program<'a>>,
     wanted: Wanted,
+    turns: u32,
 }
 
 impl<'a> Model for Show<'a> {
@@ -97,7 +98,7 @@ fn teach(clock: &Program, others: &mut [Program])
 }
 
 /// Where the setup ended just now, its names are handed on to the other programs.
-fn hand_on(was_setup: bool, clock: &Program, others: &mut Vec<Program>)
+pub(crate) fn hand_on(was_setup: bool, clock: &Program, others: &mut Vec<Program>)
     requires script { All (λ p. p.script ≡ clock.now.script) others.old.items }
     requires clock { clock.now.client ≡ 0 }
     ensures { others.new.items
@@ -144,7 +145,15 @@ impl<'a> Show<'a> {
             clock,
             others,
             wanted: unasked(),
+            turns: 0,
         })
+    }
+
+    /// How many turns there were.
+    pub(crate) fn turns(&self) -> u32
+        ensures { result ≡ self.now.turns }
+    {
+        self.turns
     }
 
     /// The client of the first line in the file that is not through, or none where all are.
@@ -167,6 +176,7 @@ impl<'a> Show<'a> {
         requires first { IsFirst self.old.programs client }
         requires allowed { IsTrue (may_turn self.old.programs client) }
         requires within { client < 8 }
+        requires early { self.old.turns < 2 ^ 32 - 1 }
         ensures turned { Turned self.old client (record self.new { programs = with_paint client self.new.programs }) result
             (has_work client self.new.programs) }
         ensures painted { ArePainted (with_paint client self.new.programs) }
@@ -181,6 +191,7 @@ impl<'a> Show<'a> {
             &mut self.wanted,
         );
         hand_on(was_setup, &self.clock, &mut self.others);
+        self.turns += 1;
         turn
     }
 
@@ -211,44 +222,57 @@ impl<'a> Show<'a> {
         }
     }
 
-    /// Puts the frame of the Job that a client's program holds, if it is a port's.
+    /// Puts the frame of the Job that a client's program holds, if it is a port's, as begun by the turn of a place.
     pub(crate) fn put_frame<K: Sink>(
         &self,
         client: usize,
+        begin: u32,
         k: &mut K,
         writer: &mut Writer,
     ) -> Result<(), WriteStop>
         requires within { client < 8 }
         requires paintable { HoldsPaintable self.now.programs client }
-        requires few { writer.old < 2 ^ 62 }
-        ensures all { OnOk result (Puts K.took k.old k.new (flat_map frame_bytes (shown_by true self.now.programs client))) }
-        ensures written { OnOk result (writer.new ≡ writer.old + length (flat_map frame_bytes (shown_by true self.now.programs client))) }
-        ensures most { OnOk result (writer.new ≤ writer.old + 10 + 4 * 1024 * 1024) }
-        ensures part { IfErr result (λ stop. PutsPart K.took k.old k.new writer.old
-            (flat_map frame_bytes (shown_by true self.now.programs client)) stop.written) }
+        requires few { writer.old.written < 2 ^ 62 }
+        ensures all { OnOk result (Puts K.took k.old k.new
+            (flat_map (frame_bytes writer.old.form) (shown_by begin true self.now.programs client))) }
+        ensures written { OnOk result (writer.new.written
+            ≡ writer.old.written + length (flat_map (frame_bytes writer.old.form) (shown_by begin true self.now.programs client))) }
+        ensures form { writer.new.form ≡ writer.old.form }
+        ensures most { OnOk result (writer.new.written ≤ writer.old.written + 14 + 4 * 1024 * 1024) }
+        ensures part { IfErr result (λ stop. PutsPart K.took k.old k.new writer.old.written
+            (flat_map (frame_bytes writer.old.form) (shown_by begin true self.now.programs client)) stop.written) }
         ensures cause { HasCause (K.faults k.old) (K.faults k.new) result }
     {
         let program = self.program(client);
         match program.job() {
-            Some(job) => put_job(k, writer, program.tick(), job),
+            Some(job) => put_job(k, writer, program.tick(), begin, job),
             None => Ok(()),
         }
     }
 }
 
-/// Puts the frame that a painted Job shows in a tick, if it is a port's.
-fn put_job<K: Sink>(k: &mut K, writer: &mut Writer, tick: u32, job: &Job) -> Result<(), WriteStop>
+/// Puts the frame that a painted Job shows in a tick, if it is a port's, as begun by the turn of a place.
+pub(crate) fn put_job<K: Sink>(
+    k: &mut K,
+    writer: &mut Writer,
+    tick: u32,
+    begin: u32,
+    job: &Job,
+) -> Result<(), WriteStop>
     requires paintable { IsPaintable job.now }
-    requires few { writer.old < 2 ^ 62 }
-    ensures all { OnOk result (Puts K.took k.old k.new (flat_map frame_bytes (shown job.now.kind tick job.now))) }
-    ensures written { OnOk result (writer.new ≡ writer.old + length (flat_map frame_bytes (shown job.now.kind tick job.now))) }
-    ensures most { OnOk result (writer.new ≤ writer.old + 10 + 4 * 1024 * 1024) }
-    ensures part { IfErr result (λ stop. PutsPart K.took k.old k.new writer.old (flat_map frame_bytes (shown job.now.kind tick job.now))
-        stop.written) }
+    requires few { writer.old.written < 2 ^ 62 }
+    ensures all { OnOk result (Puts K.took k.old k.new
+        (flat_map (frame_bytes writer.old.form) (shown job.now.kind tick begin job.now))) }
+    ensures written { OnOk result (writer.new.written
+        ≡ writer.old.written + length (flat_map (frame_bytes writer.old.form) (shown job.now.kind tick begin job.now))) }
+    ensures form { writer.new.form ≡ writer.old.form }
+    ensures most { OnOk result (writer.new.written ≤ writer.old.written + 14 + 4 * 1024 * 1024) }
+    ensures part { IfErr result (λ stop. PutsPart K.took k.old k.new writer.old.written
+        (flat_map (frame_bytes writer.old.form) (shown job.now.kind tick begin job.now)) stop.written) }
     ensures cause { HasCause (K.faults k.old) (K.faults k.new) result }
 {
     match job.kind {
         JobKind::Context { .. } => Ok(()),
-        JobKind::Port { port } => writer.frame(k, port as u8, tick, &job.image),
+        JobKind::Port { port } => writer.frame(k, port as u8, tick, begin, &job.image),
     }
 }

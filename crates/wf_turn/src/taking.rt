@@ -168,7 +168,7 @@ impl<'a> Program<'a> {
     }
 
     /// Lets a painter paint the Job that is held and not painted yet, and answers whether there was one.
-    pub(crate) fn paint<P: Painter>(&mut self, painter: &mut P) -> bool
+    pub fn paint<P: Painter>(&mut self, painter: &mut P) -> bool
         requires { IsWork self.old }
         ensures painted { self.new ≡ worked self.old }
         ensures was { result ≡ is_work self.old }
@@ -183,7 +183,7 @@ impl<'a> Program<'a> {
     }
 
     /// The Job that is held.
-    pub(crate) fn job(&self) -> Option<&Job>
+    pub fn job(&self) -> Option<&Job>
         ensures { option_copied result ≡ self.now.job }
     {
         self.job.as_ref()

@@ -36,7 +36,7 @@ pub(crate) fn take_turn(
 
 /// The turn of a call that may carry an image, or bring one: a function of its own, so that the other turns move none.
 #[inline(never)]
-fn take_carrying_turn(
+pub(crate) fn take_carrying_turn(
     machine: &mut Machine,
     program: &mut Program,
     client: u8,

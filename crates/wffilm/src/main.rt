@@ -12,7 +12,7 @@ use std::io;
 use std::process::ExitCode;
 use wf_calls::{Order, Turn};
 use wf_cases::{Stage, color, number, size, word, words_of};
-use wf_film::{WriteStop, Writer};
+use wf_film::{FilmForm, WriteStop, Writer};
 use wf_image::Image;
 use wf_io::MemorySink;
 use wf_pixel::{Format, Rgba, Size};
@@ -23,6 +23,8 @@ const MOST_TURNS: usize = 1000;
 /// What a film is made of, the last one, and the bytes that are read.
 #[derive(Drop)]
 struct Films {
+    form: FilmForm,
+    begin: u32,
     frame: Option<(Size, Rgba)>,
     turns: Vec<Turn>,
     film: Option<MemorySink>,
@@ -36,6 +38,8 @@ fn main(rt: HostRuntime) -> io::Result<ExitCode> {
 impl Stage for Films {
     fn opened(alloc: Global) -> Films {
         Films {
+            form: FilmForm::One,
+            begin: 0,
             frame: None,
             turns: Vec::new(alloc),
             film: None,
@@ -47,6 +51,15 @@ impl Stage for Films {
         let words = words_of(alloc, call)?;
         let words = words.as_slice();
         match word(words, 0) {
+            "form" => {
+                self.form = if number::<u8>(words, 1) == 2 {
+                    FilmForm::Two
+                } else {
+                    FilmForm::One
+                };
+                self.begin = number(words, 2);
+                format!(in alloc; "{:?}", self.form)
+            }
             "frame" => {
                 let color = color(words, 3);
                 self.frame = size(words, 1).map(|size| (size, color));
@@ -92,13 +105,19 @@ fn image_of(alloc: Global, size: Size, color: Rgba) -> Option<Image>
 }
 
 /// Writes a film with one frame, of port 1 at tick 1, or with none.
-fn write(sink: &mut MemorySink, image: &Option<Image>, order: &Order) -> Result<(), WriteStop>
+fn write(
+    sink: &mut MemorySink,
+    form: FilmForm,
+    begin: u32,
+    image: &Option<Image>,
+    order: &Order,
+) -> Result<(), WriteStop>
     requires pixels { IfSome image.now (λ image. pixel_bytes image.format ≡ 4) }
     requires turns { length order.now < 2 ^ 32 }
 {
-    let mut writer = Writer::new(sink)?;
+    let mut writer = Writer::new(sink, form)?;
     if let Some(image) = image {
-        writer.frame(sink, 1, 1, image)?;
+        writer.frame(sink, 1, 1, begin, image)?;
     }
     writer.finish(sink, order)
 }
@@ -119,7 +138,7 @@ impl Films {
         let Ok(mut sink) = MemorySink::new(alloc, 65_536, failing) else {
             return Err(AllocError);
         };
-        let written = write(&mut sink, &image, &order);
+        let written = write(&mut sink, self.form, self.begin, &image, &order);
         let held = sink.bytes().len();
         self.film = Some(sink);
         match written {

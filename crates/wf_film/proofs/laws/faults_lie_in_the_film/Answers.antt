@@ -1,7 +1,7 @@
 use Rattle.std.proofs.Common.{◌≡◌, ◌≤◌, List, ℕ, length, Result, Ok, Err, refl}
 use Rattle.std.specs.Prelude.{IfErr}
 use Rattle.wf_film.specs.declared.rule.Breach.{Breach}
-use Rattle.wf_film.specs.Plain.{PlainFilm}
+use Rattle.wf_film.specs.Film.{PlainFilm}
 use Rattle.wf_film.specs.Reading.{read_film}
 use Rattle.wf_film.proofs.PlaceLaws.{lies_in_film}
 use Rattle.wf_film.proofs.laws.faults_lie_in_the_film.Goals as goal

@@ -6,6 +6,6 @@ pub loop-client-preserved : goal.loop-client-preserved
 loop-client-preserved c =
     let was = c.loop-client.invariant in
     record {
-      sum = omega (arith, was.sum, c.quota.ensures.count, total_more (quota c.args.script.now.lines) c.loop-client.client);
-      most = omega (arith, was.most, c.quota.ensures.most);
+      sum = omega (arith, was.sum, c.quota_in.ensures.count, total_more (quota c.args.lines.now) c.loop-client.client);
+      most = omega (arith, was.most, c.quota_in.ensures.most);
     }

@@ -15,7 +15,7 @@ learn-requires-clause-script c =
 pub loop-program-preserved : goal.loop-program-preserved
 loop-program-preserved c =
     map_step (taught c.args.clock.now) _ c.loop-program.others c.loop-program.program-index c.program-item.result
-    c.learn.new.self c.loop-program-test.true c.loop-program.invariant c.learn.ensures
+    c.learn.new.self c.loop-program-test.true c.loop-program.invariant c.learn.ensures.taught
 
 pub returns : goal.returns
 returns c = map_all (taught c.args.clock.now) _ c.loop-program.others c.loop-program.program-index c.loop-program-test.false

@@ -14,7 +14,7 @@ loop-behind-preserved c =
     let n = c.loop-behind.behind in (
       c.push_reserved.ensures.items
           ∙ ap (λ ps. ps ++ c.in_ok-new.field-0 ∷ []) c.loop-behind.invariant.0
-          ∙ ap (λ p. map made (range_with_len 1 n) ++ p ∷ []) c.in_ok-new.ensures
+          ∙ ap (λ p. map made (range_with_len 1 n) ++ p ∷ []) c.in_ok-new.ensures.program
           ∙ sym (map-append made (range_with_len 1 n) ((n + 1) ∷ []))
           ∙ ap (λ ns. map made ns) (sym (range_more n)),
       omega (arith, c.push_reserved.ensures.capacity, c.loop-behind.invariant.1),
@@ -25,14 +25,14 @@ module _ (c : goal.After-unasked) where
   seven : c.loop-behind.behind ≡ 7
   seven = omega (arith, c.loop-behind-test.false, c.loop-behind.auto.behind-end)
 
-  show_is : record { state = c.in_ok-machine.machine; programs = c.in_ok-clock.clock ∷ c.loop-behind.others.items; frames = [] }
+  show_is : record { state = c.in_ok-machine.machine; programs = c.in_ok-clock.clock ∷ c.loop-behind.others.items; frames = []; turns = 0 }
       ≡ opening_show c.args.script.now
   show_is =
-      let show : State → List Program → Show = λ h ps. record { state = h; programs = ps; frames = [] } in
+      let show : State → List Program → Show = λ h ps. record { state = h; programs = ps; frames = []; turns = 0 } in
       let made = program c.args.script.now in
       ap (λ h. show h (c.in_ok-clock.clock ∷ c.loop-behind.others.items)) (c.in_ok-machine.ensures
       ∙ ap opening c.ports.ensures.ports)
-      ∙ ap (λ p. show (opening c.args.script.now.ports) (p ∷ c.loop-behind.others.items)) c.in_ok-clock.ensures
+      ∙ ap (λ p. show (opening c.args.script.now.ports) (p ∷ c.loop-behind.others.items)) c.in_ok-clock.ensures.program
       ∙ ap (λ ps. show (opening c.args.script.now.ports) (made 0 ∷ ps)) (c.loop-behind.invariant.0
       ∙ ap (λ n. map made (range_with_len 1 n)) seven)
 

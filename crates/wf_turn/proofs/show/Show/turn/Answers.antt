@@ -1,4 +1,5 @@
-use Rattle.wf_turn.proofs.Common.{◌≡◌, ◌∷◌, ◌∙◌, ap, sym, subst, List, [], map, IfSome, ArePainted, IsCast, Turned, all_painted, has_work}
+use Rattle.wf_turn.proofs.Common.{◌≡◌, ◌+◌, ◌∷◌, ◌∙◌, ap, sym, subst, List, [], map, IfSome, ArePainted, IsCast, Turned, all_painted}
+use Rattle.wf_turn.proofs.Common.{has_work}
 use Rattle.wf_turn.proofs.Common.{show_of, with_paint, Program, worked, AreOf, IsWork, Show, handed_on}
 use Rattle.std.specs.List.{slice_get}
 use Rattle.wf_turn.proofs.Shows.{HasTurn, are_after, cast_after, handed_is, has_turn, of_script, ready, turned, work_after}
@@ -34,7 +35,7 @@ hand_on-requires-clause-script c =
 pub hand_on-requires-clause-clock : goal.hand_on-requires-clause-clock
 hand_on-requires-clause-clock c = sym (worked_client _) ∙ (of_one c).1
 
-module _ (c : goal.After-hand_on) where
+module _ (c : goal.After-self-1) where
   abbrev s : Show
   s = show_of c.self.inside
 
@@ -42,7 +43,7 @@ module _ (c : goal.After-hand_on) where
   placed = c.take_turn_of-turn.new.clock ∷ c.take_turn_of-turn.new.others.items
 
   abbrev with_programs : List Program → Show
-  with_programs ps = record { state = c.take_turn_of-turn.new.machine; programs = ps; frames = [] }
+  with_programs ps = record { state = c.take_turn_of-turn.new.machine; programs = ps; frames = []; turns = c.self.inside.turns + 1 }
 
   now_is : with_programs (c.take_turn_of-turn.new.clock ∷ c.hand_on.new.others.items) ≡ with_programs (handed_on s.programs placed)
   now_is =

@@ -1,0 +1,1 @@
+use Rattle.wf_turn.proofs.replaying.write_again.Goals as goal
