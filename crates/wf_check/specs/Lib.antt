@@ -1,0 +1,2 @@
+-- What a check of a film finds.
+pub mod Verdicts

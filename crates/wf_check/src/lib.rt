@@ -1,0 +1,12 @@
+//! Checks a film: whether it is the film of a script and of the order that its own journal tells.
+#![tactic(auto)]
+
+mod checking;
+mod comparing;
+#[cfg(test)]
+mod tests;
+mod verdict;
+
+pub use checking::check;
+pub use verdict::Verdict;
+pub use wf_words::NoMemory;
