@@ -9,8 +9,15 @@ PROGRAM = Path(os.environ.get("WFPLAY") or TOP / "crates/wfplay/out/wfplay")
 SECONDS = 120
 
 
-def play(text):
-    """The exit status of a play, its film and its notes."""
-    words = [str(PROGRAM), "film"]
+def play(text, form=2):
+    """The exit status of a play, its film in a form, and its notes."""
+    words = [str(PROGRAM), "film", "--film", str(form)]
     played = subprocess.run(words, input=text.encode("utf-8"), capture_output=True, timeout=SECONDS, check=False)
     return played.returncode, played.stdout, played.stderr.decode("utf-8", "replace")
+
+
+def printed(text):
+    """The exit status and the notes of a script that is printed."""
+    words = [str(PROGRAM), "print"]
+    ran = subprocess.run(words, input=text.encode("utf-8"), capture_output=True, timeout=SECONDS, check=False)
+    return ran.returncode, ran.stderr.decode("utf-8", "replace")

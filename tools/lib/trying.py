@@ -47,9 +47,9 @@ def ran(name, *words, data=b""):
     return done.returncode, done.stdout, done.stderr.decode()
 
 
-def played(path):
-    """The film of a script, as the built program plays it."""
-    status, film, notes = play(path.read_text(encoding="utf-8"))
+def played(path, form=2):
+    """The film of a script in a form, as the built program plays it."""
+    status, film, notes = play(path.read_text(encoding="utf-8"), form)
     assert status == 0, f"{path}: {notes}"
     return film
 

@@ -6,7 +6,8 @@ use Rattle.wf_io.specs.Bytes.{Puts, PutsPart}
 use Rattle.wf_io.specs.Causes.{HasCause}
 use Rattle.wf_calls.specs.declared.order.Turn.{Turn}
 use Rattle.wf_script.specs.Script.{PlainScript}
-use Rattle.wf_turn.specs.Serial.{IsCutFilm}
+use Rattle.wf_film.specs.declared.form.FilmForm.{FilmForm}
+use Rattle.wf_turn.specs.Films.{IsCutFilm}
 use Rattle.wf_play.specs.Notes.{PutsOrFront}
 
 -- as many bytes were put as are told
@@ -14,9 +15,9 @@ pub as_many : {S : Type 0} (took : S → List ℕ → Type 0) (a b : S) (bytes :
     → (front : List ℕ) × (length front ≡ written) × Puts took a b front
 as_many took a b bytes written part = (take (written - 0) bytes, omega (arith, length-take (written - 0) bytes, part.short), part.front)
 
-pub cut_many : {S : Type 0} (took : S → List ℕ → Type 0) (a b : S) (script : PlainScript) (order : List Turn) (written : ℕ)
-    → IsCutFilm took a b script order written → (front : List ℕ) × (length front ≡ written) × Puts took a b front
-cut_many took a b script order written cut =
+pub cut_many : {S : Type 0} (took : S → List ℕ → Type 0) (a b : S) (form : FilmForm) (script : PlainScript) (order : List Turn)
+    (written : ℕ) → IsCutFilm took a b form script order written → (front : List ℕ) × (length front ≡ written) × Puts took a b front
+cut_many took a b form script order written cut =
     elim cut.cut [
       | inl magic ↦ as_many took a b _ written magic.put
       | inr later ↦ elim later [ inl frame ↦ as_many took a b _ written frame.put | inr journal ↦ as_many took a b _ written journal.put ]

@@ -1,25 +1,29 @@
--- What a status says, drawn from what it says of the input.
-use Rattle.std.proofs.Common.{◌≡◌, ◌∙◌, ℕ, inl, inr, List, Option, Some, None, Ok, Err, refl, sym, arith}
+-- What a status says, drawn from what it says of the input, or of the script that was made.
+use Rattle.std.proofs.Common.{◌≡◌, ◌∙◌, ◌⊎◌, ℕ, inl, inr, List, Option, Some, None, Ok, Err, refl, sym, arith}
 use Rattle.std.specs.Prelude.{IfSome}
+use Rattle.wf_io.specs.Causes.{Rose}
 use Rattle.wf_calls.specs.declared.order.Turn.{Turn}
+use Rattle.wf_film.specs.declared.form.FilmForm.{FilmForm}
 use Rattle.wf_script.specs.Script.{PlainScript}
-use Rattle.wf_play.specs.Report.{IsCaused, IsComplete, IsWhole, SaysOfInput}
+use Rattle.wf_play.specs.Big.{SaysOfBig}
+use Rattle.wf_play.specs.Report.{CompletesIn, IsCaused, IsComplete, SaysOfInput, SaysOfRead}
 use Rattle.wf_play.specs.declared.report.Status.{Status}
 use Rattle.wf_play.specs.declared.report.Status.TheVariants as status
-use Rattle.std.specs.Prelude.{String}
-use Rattle.std.specs.Global.{Global}
-use Rattle.wf_play.specs.Words.{AreAccepted, AskFor}
-use Rattle.wf_play.specs.declared.words.Mode.{Mode}
-use Rattle.wf_play.specs.declared.words.Mode.TheVariants as mode
+use Rattle.wf_command.specs.declared.asked.Mode.{Mode}
+use Rattle.wf_command.specs.declared.asked.Mode.TheVariants as mode
 
-module _ {O : Type 0} (took : O → List ℕ → Type 0) (old new : O) (order : List Turn) (m : Mode) where
+module _ {O : Type 0} (took : O → List ℕ → Type 0) (old new : O) (order : List Turn) (IsWhole : List ℕ → Type 0)
+    (IsCut : List ℕ → ℕ → Type 0) where
+  abbrev Says : List ℕ → Status → Type 0
+  Says = SaysOfRead took old new order IsWhole IsCut
+
   -- with Done, all was put
-  pub done_says : (o : Option (List ℕ)) (s : Status) → IfSome o (λ bytes. SaysOfInput took old new order m bytes s)
-      → IfSome o (λ bytes. s ≡ status.Done → IsWhole took old new order m bytes)
+  pub done_says : (o : Option (List ℕ)) (s : Status) → IfSome o (λ bytes. Says bytes s)
+      → IfSome o (λ bytes. s ≡ status.Done → IsWhole bytes)
   done_says None s says = tt
   done_says (Some bytes) s says = λ is. (rw is at says).1
 
-  one_complete : (a b c d : ℕ) (bytes : List ℕ) (s : Status) → (s ≡ status.Usage → ⊥) → SaysOfInput took old new order m bytes s
+  one_complete : (a b c d : ℕ) (bytes : List ℕ) (s : Status) → (s ≡ status.Usage → ⊥) → Says bytes s
       → IsCaused a b c d s → IsComplete bytes a b c d s
   one_complete a b c d bytes status.Done accepted says caused = λ script stands within calm quiet. inl refl
   one_complete a b c d bytes status.Usage accepted says caused = absurd (accepted refl)
@@ -33,17 +37,29 @@ module _ {O : Type 0} (took : O → List ℕ → Type 0) (old new : O) (order : 
 
   -- without a fault, a script within the limit comes to Done, or to NoMemory
   all_complete : (a b c d : ℕ) (o : Option (List ℕ)) (s : Status) → (s ≡ status.Usage → ⊥)
-      → IfSome o (λ bytes. SaysOfInput took old new order m bytes s) → IsCaused a b c d s → IfSome o (λ bytes. IsComplete bytes a b c d s)
+      → IfSome o (λ bytes. Says bytes s) → IsCaused a b c d s → IfSome o (λ bytes. IsComplete bytes a b c d s)
   all_complete a b c d None s accepted says caused = tt
   all_complete a b c d (Some bytes) s accepted says caused = one_complete a b c d bytes s accepted says caused
 
--- and so of each mode
-pub accepted_complete : {O : Type 0} (took : O → List ℕ → Type 0) (old new : O) (order : List Turn) (words : List (String Global))
-    (a b c d : ℕ) (o : Option (List ℕ)) (s : Status) → AreAccepted words → (s ≡ status.Usage → ¬ (AreAccepted words))
-    → ((m : Mode) → AskFor m words → IfSome o (λ bytes. SaysOfInput took old new order m bytes s)) → IsCaused a b c d s
-    → IfSome o (λ bytes. IsComplete bytes a b c d s)
-accepted_complete took old new order words a b c d o s accepted usage says caused =
-    elim accepted [
-      | inl film ↦ all_complete took old new order mode.Film a b c d o s (λ is. usage is (inl film)) (says mode.Film film) caused
-      | inr print ↦ all_complete took old new order mode.Print a b c d o s (λ is. usage is (inr print)) (says mode.Print print) caused
-    ]
+-- and so does a script that is made
+made_complete : {O : Type 0} (took : O → List ℕ → Type 0) (old new : O) (form : FilmForm) (size : ℕ) (order : List Turn) (a b c d : ℕ)
+    (s : Status) → SaysOfBig took old new form size order s → IsCaused a b c d s → ¬ Rose c d → (s ≡ status.Done) ⊎ (s ≡ status.NoMemory)
+made_complete took old new form size order a b c d status.Done says caused quiet = inl refl
+made_complete took old new form size order a b c d status.Usage says caused quiet = absurd says
+made_complete took old new form size order a b c d status.ReadFault says caused quiet = absurd says
+made_complete took old new form size order a b c d status.TooLong says caused quiet = absurd says
+made_complete took old new form size order a b c d (status.Refused line rule) says caused quiet = absurd says
+made_complete took old new form size order a b c d (status.WriteFault written) says caused quiet = absurd (quiet caused)
+made_complete took old new form size order a b c d status.NoMemory says caused quiet = inr refl
+
+-- each mode
+pub mode_completes : {O : Type 0} (took : O → List ℕ → Type 0) (old new : O) (order : List Turn) (m : Mode) (form : FilmForm) (size : ℕ)
+    (a b c d : ℕ) (o : Option (List ℕ)) (s : Status) → (s ≡ status.Usage → ⊥)
+    → IfSome o (λ bytes. SaysOfInput took old new order m form bytes s)
+    → (m ≡ mode.Big → SaysOfBig took old new form size order s) → IsCaused a b c d s → CompletesIn m o a b c d s
+mode_completes took old new order mode.Film form size a b c d o s accepted says big caused =
+    all_complete took old new order _ _ a b c d o s accepted says caused
+mode_completes took old new order mode.Print form size a b c d o s accepted says big caused =
+    all_complete took old new order _ _ a b c d o s accepted says caused
+mode_completes took old new order mode.Big form size a b c d o s accepted says big caused =
+    made_complete took old new form size order a b c d s (big refl) caused

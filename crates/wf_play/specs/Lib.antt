@@ -1,4 +1,4 @@
--- What the top call promises: its words, its statuses, and what they say of the bytes and of the notes.
-pub mod Words
+-- What the top call promises: its statuses, and what they say of the bytes and of the notes.
 pub mod Report
 pub mod Notes
+pub mod Big

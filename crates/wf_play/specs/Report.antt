@@ -1,5 +1,5 @@
 -- What a report says: of the input's bytes, of what went into the film, and of the order.
-use Rattle.std.specs.Prelude.{◌≡◌, ℕ, ◌^◌, ◌<◌, ◌≤◌, ◌⊎◌, List, [], length, Result, Ok, Err}
+use Rattle.std.specs.Prelude.{◌≡◌, ℕ, ◌^◌, ◌<◌, ◌≤◌, ◌⊎◌, List, [], length, Option, Result, Ok, Err, IfSome}
 use Rattle.wf_io.specs.Bytes.{Puts, PutsNothing, PutsPart}
 use Rattle.wf_io.specs.Causes.{Rose}
 use Rattle.wf_calls.specs.declared.order.Turn.{Turn}
@@ -8,10 +8,12 @@ use Rattle.wf_script.specs.declared.fault.ScriptFault.TheVariants as fault
 use Rattle.wf_script.specs.Canonical.{canonical}
 use Rattle.wf_script.specs.Grammar.{Stands, read_script}
 use Rattle.wf_script.specs.Script.{PlainScript}
-use Rattle.wf_turn.specs.Play.{film}
-use Rattle.wf_turn.specs.Serial.{IsCutFilm, IsSerial}
-use Rattle.wf_play.specs.declared.words.Mode.{Mode}
-use Rattle.wf_play.specs.declared.words.Mode.TheVariants as mode
+use Rattle.wf_film.specs.declared.form.FilmForm.{FilmForm}
+use Rattle.wf_turn.specs.Films.{IsCutFilm}
+use Rattle.wf_turn.specs.Play.{IsComplete as IsWholeOrder, film, marks, serial_order}
+use Rattle.wf_turn.specs.Serial.{BeginsSerial}
+use Rattle.wf_command.specs.declared.asked.Mode.{Mode}
+use Rattle.wf_command.specs.declared.asked.Mode.TheVariants as mode
 use Rattle.wf_play.specs.declared.report.Status.{Status}
 use Rattle.wf_play.specs.declared.report.Status.TheVariants as status
 
@@ -41,19 +43,23 @@ refusal_of fault.NoMemory = status.NoMemory
 abbrev pub IsRefused : List ℕ → ℕ → ℕ → Type 0
 IsRefused bytes line rule = (f : ScriptFault) × ((read_script bytes ≡ Err f) × (refusal_of f ≡ status.Refused line rule))
 
--- the bytes that were put are the plain film of the script that the input's bytes stand for, under the order,
+-- the bytes that were put are the plain film, in a form, of the script that the input's bytes stand for, under the order,
 -- which is legal and complete, and is the serial order
-pub record IsPlainFilm {O : Type 0} (took : O → List ℕ → Type 0) (old new : O) (bytes : List ℕ) (order : List Turn) : Type 0 where
+pub record IsPlainFilm {O : Type 0} (took : O → List ℕ → Type 0) (old new : O) (form : FilmForm) (bytes : List ℕ) (order : List Turn)
+    : Type 0 where
   pub script : PlainScript
   pub stands : Stands bytes script
-  pub put : Puts took old new (film script order)
-  pub order_is : IsSerial script order
+  pub put : Puts took old new (film form script order)
+  pub complete : IsWholeOrder script order
+  pub serial : order ≡ serial_order script (marks order)
 
 -- the first `written` bytes of a film of that script were put, with an order that begins the serial one
-pub record IsFront {O : Type 0} (took : O → List ℕ → Type 0) (old new : O) (bytes : List ℕ) (order : List Turn) (written : ℕ) : Type 0 where
+pub record IsFront {O : Type 0} (took : O → List ℕ → Type 0) (old new : O) (form : FilmForm) (bytes : List ℕ) (order : List Turn)
+    (written : ℕ) : Type 0 where
   pub script : PlainScript
   pub stands : Stands bytes script
-  pub cut : IsCutFilm took old new script order written
+  pub cut : IsCutFilm took old new form script order written
+  pub serial : BeginsSerial script order
 
 -- the bytes that were put are the canonical text of the script that the input's bytes stand for, and nothing was played
 pub record IsPrinted {O : Type 0} (took : O → List ℕ → Type 0) (old new : O) (bytes : List ℕ) (order : List Turn) : Type 0 where
@@ -71,24 +77,23 @@ pub record IsCutText {O : Type 0} (took : O → List ℕ → Type 0) (old new : 
     pub none : order ≡ []
 
 module _ {O : Type 0} (took : O → List ℕ → Type 0) (old new : O) (order : List Turn) where
-  -- what a mode puts whole, and of what it put a front
-  abbrev pub IsWhole : Mode → List ℕ → Type 0
-  IsWhole mode.Film bytes = IsPlainFilm took old new bytes order
-  IsWhole mode.Print bytes = IsPrinted took old new bytes order
+  -- what each status says of an input of these bytes, in a mode that reads it, with what that puts whole and of what it put a front
+  abbrev pub SaysOfRead : (List ℕ → Type 0) → (List ℕ → ℕ → Type 0) → List ℕ → Status → Type 0
+  SaysOfRead IsWhole IsCut bytes status.Done = (length bytes ≤ script_limit) × IsWhole bytes
+  SaysOfRead IsWhole IsCut bytes status.Usage = Unit {0}
+  SaysOfRead IsWhole IsCut bytes status.ReadFault = Unit {0}
+  SaysOfRead IsWhole IsCut bytes status.TooLong = script_limit < length bytes
+  SaysOfRead IsWhole IsCut bytes (status.Refused line rule) = (length bytes ≤ script_limit) × IsRefused bytes line rule
+  SaysOfRead IsWhole IsCut bytes (status.WriteFault written) = (length bytes ≤ script_limit) × IsCut bytes written
+  SaysOfRead IsWhole IsCut bytes status.NoMemory = Unit {0}
 
-  abbrev pub IsCut : Mode → List ℕ → ℕ → Type 0
-  IsCut mode.Film bytes written = IsFront took old new bytes order written
-  IsCut mode.Print bytes written = IsCutText took old new bytes order written
-
-  -- what each status says of an input of these bytes
-  abbrev pub SaysOfInput : Mode → List ℕ → Status → Type 0
-  SaysOfInput m bytes status.Done = (length bytes ≤ script_limit) × IsWhole m bytes
-  SaysOfInput m bytes status.Usage = Unit {0}
-  SaysOfInput m bytes status.ReadFault = Unit {0}
-  SaysOfInput m bytes status.TooLong = script_limit < length bytes
-  SaysOfInput m bytes (status.Refused line rule) = (length bytes ≤ script_limit) × IsRefused bytes line rule
-  SaysOfInput m bytes (status.WriteFault written) = (length bytes ≤ script_limit) × IsCut m bytes written
-  SaysOfInput m bytes status.NoMemory = Unit {0}
+  -- what each status says of an input of these bytes; the mode `big` reads none
+  abbrev pub SaysOfInput : Mode → FilmForm → List ℕ → Status → Type 0
+  SaysOfInput mode.Film form bytes s =
+      SaysOfRead (λ bytes. IsPlainFilm took old new form bytes order) (λ bytes. IsFront took old new form bytes order) bytes s
+  SaysOfInput mode.Print form bytes s =
+      SaysOfRead (λ bytes. IsPrinted took old new bytes order) (λ bytes. IsCutText took old new bytes order) bytes s
+  SaysOfInput mode.Big form bytes s = Unit {0}
 
   -- what each status says of the film and of the order, whatever the input
   abbrev pub SaysOfFilm : Status → Type 0
@@ -122,3 +127,8 @@ abbrev pub IsComplete : List ℕ → (input_before input_now film_before film_no
 IsComplete bytes input_before input_now film_before film_now s =
     (script : PlainScript) → Stands bytes script → length bytes ≤ script_limit → ¬ Rose input_before input_now → ¬ Rose film_before film_now
     → (s ≡ status.Done) ⊎ (s ≡ status.NoMemory)
+
+-- in each mode: `big` needs no input
+abbrev pub CompletesIn : Mode → Option (List ℕ) → (input_before input_now film_before film_now : ℕ) → Status → Type 0
+CompletesIn mode.Big input a b film_before film_now s = ¬ Rose film_before film_now → (s ≡ status.Done) ⊎ (s ≡ status.NoMemory)
+CompletesIn _ input a b film_before film_now s = IfSome input (λ bytes. IsComplete bytes a b film_before film_now s)

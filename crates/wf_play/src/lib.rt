@@ -1,19 +1,20 @@
 //! The top call: plays a scene script and writes its film, or prints it.
 #![tactic(auto)]
 
+mod big;
 mod gate;
 mod laws;
 mod notes;
 mod report;
+mod text;
 mod top;
-mod words;
 
 pub use gate::{Gate, Open};
 pub use laws::one_film;
 pub use notes::put_note;
 pub use report::{Report, Status};
 pub use top::play;
-pub use words::Mode;
+pub use wf_command::{Asked, Mode};
 
 #[cfg(test)]
 mod tests;

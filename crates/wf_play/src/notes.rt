@@ -1,43 +1,17 @@
 //! The line that a play puts into the notes.
 
-ghost use Rattle.std.specs.Prelude.{◌≡◌, ◌+◌, ◌≤◌, ◌++◌, codes, decimal, length};
+ghost use Rattle.std.specs.Prelude.{◌≡◌, ◌≤◌, ◌++◌, codes, decimal, length};
 ghost use Rattle.wf_play.specs.Notes.{PutsOrFront, note_of};
 
 use crate::report::Status;
-use arrayvec::ArrayVec;
-use itoa::Buffer;
+use crate::text::{MOST, Text, add, add_number};
 use wf_io::{Sink, write_all};
 
-/// The most bytes of a line.
-const MOST: usize = 96;
-
-/// A line that is made on the stack.
-type Note = ArrayVec<u8, 96>;
-
-/// Adds text to a line.
-fn add(note: &mut Note, text: &[u8])
-    requires { length note.old.items + length text.now ≤ MOST }
-    ensures { note.new.items ≡ note.old.items ++ text.now }
-{
-    for byte in text {
-        note.push(*byte);
-    }
-}
-
-/// Adds a number to a line.
-fn add_number(note: &mut Note, number: u64)
-    requires { length note.old.items + 20 ≤ MOST }
-    ensures number { note.new.items ≡ note.old.items ++ decimal number }
-    ensures most { length note.new.items ≤ length note.old.items + 20 }
-{
-    add(note, Buffer::new().format(number).as_bytes());
-}
-
 /// The line of a script that was refused.
-fn refusal(line: u32, rule: u32) -> Note
+fn refusal(line: u32, rule: u32) -> Text
     ensures { result.items ≡ codes "line " ++ decimal line ++ codes ": rule " ++ decimal rule ++ codes "\n" }
 {
-    let mut note = Note::new();
+    let mut note = Text::new();
     add(&mut note, b"line ");
     add_number(&mut note, line.into());
     add(&mut note, b": rule ");
@@ -47,10 +21,10 @@ fn refusal(line: u32, rule: u32) -> Note
 }
 
 /// The line of a film that was cut.
-fn cut(written: u64) -> Note
+fn cut(written: u64) -> Text
     ensures { result.items ≡ codes "write fault after " ++ decimal written ++ codes " bytes\n" }
 {
-    let mut note = Note::new();
+    let mut note = Text::new();
     add(&mut note, b"write fault after ");
     add_number(&mut note, written);
     add(&mut note, b" bytes\n");
@@ -58,23 +32,25 @@ fn cut(written: u64) -> Note
 }
 
 /// A line of a text.
-fn line_of(text: &[u8]) -> Note
+fn line_of(text: &[u8]) -> Text
     requires { length text.now ≤ MOST }
     ensures { result.items ≡ text.now }
 {
-    let mut note = Note::new();
+    let mut note = Text::new();
     add(&mut note, text);
     note
 }
 
 /// The line of a status: nothing where the film is whole.
-fn note_of(status: Status) -> Note
+fn note_of(status: Status) -> Text
     ensures { result.items ≡ note_of status }
 {
     match status {
-        Status::Done => Note::new(),
+        Status::Done => Text::new(),
         Status::Usage => {
-            line_of(b"usage: wfplay <film|check|print|big> [--threads] [--rows N] [--size N]\n")
+            line_of(
+                b"usage: wfplay <film|check|print|big> [--threads] [--rows N] [--size N] [--film N]\n",
+            )
         }
         Status::ReadFault => line_of(b"read fault\n"),
         Status::TooLong => line_of(b"input too long\n"),

@@ -1,8 +1,9 @@
 //! How a play ended.
 
-ghost use Rattle.std.specs.Prelude.{◌≡◌};
+ghost use Rattle.std.specs.Prelude.{◌≡◌, []};
 ghost use Rattle.wf_play.specs.Report.{exit_of};
 
+use std::alloc::Global;
 use wf_calls::Order;
 
 /// How a play ended.
@@ -46,4 +47,15 @@ impl Status {
 pub struct Report {
     pub status: Status,
     pub order: Order,
+}
+
+/// A report of what played nothing.
+pub(crate) fn without_order(alloc: Global, status: Status) -> Report
+    ensures status { result.status ≡ status }
+    ensures order { result.order ≡ [] }
+{
+    Report {
+        status,
+        order: Order::new(Vec::new(alloc)),
+    }
 }

@@ -12,7 +12,7 @@ const ONE_TICK: &str = "WFS1\nport 4x2\n0 tick\nend\n";
 /// The same script, as a person may write it.
 const UNTIDY: &str = "WFS1\r\n# one\n port 04x2 \n\n0   tick\nend\n";
 
-/// Its film.
+/// Its film in form 1.
 const FILM: [u8; 70] = *b"WFF1\
     F\x01\0\0\0\x01\0\x04\0\x02\
     \0\0\0\xff\0\0\0\xff\0\0\0\xff\0\0\0\xff\
@@ -23,7 +23,19 @@ const FILM: [u8; 70] = *b"WFF1\
     \0\0\0\0\0\0\
     E";
 
-const USAGE: &str = "usage: wfplay <film|check|print|big> [--threads] [--rows N] [--size N]\n";
+/// Its film in form 2: the port's frame is begun by entry 1.
+const FILM_OF_TWO: [u8; 74] = *b"WFF2\
+    F\x01\0\0\0\x01\0\0\0\x01\0\x04\0\x02\
+    \0\0\0\xff\0\0\0\xff\0\0\0\xff\0\0\0\xff\
+    \0\0\0\xff\0\0\0\xff\0\0\0\xff\0\0\0\xff\
+    J\0\0\0\x03\
+    \0\0\0\0\0\0\
+    \0\0\0\0\0\x01\
+    \0\0\0\0\0\0\
+    E";
+
+const USAGE: &str =
+    "usage: wfplay <film|check|print|big> [--threads] [--rows N] [--size N] [--film N]\n";
 
 /// A play: its words, its script with so many spaces behind it, and which calls of the source and of the film's sink fail, 0 for
 /// none. And what is wanted: the status with its exit, how many bytes of the film or of the text are put, how many turns are
@@ -51,7 +63,7 @@ const DONE: Row = Row {
     put: 0,
     status: Status::Done,
     exit: 0,
-    written: 70,
+    written: 74,
     turns: 3,
     note: "",
 };
@@ -112,12 +124,40 @@ fn write_fault(put: u32, written: usize, turns: usize, note: &'static str) -> Ro
     }
 }
 
+/// A play with words that ask for form 1, whose film is four bytes shorter for each frame.
+fn of_one(words: &'static str, row: Row) -> Row {
+    let written = if row.written == 74 { 70 } else { row.written };
+    Row {
+        words,
+        written,
+        ..row
+    }
+}
+
 /// A script that is printed.
 const PRINTED: Row = Row {
     words: "print",
     script: UNTIDY,
     written: 25,
     turns: 0,
+    ..DONE
+};
+
+/// The line of a script of one round.
+const COUNTED: &str = "big 1: lines 20 events 21 frames 1 bytes 12438 sum 784032\n";
+
+/// The line of the same script, of its film in form 1.
+const COUNTED_OF_ONE: &str = "big 1: lines 20 events 21 frames 1 bytes 12434 sum 784015\n";
+
+/// The line of a hundred rounds.
+const HUNDRED: &str = "big 100: lines 1307 events 1803 frames 100 bytes 1241028 sum 80296972\n";
+
+/// A script that is made, played and counted. The source fails at once, and is not asked.
+const MADE: Row = Row {
+    words: "big",
+    take: 1,
+    written: 58,
+    turns: 21,
     ..DONE
 };
 
@@ -138,10 +178,18 @@ fn plays<R: Threads + Wait + Sync + AllocGlobal>(rt: &R, row: &Row) -> Result<bo
         return Err("memory".into());
     };
     let report = play(rt, alloc, &words, &mut input, &mut film, &mut notes, &Open);
-    let whole = if row.words == "print" {
+    let whole: &[u8] = if row.words.contains("big --film 1") {
+        COUNTED_OF_ONE.as_bytes()
+    } else if row.turns == 1803 {
+        HUNDRED.as_bytes()
+    } else if row.words.contains("big") {
+        COUNTED.as_bytes()
+    } else if row.words.contains("print") {
         ONE_TICK.as_bytes()
-    } else {
+    } else if row.words.contains('1') {
         &FILM
+    } else {
+        &FILM_OF_TWO
     };
     Ok(
         report.status == row.status
@@ -163,6 +211,26 @@ fn each_play_ends_as_it_should(rt: HostRuntime) -> Result<(), Fail> {
     };
     let rows = [
         DONE,
+        Row {
+            words: "film --film 2",
+            ..DONE
+        },
+        Row {
+            words: "--film=2 film",
+            ..DONE
+        },
+        of_one("film --film 1", DONE),
+        of_one("--film 1 film", DONE),
+        of_one("--film=1 film", DONE),
+        of_one("--film=01 film --", DONE),
+        of_one(
+            "film --film 1",
+            write_fault(3, 14, 3, "write fault after 14 bytes\n"),
+        ),
+        of_one(
+            "film --film 1",
+            write_fault(8, 69, 3, "write fault after 69 bytes\n"),
+        ),
         long,
         usage(""),
         usage("film film"),
@@ -170,6 +238,18 @@ fn each_play_ends_as_it_should(rt: HostRuntime) -> Result<(), Fail> {
         usage("films"),
         usage("fil"),
         usage("--film"),
+        usage("--film 1"),
+        usage("film --film"),
+        usage("film --film 0"),
+        usage("film --film 3"),
+        usage("film --film one"),
+        usage("film --film 1 --film 2"),
+        usage("film --film= 1"),
+        usage("film --help"),
+        usage("-h"),
+        usage("help"),
+        usage("film --form 1"),
+        usage("film --threads"),
         usage("Film"),
         // 25 bytes, seven at a time: the sixth take is not asked for.
         read_fault(1),
@@ -190,12 +270,12 @@ fn each_play_ends_as_it_should(rt: HostRuntime) -> Result<(), Fail> {
         ),
         write_fault(1, 0, 0, "write fault after 0 bytes\n"),
         write_fault(2, 4, 3, "write fault after 4 bytes\n"),
-        write_fault(3, 14, 3, "write fault after 14 bytes\n"),
-        write_fault(4, 46, 3, "write fault after 46 bytes\n"),
-        write_fault(5, 51, 3, "write fault after 51 bytes\n"),
-        write_fault(6, 57, 3, "write fault after 57 bytes\n"),
-        write_fault(7, 63, 3, "write fault after 63 bytes\n"),
-        write_fault(8, 69, 3, "write fault after 69 bytes\n"),
+        write_fault(3, 18, 3, "write fault after 18 bytes\n"),
+        write_fault(4, 50, 3, "write fault after 50 bytes\n"),
+        write_fault(5, 55, 3, "write fault after 55 bytes\n"),
+        write_fault(6, 61, 3, "write fault after 61 bytes\n"),
+        write_fault(7, 67, 3, "write fault after 67 bytes\n"),
+        write_fault(8, 73, 3, "write fault after 73 bytes\n"),
         Row { put: 9, ..DONE },
         PRINTED,
         Row {
@@ -215,6 +295,40 @@ fn each_play_ends_as_it_should(rt: HostRuntime) -> Result<(), Fail> {
             words: "print",
             ..refused("WFS1\nport 4x2\n0 tock\nend\n", 3, 3, "line 3: rule 3\n")
         },
+        Row {
+            words: "print --film 1",
+            ..PRINTED
+        },
+        MADE,
+        Row {
+            words: "big --size 1",
+            ..MADE
+        },
+        Row {
+            words: "big --film 1",
+            ..MADE
+        },
+        Row {
+            words: "big --size=100",
+            written: HUNDRED.len(),
+            turns: 1803,
+            ..MADE
+        },
+        Row {
+            put: 1,
+            status: Status::WriteFault { written: 0 },
+            exit: 6,
+            written: 0,
+            note: "write fault after 0 bytes\n",
+            ..MADE
+        },
+        Row {
+            words: "film --size 7",
+            ..DONE
+        },
+        usage("big --size 0"),
+        usage("big --size 1001"),
+        usage("big 1"),
         usage("print print"),
         usage("print film"),
         usage("prints"),

@@ -1,20 +1,23 @@
 //! The top call.
 
-ghost use Rattle.std.specs.Prelude.{◌≡◌, ◌≢◌, ◌≤◌, ◌↔◌, [], IfErr, IfSome};
+ghost use Rattle.std.specs.Prelude.{◌≡◌, ◌≢◌, ◌≤◌, ◌⊎◌, IfErr, IfSome};
 ghost use Rattle.wf_io.specs.Causes.{Rose};
+ghost use Rattle.wf_command.specs.Words.{AreAccepted, AskFor};
+ghost use Rattle.wf_film.specs.declared.form.FilmForm.{FilmForm};
+ghost use Rattle.wf_play.specs.Big.{SaysOfBig};
 ghost use Rattle.wf_play.specs.Notes.{PutsOrFront, note_of};
-ghost use Rattle.wf_play.specs.Report.{IsCaused, IsComplete, IsPlainFilm, IsPrinted, IsReadStop, ReadsScript, SaysOfFilm, SaysOfInput};
+ghost use Rattle.wf_play.specs.Report.{CompletesIn, IsCaused, IsPlainFilm, IsPrinted, IsReadStop, ReadsScript, SaysOfFilm, SaysOfInput};
 ghost use Rattle.wf_play.specs.Report.{refusal_of};
-ghost use Rattle.wf_play.specs.Words.{AreAccepted, AskFor};
 
+use crate::big::play_big;
 use crate::gate::Gate;
 use crate::notes::put_note;
-use crate::report::{Report, Status};
-use crate::words::{Mode, mode_of};
+use crate::report::{Report, Status, without_order};
 use std::alloc::Global;
 use std::sync::Wait;
 use std::thread::Threads;
-use wf_calls::Order;
+use wf_command::{Asked, Mode, WordsStop, asked_by};
+use wf_film::FilmForm;
 use wf_io::{ReadStop, Sink, Source, read_all};
 use wf_script::{Script, ScriptFault, parse, print};
 use wf_turn::{PlayStop, serial};
@@ -22,10 +25,16 @@ use wf_turn::{PlayStop, serial};
 /// The longest script, in bytes.
 const SCRIPT_LIMIT: usize = 1_048_576;
 
-/// Reads the script and writes its film.
-fn play_film<I: Source, O: Sink>(alloc: Global, input: &mut I, film: &mut O) -> Report
+/// Reads the script and writes its film in a form.
+fn play_film<I: Source, O: Sink>(
+    alloc: Global,
+    form: FilmForm,
+    input: &mut I,
+    film: &mut O,
+) -> Report
     ensures mode { result.status ≢ Status.Usage }
-    ensures input { IfSome (I.left input.old) (λ bytes. SaysOfInput O.took film.old film.new result.order Mode.Film bytes result.status) }
+    ensures input { IfSome (I.left input.old) (λ bytes.
+        SaysOfInput O.took film.old film.new result.order Mode.Film form bytes result.status) }
     ensures film { SaysOfFilm O.took film.old film.new result.order result.status }
     ensures caused { IsCaused (I.faults input.old) (I.faults input.new) (O.faults film.old) (O.faults film.new) result.status }
     ensures input_count { I.faults input.old ≤ I.faults input.new }
@@ -35,7 +44,7 @@ fn play_film<I: Source, O: Sink>(alloc: Global, input: &mut I, film: &mut O) -> 
         Ok(script) => script,
         Err(status) => return without_order(alloc, status),
     };
-    match serial(alloc, &script, film) {
+    match serial(alloc, &script, form, film) {
         Ok(order) => Report {
             status: Status::Done,
             order,
@@ -51,7 +60,8 @@ fn play_film<I: Source, O: Sink>(alloc: Global, input: &mut I, film: &mut O) -> 
 /// Reads the script and prints it.
 fn play_print<I: Source, O: Sink>(alloc: Global, input: &mut I, film: &mut O) -> Report
     ensures mode { result.status ≢ Status.Usage }
-    ensures input { IfSome (I.left input.old) (λ bytes. SaysOfInput O.took film.old film.new result.order Mode.Print bytes result.status) }
+    ensures input { (form : FilmForm) → IfSome (I.left input.old) (λ bytes.
+        SaysOfInput O.took film.old film.new result.order Mode.Print form bytes result.status) }
     ensures film { SaysOfFilm O.took film.old film.new result.order result.status }
     ensures caused { IsCaused (I.faults input.old) (I.faults input.new) (O.faults film.old) (O.faults film.new) result.status }
     ensures input_count { I.faults input.old ≤ I.faults input.new }
@@ -69,17 +79,6 @@ fn play_print<I: Source, O: Sink>(alloc: Global, input: &mut I, film: &mut O) ->
                 written: stop.written as u64,
             },
         ),
-    }
-}
-
-/// A report of what played nothing.
-fn without_order(alloc: Global, status: Status) -> Report
-    ensures status { result.status ≡ status }
-    ensures order { result.order ≡ [] }
-{
-    Report {
-        status,
-        order: Order::new(Vec::new(alloc)),
     }
 }
 
@@ -118,33 +117,63 @@ fn read_script<I: Source>(alloc: Global, input: &mut I) -> Result<Script, Status
     }
 }
 
-/// Plays what the words ask for.
-fn play_mode<I: Source, O: Sink>(
+/// Plays what is asked for.
+fn play_asked<I: Source, O: Sink>(
     alloc: Global,
-    words: &[String],
+    asked: Asked,
     input: &mut I,
     film: &mut O,
 ) -> Report
-    ensures usage { (result.status ≡ Status.Usage) ↔ (¬ (AreAccepted words.now)) }
-    ensures usage_first { result.status ≡ Status.Usage → input.new ≡ input.old }
-    ensures input { (m : Mode) → AskFor m words.now
-        → IfSome (I.left input.old) (λ bytes. SaysOfInput O.took film.old film.new result.order m bytes result.status) }
+    requires some { 1 ≤ asked.size }
+    requires most { asked.size ≤ 1000 }
+    ensures mode { result.status ≢ Status.Usage }
+    ensures input { IfSome (I.left input.old) (λ bytes.
+        SaysOfInput O.took film.old film.new result.order asked.mode asked.form bytes result.status) }
+    ensures made { asked.mode ≡ Mode.Big
+        → (input.new ≡ input.old) × SaysOfBig O.took film.old film.new asked.form asked.size result.order result.status }
     ensures film { SaysOfFilm O.took film.old film.new result.order result.status }
     ensures caused { IsCaused (I.faults input.old) (I.faults input.new) (O.faults film.old) (O.faults film.new) result.status }
     ensures input_count { I.faults input.old ≤ I.faults input.new }
     ensures film_count { O.faults film.old ≤ O.faults film.new }
 {
-    match mode_of(words) {
-        Some(Mode::Film) => play_film(alloc, input, film),
-        Some(Mode::Print) => play_print(alloc, input, film),
-        None => without_order(alloc, Status::Usage),
+    match asked.mode {
+        Mode::Film => play_film(alloc, asked.form, input, film),
+        Mode::Print => play_print(alloc, input, film),
+        Mode::Big => play_big(alloc, asked.form, asked.size, film),
+    }
+}
+
+/// Plays what the words ask for.
+fn play_words<I: Source, O: Sink>(
+    alloc: Global,
+    words: &[String],
+    input: &mut I,
+    film: &mut O,
+) -> Report
+    ensures usage { result.status ≡ Status.Usage → ¬ (AreAccepted words.now) }
+    ensures refused { ¬ (AreAccepted words.now) → (result.status ≡ Status.Usage) ⊎ (result.status ≡ Status.NoMemory) }
+    ensures usage_first { result.status ≡ Status.Usage → input.new ≡ input.old }
+    ensures input { (asked : Asked) → AskFor asked words.now → IfSome (I.left input.old) (λ bytes.
+        SaysOfInput O.took film.old film.new result.order asked.mode asked.form bytes result.status) }
+    ensures made { (asked : Asked) → AskFor asked words.now → asked.mode ≡ Mode.Big
+        → (input.new ≡ input.old) × SaysOfBig O.took film.old film.new asked.form asked.size result.order result.status }
+    ensures film { SaysOfFilm O.took film.old film.new result.order result.status }
+    ensures caused { IsCaused (I.faults input.old) (I.faults input.new) (O.faults film.old) (O.faults film.new) result.status }
+    ensures input_count { I.faults input.old ≤ I.faults input.new }
+    ensures film_count { O.faults film.old ≤ O.faults film.new }
+{
+    match asked_by(alloc, words) {
+        Ok(asked) => play_asked(alloc, asked, input, film),
+        Err(WordsStop::Usage) => without_order(alloc, Status::Usage),
+        Err(WordsStop::NoMemory) => without_order(alloc, Status::NoMemory),
     }
 }
 
 /// Reads a scene script from `input`, writes its film or its canonical text into `film`, and answers how that ended. `words` are
-/// the command's words without the program's name; the one word `film` and the one word `print` are accepted. Each status but `Done`
-/// puts its line into `notes`, and a fault there changes nothing else. All memory but that of the script's own creations is taken
-/// before the first byte is put.
+/// the command's words without the program's name: the mode, `film`, `print` or `big`; for the form of the film `--film N`, N 1 or 2
+/// and by default 2; and for `big`, which reads nothing, plays the script that `make` of `wf_script` makes and writes one line on its
+/// film, `--size N`, N from 1 to 1000 and by default 1. Each status but `Done` puts its line into `notes`, and a fault there changes
+/// nothing else. All memory but that of the script's own creations is taken before the first byte is put.
 pub fn play<R: Threads + Wait + Sync, I: Source, O: Sink, N: Sink, G: Gate>(
     _rt: &R,
     alloc: Global,
@@ -154,24 +183,30 @@ pub fn play<R: Threads + Wait + Sync, I: Source, O: Sink, N: Sink, G: Gate>(
     notes: &mut N,
     _gate: &G,
 ) -> Report
-    // The film, where the input tells its bytes: with the word `film` and Done, it is the plain film of the script that the
-    // bytes stand for, under the order of the report.
-    ensures headline { AskFor Mode.Film words.now → IfSome (I.left input.old) (λ bytes. result.status ≡ Status.Done
-        → IsPlainFilm O.took film.old film.new bytes result.order) }
+    // The film, where the input tells its bytes: with the mode `film` and Done, it is the plain film, in the form that is
+    // asked for, of the script that the bytes stand for, under the order of the report.
+    ensures headline { (asked : Asked) → AskFor asked words.now → asked.mode ≡ Mode.Film
+        → IfSome (I.left input.old) (λ bytes. result.status ≡ Status.Done
+        → IsPlainFilm O.took film.old film.new asked.form bytes result.order) }
 
-    // With the word `print` and Done, it is the script's canonical text.
-    ensures printed { AskFor Mode.Print words.now → IfSome (I.left input.old) (λ bytes. result.status ≡ Status.Done
+    // With the mode `print` and Done, it is the script's canonical text.
+    ensures printed { (asked : Asked) → AskFor asked words.now → asked.mode ≡ Mode.Print
+        → IfSome (I.left input.old) (λ bytes. result.status ≡ Status.Done
         → IsPrinted O.took film.old film.new bytes result.order) }
 
+    // With the mode `big` nothing is read, and what is put is the line over the film of the script that is made, or its front.
+    ensures made { (asked : Asked) → AskFor asked words.now → asked.mode ≡ Mode.Big
+        → (input.new ≡ input.old) × SaysOfBig O.took film.old film.new asked.form asked.size result.order result.status }
+
     // When each status comes.
-    ensures usage { (result.status ≡ Status.Usage) ↔ (¬ (AreAccepted words.now)) }
+    ensures usage { result.status ≡ Status.Usage → ¬ (AreAccepted words.now) }
+    ensures refused { ¬ (AreAccepted words.now) → (result.status ≡ Status.Usage) ⊎ (result.status ≡ Status.NoMemory) }
     ensures usage_first { result.status ≡ Status.Usage → input.new ≡ input.old }
-    ensures input { (m : Mode) → AskFor m words.now
-        → IfSome (I.left input.old) (λ bytes. SaysOfInput O.took film.old film.new result.order m bytes result.status) }
+    ensures input { (asked : Asked) → AskFor asked words.now → IfSome (I.left input.old) (λ bytes.
+        SaysOfInput O.took film.old film.new result.order asked.mode asked.form bytes result.status) }
     ensures caused { IsCaused (I.faults input.old) (I.faults input.new) (O.faults film.old) (O.faults film.new) result.status }
-    ensures complete { AreAccepted words.now
-        → IfSome (I.left input.old) (λ bytes. IsComplete bytes (I.faults input.old) (I.faults input.new) (O.faults film.old)
-        (O.faults film.new) result.status) }
+    ensures complete { (asked : Asked) → AskFor asked words.now → CompletesIn asked.mode (I.left input.old) (I.faults input.old)
+        (I.faults input.new) (O.faults film.old) (O.faults film.new) result.status }
 
     // What went out.
     ensures film { SaysOfFilm O.took film.old film.new result.order result.status }
@@ -182,7 +217,7 @@ pub fn play<R: Threads + Wait + Sync, I: Source, O: Sink, N: Sink, G: Gate>(
     ensures film_count { O.faults film.old ≤ O.faults film.new }
     ensures notes_count { N.faults notes.old ≤ N.faults notes.new }
 {
-    let report = play_mode(alloc, words, input, film);
+    let report = play_words(alloc, words, input, film);
     put_note(notes, report.status);
     report
 }

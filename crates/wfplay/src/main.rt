@@ -1,15 +1,17 @@
-//! The program `wfplay`: plays a scene script from standard input and writes its film to standard output, or prints the script.
+//! The program `wfplay`: plays a scene script from standard input and writes its film to standard output, or prints the script; or
+//! plays a script that is made, and tells its film in one line.
 #![tactic(auto)]
 
-ghost use Rattle.std.specs.Prelude.{◌≡◌, ◌≢◌, ◌↔◌, IfSome};
+ghost use Rattle.std.specs.Prelude.{◌≡◌, ◌≢◌, ◌⊎◌, IfSome};
 ghost use Rattle.std.specs.IoError.{error_kind};
 ghost use Rattle.std.specs.declared.io.ErrorKind.TheVariants.{OutOfMemory};
+ghost use Rattle.wf_command.specs.Words.{AreAccepted, AskFor};
+ghost use Rattle.wf_command.specs.declared.asked.Asked.{Asked};
+ghost use Rattle.wf_command.specs.declared.asked.Mode.TheVariants as mode;
 ghost use Rattle.wf_play.specs.Notes.{PutsOrFront, note_of};
 ghost use Rattle.wf_play.specs.Report.{exit_of};
-ghost use Rattle.wf_play.specs.Words.{AreAccepted, AskFor};
 ghost use Rattle.wf_play.specs.declared.report.Status.{Status};
-ghost use Rattle.wf_play.specs.declared.words.Mode.TheVariants as mode;
-ghost use Rattle.wfplay.specs.Exit.{PutsFilm, PutsText};
+ghost use Rattle.wfplay.specs.Exit.{PutsFilm, PutsLine, PutsText};
 
 use std::alloc::Global;
 use std::process::ExitCode;
@@ -38,8 +40,8 @@ fn status_without_words(error: &io::Error) -> Status
     }
 }
 
-/// Plays or prints as the words ask, and tells the exit status: 0 only where all was put, and 2 exactly where the words are no
-/// command.
+/// Plays, prints or counts as the words ask, and tells the exit status: 0 only where all was put, and 2 where the words are no command,
+/// or 10 where there was no memory to read them.
 fn exit_of_play<R: Threads + Wait + Sync, I: Source, O: Sink, N: Sink>(
     rt: &R,
     alloc: Global,
@@ -48,9 +50,14 @@ fn exit_of_play<R: Threads + Wait + Sync, I: Source, O: Sink, N: Sink>(
     film: &mut O,
     notes: &mut N,
 ) -> u8
-    ensures film { AskFor mode.Film words.now → result ≡ 0 → IfSome (I.left input.old) (PutsFilm O.took film.old film.new) }
-    ensures printed { AskFor mode.Print words.now → result ≡ 0 → IfSome (I.left input.old) (PutsText O.took film.old film.new) }
-    ensures usage { (result ≡ 2) ↔ (¬ (AreAccepted words.now)) }
+    ensures film { (asked : Asked) → AskFor asked words.now → asked.mode ≡ mode.Film → result ≡ 0
+        → IfSome (I.left input.old) (PutsFilm O.took film.old film.new asked.form) }
+    ensures printed { (asked : Asked) → AskFor asked words.now → asked.mode ≡ mode.Print → result ≡ 0
+        → IfSome (I.left input.old) (PutsText O.took film.old film.new) }
+    ensures made { (asked : Asked) → AskFor asked words.now → asked.mode ≡ mode.Big → result ≡ 0
+        → PutsLine O.took film.old film.new asked.form asked.size }
+    ensures usage { result ≡ 2 → ¬ (AreAccepted words.now) }
+    ensures refused { ¬ (AreAccepted words.now) → (result ≡ 2) ⊎ (result ≡ 10) }
 {
     let report = play(rt, alloc, words, input, film, notes, &Open);
     report.status.exit()

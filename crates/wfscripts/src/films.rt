@@ -27,21 +27,26 @@ fn part(bytes: &[u8], from: usize, count: usize) -> &[u8] {
         .unwrap_or(&[])
 }
 
-/// The frame of a port at a tick, if the film has one.
+/// How many bytes of a frame stand before its pixels, in form 2.
+const HEAD: usize = 14;
+
+/// The frame of a port at a tick, if the film of form 2 has one.
 pub(crate) fn frame_of(film: &[u8], tick: usize, port: usize) -> Option<Frame<'_>> {
     let mut rest = part(film, 4, film.len().saturating_sub(4));
     for _ in 0..film.len() {
         if rest.first() != Some(&b'F') {
             return None;
         }
-        let width = be_number(rest, 6, 2);
-        let count = width.wrapping_mul(be_number(rest, 8, 2)).wrapping_mul(4);
+        let width = be_number(rest, 10, 2);
+        let count = width
+            .wrapping_mul(be_number(rest, 12, 2))
+            .wrapping_mul(4);
         if be_number(rest, 1, 1) == port && be_number(rest, 2, 4) == tick {
-            let pixels = part(rest, 10, count);
+            let pixels = part(rest, HEAD, count);
             return Some(Frame { width, pixels });
         }
-        let head = count.wrapping_add(10);
-        rest = part(rest, head, rest.len().saturating_sub(head));
+        let whole = count.wrapping_add(HEAD);
+        rest = part(rest, whole, rest.len().saturating_sub(whole));
     }
     None
 }

@@ -2,7 +2,7 @@
 
 use crate::events::{Journal, is_code};
 use crate::films::{frame_of, told_film, told_frame};
-use crate::plays::Played;
+use crate::plays::{OF_ONE, Played, Plays};
 use std::alloc::{AllocError, Global};
 use std::io;
 use wf_cases::{word, words_of};
@@ -18,7 +18,7 @@ pub(crate) struct Checked {
 /// A script that is being compared, and how many ticks were passed.
 #[derive(Drop)]
 struct Script<'a> {
-    played: &'a Played,
+    plays: &'a Plays,
     journal: Journal<'a>,
     ticks: usize,
 }
@@ -41,15 +41,16 @@ pub(crate) fn check_text<R: Print + AllocGlobal>(
     rt: &R,
     name: &str,
     text: &str,
-    played: &Played,
+    plays: &Plays,
     checked: &mut Checked,
 ) -> io::Result<()> {
+    let played = &plays.played;
     if played.status != Status::Done {
         checked.wrong = checked.wrong.saturating_add(1);
         return println!(rt; "{name}: {:?}", played.status);
     }
     let mut script = Script {
-        played,
+        plays,
         journal: Journal::new(played.order.turns()),
         ticks: 0,
     };
@@ -78,10 +79,13 @@ impl<'a> Script<'a> {
         if word(&words, 1) == "tick" {
             self.ticks = self.ticks.saturating_add(1);
         }
+        if let (Some(said), Some(played)) = (comment.strip_prefix(OF_ONE), &self.plays.of_one) {
+            return film(alloc, played, said.trim());
+        }
         let (first, rest) = comment.split_once(' ').unwrap_or((comment, ""));
         match first {
             "port" if rest.contains(": ") => self.frame(alloc, rest),
-            "film:" => self.film(alloc, rest),
+            "film:" => film(alloc, &self.plays.played, rest),
             _ if is_code(first) => Ok(Some(Said {
                 came,
                 said: before_colon(comment),
@@ -96,20 +100,24 @@ impl<'a> Script<'a> {
         let (what, said) = said.split_once(" is ").unwrap_or(("", said));
         let words = words_of(alloc, what)?;
         let port = port.parse::<usize>().unwrap_or(0);
-        let came = match frame_of(self.played.film.bytes(), self.ticks, port) {
+        let came = match frame_of(self.plays.played.film.bytes(), self.ticks, port) {
             Some(frame) => told_frame(alloc, frame, &words)?,
             None => format!(in alloc; "no frame")?,
         };
         let said = before_colon(said);
         Ok(Some(Said { came, said }))
     }
+}
 
-    /// What is said of the film: `WHAT is WANTED`.
-    fn film<'b>(&self, alloc: Global, said: &'b str) -> Result<Option<Said<'b>>, AllocError> {
-        let (what, said) = said.split_once(" is ").unwrap_or(("", said));
-        let events = self.played.order.turns().len();
-        let came = told_film(alloc, self.played.film.bytes(), events, what)?;
-        let said = before_colon(said);
-        Ok(Some(Said { came, said }))
-    }
+/// What is said of a film: `WHAT is WANTED`.
+fn film<'b>(
+    alloc: Global,
+    played: &Played,
+    said: &'b str,
+) -> Result<Option<Said<'b>>, AllocError> {
+    let (what, said) = said.split_once(" is ").unwrap_or(("", said));
+    let events = played.order.turns().len();
+    let came = told_film(alloc, played.film.bytes(), events, what)?;
+    let said = before_colon(said);
+    Ok(Some(Said { came, said }))
 }

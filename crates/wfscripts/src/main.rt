@@ -1,6 +1,7 @@
 //! The program `wfscripts`: plays the scripts that its command line names, and compares what came with what the comments of
 //! their lines say. Behind an event line stand the answers of its events, as `# Ok 3` or `# Ok 0, Ok 0`. A comment
-//! `port N: WHAT is ..` tells of the frame that port N showed at the last tick, and `film: WHAT is ..` of the whole film.
+//! `port N: WHAT is ..` tells of the frame that port N showed at the last tick, `film: WHAT is ..` of the whole film, and
+//! `film 1: WHAT is ..` of the film in form 1.
 //! A `:` ends what is wanted, and behind it stands what a person wants to know.
 #![tactic(auto)]
 
@@ -18,8 +19,8 @@ fn main(rt: HostRuntime) -> io::Result<ExitCode> {
     let mut checked = Checked::default();
     for name in names.iter() {
         let text = fs::read_to_string(&rt, name)?;
-        let played = plays::play_text(&rt, &text)?;
-        lines::check_text(&rt, name, &text, &played, &mut checked)?;
+        let plays = plays::play_text(&rt, &text)?;
+        lines::check_text(&rt, name, &text, &plays, &mut checked)?;
     }
     let Checked { said, wrong } = checked;
     println!(rt; "{said} comments in {} scripts, {wrong} wrong", names.len())?;

@@ -10,6 +10,9 @@ use wf_play::{Open, Status, play};
 /// The most bytes of a film here.
 const ROOM: usize = 4_194_304;
 
+/// What a comment begins with that tells of the film in form 1.
+pub(crate) const OF_ONE: &str = "film 1:";
+
 /// What a play came to.
 #[derive(Drop)]
 pub(crate) struct Played {
@@ -18,13 +21,38 @@ pub(crate) struct Played {
     pub(crate) film: MemorySink,
 }
 
-/// Plays a text.
+/// The play of a text, and where a comment tells of its film in form 1 also that one.
+#[derive(Drop)]
+pub(crate) struct Plays {
+    pub(crate) played: Played,
+    pub(crate) of_one: Option<Played>,
+}
+
+/// Plays a text in the forms that its comments tell of.
 pub(crate) fn play_text<R: Threads + Wait + Sync + AllocGlobal>(
     rt: &R,
     text: &str,
+) -> io::Result<Plays> {
+    let played = play_by(rt, text, &["film"])?;
+    let of_one = if text.contains(OF_ONE) {
+        Some(play_by(rt, text, &["film", "--film", "1"])?)
+    } else {
+        None
+    };
+    Ok(Plays { played, of_one })
+}
+
+/// Plays a text by these words.
+fn play_by<R: Threads + Wait + Sync + AllocGlobal>(
+    rt: &R,
+    text: &str,
+    asked: &[&str],
 ) -> io::Result<Played> {
     let alloc = rt.alloc();
-    let words = vec![in alloc; String::from_str(alloc, "film")?]?;
+    let mut words = Vec::new(alloc);
+    for word in asked.iter() {
+        words.push(String::from_str(alloc, word)?)?;
+    }
     let bytes = Vec::from_slice(alloc, text.as_bytes())?;
     let mut input = MemorySource::new(bytes, 4096, Vec::new(alloc));
     let (Ok(mut film), Ok(mut notes)) = (

@@ -1,0 +1,3 @@
+-- The command line of `wfplay`.
+pub mod Words
+pub mod Meaning

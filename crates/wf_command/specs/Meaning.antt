@@ -1,0 +1,52 @@
+-- Words ask for one thing at most.
+use Rattle.std.proofs.Common.{◌≡◌, ◌∙◌, ℕ, List, Option, Some, None, inl, inr, refl, sym, ap, arith}
+use Rattle.std.specs.Prelude.{String}
+use Rattle.std.specs.Global.{Global}
+use Rattle.wf_film.specs.declared.form.FilmForm.{FilmForm}
+use Rattle.wf_film.specs.declared.form.FilmForm.TheVariants as forms
+use Rattle.wf_command.specs.declared.asked.Asked.{Asked}
+use Rattle.wf_command.specs.declared.asked.Mode.{Mode}
+use Rattle.wf_command.specs.declared.asked.Mode.TheVariants as mode
+use Rattle.wf_command.specs.Words.{AskFor, IsForm, IsRounds, IsSize, mode_word}
+use Rattle.clap.specs.Words.{Text}
+
+one_mode : (a b : Mode) → mode_word a ≡ mode_word b → a ≡ b
+one_mode mode.Film mode.Film same = refl
+one_mode mode.Film mode.Print same = absurd cc
+one_mode mode.Film mode.Big same = absurd cc
+one_mode mode.Print mode.Film same = absurd cc
+one_mode mode.Print mode.Print same = refl
+one_mode mode.Print mode.Big same = absurd cc
+one_mode mode.Big mode.Film same = absurd cc
+one_mode mode.Big mode.Print same = absurd cc
+one_mode mode.Big mode.Big same = refl
+
+one_form : (text : Option Text) (a b : FilmForm) → IsForm text a → IsForm text b → a ≡ b
+one_form None a b first second = first ∙ sym second
+one_form (Some text) forms.One forms.One first second = refl
+one_form (Some text) forms.One forms.Two first second = absurd (second first)
+one_form (Some text) forms.Two forms.One first second = absurd (first second)
+one_form (Some text) forms.Two forms.Two first second = refl
+
+one_size : (text : Option Text) (a b : ℕ) → IsSize text a → IsSize text b → a ≡ b
+one_size None a b first second = first ∙ sym second
+one_size (Some text) a b (inl first) (inl second) = sym first.1.1 ∙ second.1.1
+one_size (Some text) a b (inl first) (inr second) = absurd (second.1 a first.0 first.1)
+one_size (Some text) a b (inr first) (inl second) = absurd (first.1 b second.0 second.1)
+one_size (Some text) a b (inr first) (inr second) = first.0 ∙ sym second.0
+
+-- the number of rounds is in its range
+pub are_rounds : (text : Option Text) (n : ℕ) → IsSize text n → IsRounds n
+are_rounds None n is = record { some = omega (arith, is); most = omega (arith, is) }
+are_rounds (Some text) n (inl is) = is.0
+are_rounds (Some text) n (inr is) = record { some = omega (arith, is.0); most = omega (arith, is.0) }
+
+pub one_meaning : (words : List (String Global)) (a b : Asked) → AskFor a words → AskFor b words → a ≡ b
+one_meaning words a b first second =
+    let words_are : Some (mode_word a.mode) ≡ Some (mode_word b.mode) = sym first.meant.mode_is ∙ second.meant.mode_is in
+    let same : mode_word a.mode ≡ mode_word b.mode = cc in
+    ap (λ (m : Mode). record { mode = m; form = a.form; size = a.size }) (one_mode a.mode b.mode same)
+    ∙ ap (λ (f : FilmForm). record { mode = b.mode; form = f; size = a.size })
+    (one_form _ a.form b.form first.meant.form_is second.meant.form_is)
+    ∙ ap (λ (n : ℕ). record { mode = b.mode; form = b.form; size = n })
+    (one_size _ a.size b.size first.meant.size_is second.meant.size_is)

@@ -1,0 +1,93 @@
+-- The words of the command line, which stand without the program's name.
+use Rattle.std.specs.Prelude.{◌≡◌, ℕ, ◌≤◌, ◌⊎◌, true, List, [], ◌∷◌, codes, map, Option, Some, None, pos, String, string_bytes}
+use Rattle.std.specs.Global.{Global}
+use Rattle.std.specs.Str.Parse.{IsNumeral, digits_value, without_leading_plus}
+use Rattle.clap.specs.Words.{App, Row, Rule, Text, fault_of, first_of, matches_of, new_app, new_rule, one_of, with_rule}
+use Rattle.clap.specs.declared.builder.value_parser.ValueParser.TheVariants as parser
+use Rattle.wf_film.specs.declared.form.FilmForm.{FilmForm}
+use Rattle.wf_film.specs.declared.form.FilmForm.TheVariants as forms
+use Rattle.wf_command.specs.declared.asked.Asked.{Asked}
+use Rattle.wf_command.specs.declared.asked.Mode.{Mode}
+use Rattle.wf_command.specs.declared.asked.Mode.TheVariants as mode
+
+-- the bytes of each word
+abbrev pub texts : List (String Global) → List (List ℕ)
+texts words = map string_bytes words
+
+-- the word of a mode
+abbrev pub mode_word : Mode → List ℕ
+mode_word mode.Film = codes "film"
+mode_word mode.Print = codes "print"
+mode_word mode.Big = codes "big"
+
+-- the command
+
+-- the mode, which is required
+abbrev pub mode_rule : Rule
+mode_rule = record (new_rule (codes "mode")) { required = true }
+
+-- `--film N`, N from 1 to 2, by default 2
+abbrev pub film_rule : Rule
+film_rule = record (new_rule (codes "film")) {
+  long = Some (codes "film");
+  parser = Some (parser.Signed (pos 1) (pos 2));
+  defaults = codes "2" ∷ [];
+}
+
+-- `--size N`, N from 1 to 1000, by default 1
+abbrev pub size_rule : Rule
+size_rule = record (new_rule (codes "size")) {
+  long = Some (codes "size");
+  parser = Some (parser.Signed (pos 1) (pos 1000));
+  defaults = codes "1" ∷ [];
+}
+
+-- the words stand without the program's name, and none asks for help
+abbrev pub bare : App
+bare =
+    let plain = new_app (codes "wfplay") in
+    record plain { top = record plain.top { no_binary_name = true; disable_help_flag = true } }
+
+abbrev pub command : App
+command = with_rule (with_rule (with_rule bare mode_rule) film_rule) size_rule
+
+-- what the words ask for
+
+-- the matches of the words
+abbrev pub rows : List (String Global) → List Row
+rows words = matches_of command (texts words)
+
+-- the text is a number, and this one
+abbrev pub Writes : Text → ℕ → Type 0
+Writes text n = IsNumeral 10 (without_leading_plus text) × (digits_value 10 (without_leading_plus text) ≡ n)
+
+-- the form that the text of `--film` asks for: its number is 1 or 2
+abbrev pub IsForm : Option Text → FilmForm → Type 0
+IsForm None form = form ≡ forms.Two
+IsForm (Some text) forms.One = Writes text 1
+IsForm (Some text) forms.Two = ¬ (Writes text 1)
+
+-- a number of rounds
+pub record IsRounds (n : ℕ) : Type 0 where
+  pub some : 1 ≤ n
+  pub most : n ≤ 1000
+
+-- the number that the text of `--size` asks for
+abbrev pub IsSize : Option Text → ℕ → Type 0
+IsSize None n = n ≡ 1
+IsSize (Some text) n = (IsRounds n × Writes text n) ⊎ ((n ≡ 1) × ((k : ℕ) → IsRounds k → ¬ (Writes text k)))
+
+-- the mode, the form and the number of rounds that the texts of the arguments ask for
+pub record IsMeant (mode film size : Option Text) (a : Asked) : Type 0 where
+  pub mode_is : mode ≡ Some (mode_word a.mode)
+  pub form_is : IsForm film a.form
+  pub size_is : IsSize size a.size
+
+-- the words are a command, and this is its mode with its options
+pub record AskFor (a : Asked) (words : List (String Global)) : Type 0 where
+  pub taken : fault_of command (texts words) ≡ []
+  pub meant : IsMeant (first_of (codes "mode") (rows words)) (one_of (codes "film") (rows words)) (one_of (codes "size") (rows words)) a
+
+-- the words that are accepted
+abbrev pub AreAccepted : List (String Global) → Type 0
+AreAccepted words = (a : Asked) × AskFor a words

@@ -1,0 +1,32 @@
+//! What the words ask for.
+
+use wf_film::FilmForm;
+
+/// What the program is asked for.
+#[derive(Clone, Copy, Debug, PartialEq, Eq)]
+pub enum Mode {
+    /// The film of a script.
+    Film,
+    /// A script in its canonical text.
+    Print,
+    /// The film of a script that is made, in two numbers.
+    Big,
+}
+
+/// A mode with its options.
+#[derive(Clone, Copy, Debug, PartialEq, Eq)]
+pub struct Asked {
+    pub mode: Mode,
+    /// The form of the film.
+    pub form: FilmForm,
+    /// How many rounds the script has that is made, 1 to 1000.
+    pub size: u16,
+}
+
+/// Why nothing is asked for.
+#[derive(Clone, Copy, Debug, PartialEq, Eq)]
+pub enum WordsStop {
+    /// The words are no command.
+    Usage,
+    NoMemory,
+}

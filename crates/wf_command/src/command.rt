@@ -1,0 +1,136 @@
+//! The words as a simple command of `clap`.
+
+ghost use Rattle.std.specs.Prelude.{◌≡◌, ◌≢◌, IfErr, IfOk, IfSome, codes, false};
+ghost use Rattle.std.specs.Option.{IfNone};
+ghost use Rattle.clap.specs.Words.{app_of, first_value, found_of, kind_of, one_text, rule_of};
+ghost use Rattle.wf_command.specs.Words.{AreAccepted, AskFor, IsForm, IsMeant, IsSize, command, film_rule, mode_rule, mode_word, size_rule};
+
+use crate::asked::{Asked, Mode, WordsStop};
+use clap::error::ErrorKind;
+use clap::{Arg, ArgMatches, Command, Error, value_parser};
+use std::alloc::{AllocError, Global};
+use wf_film::FilmForm;
+
+/// The mode, which is required.
+fn mode_arg<'a>(alloc: Global) -> Arg<'a>
+    ensures rule { rule_of result ≡ mode_rule }
+    ensures own { result.global ≡ false }
+{
+    Arg::new(alloc, "mode").required(true)
+}
+
+/// The form of the film.
+fn film_arg<'a>(alloc: Global) -> Arg<'a>
+    ensures rule { rule_of result ≡ film_rule }
+    ensures own { result.global ≡ false }
+{
+    Arg::new(alloc, "film")
+        .long("film")
+        .value_parser(value_parser!(u8).range(1..=2))
+        .default_value("2")
+}
+
+/// How many rounds the script has that is made.
+fn size_arg<'a>(alloc: Global) -> Arg<'a>
+    ensures rule { rule_of result ≡ size_rule }
+    ensures own { result.global ≡ false }
+{
+    Arg::new(alloc, "size")
+        .long("size")
+        .value_parser(value_parser!(u16).range(1..=1000))
+        .default_value("1")
+}
+
+/// The command: a mode, and its options.
+fn command<'a>(alloc: Global) -> Result<Command<'a>, AllocError>
+    ensures { IfOk result (λ c. app_of c ≡ command) }
+{
+    Command::new(alloc, "wfplay")
+        .no_binary_name(true)
+        .disable_help_flag(true)
+        .arg(mode_arg(alloc))?
+        .arg(film_arg(alloc))?
+        .arg(size_arg(alloc))
+}
+
+/// The mode that a word names.
+fn mode_named(word: &str) -> Option<Mode>
+    ensures named { IfSome result (λ m. word.now ≡ mode_word m) }
+    ensures none { IfNone result ((m : Mode) → word.now ≢ mode_word m) }
+{
+    match word {
+        "film" => Some(Mode::Film),
+        "print" => Some(Mode::Print),
+        "big" => Some(Mode::Big),
+        _ => None,
+    }
+}
+
+/// The form of a film, by `--film`.
+fn form_in(matches: &ArgMatches) -> FilmForm
+    ensures { IsForm (one_text (found_of matches.now) (codes "film")) result }
+{
+    match matches.get_one::<u8>("film") {
+        Some(1) => FilmForm::One,
+        _ => FilmForm::Two,
+    }
+}
+
+/// How many rounds a made script has, by `--size`.
+fn size_in(matches: &ArgMatches) -> u16
+    ensures { IsSize (one_text (found_of matches.now) (codes "size")) result }
+{
+    match matches.get_one::<u16>("size") {
+        Some(size) if 1 <= size && size <= 1000 => size,
+        _ => 1,
+    }
+}
+
+/// What the matches of a command ask for, or none where they name no mode.
+fn asked_in(matches: &ArgMatches) -> Option<Asked>
+    ensures asked { IfSome result (λ a.
+        IsMeant (first_value (found_of matches.now) (codes "mode")) (one_text (found_of matches.now) (codes "film"))
+        (one_text (found_of matches.now) (codes "size")) a) }
+    ensures none { IfNone result ((a : Asked)
+        → ¬ (IsMeant (first_value (found_of matches.now) (codes "mode")) (one_text (found_of matches.now) (codes "film"))
+        (one_text (found_of matches.now) (codes "size")) a)) }
+{
+    let (form, size) = (form_in(matches), size_in(matches));
+    match matches.get_str("mode") {
+        Some(word) => match mode_named(word) {
+            Some(mode) => Some(Asked { mode, form, size }),
+            None => None,
+        },
+        None => None,
+    }
+}
+
+/// Why words are no command.
+fn stop_of(error: &Error) -> WordsStop
+    ensures memory { kind_of error.now ≡ ErrorKind.OutOfMemory → result ≡ WordsStop.NoMemory }
+    ensures usage { kind_of error.now ≢ ErrorKind.OutOfMemory → result ≡ WordsStop.Usage }
+{
+    if error.kind() == ErrorKind::OutOfMemory {
+        WordsStop::NoMemory
+    } else {
+        WordsStop::Usage
+    }
+}
+
+/// What the words, without the program's name, ask for: they are accepted exactly where they are matches of the command
+/// and name a mode that there is.
+pub fn asked_by(alloc: Global, words: &[String]) -> Result<Asked, WordsStop>
+    ensures asked { IfOk result (λ a. AskFor a words.now) }
+    ensures usage { IfErr result (λ stop. stop ≡ WordsStop.Usage → ¬ (AreAccepted words.now)) }
+{
+    let Ok(command) = command(alloc) else {
+        return Err(WordsStop::NoMemory);
+    };
+    match command.try_get_matches_from(words) {
+        Ok(matches) => match asked_in(&matches) {
+            Some(asked) => Ok(asked),
+            None => Err(WordsStop::Usage),
+        },
+        Err(error) => Err(stop_of(&error)),
+    }
+}
