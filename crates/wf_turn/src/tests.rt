@@ -3,6 +3,7 @@
 use crate::{Program, quota, serial};
 use std::alloc::Global;
 use std::test::Fail;
+use wf_film::FilmForm;
 use wf_io::MemorySink;
 use wf_script::{Script, parse};
 
@@ -23,9 +24,11 @@ fn calls_have_memory(rt: HostRuntime) -> Result<(), Fail> {
     let mut film = MemorySink::new(rt.alloc(), 4096, Vec::new(rt.alloc()))
         .ok()
         .ok_or("memory")?;
-    let order = serial(rt.alloc(), &script, &mut film).ok().ok_or("a stop")?;
+    let order = serial(rt.alloc(), &script, FilmForm::Two, &mut film)
+        .ok()
+        .ok_or("a stop")?;
     let came = (clock.place(), order.turns().len(), film.bytes().len());
-    assert_eq!(rt; came, (Some(0), 7, 66));
+    assert_eq!(rt; came, (Some(0), 7, 70));
     Ok(())
 }
 
