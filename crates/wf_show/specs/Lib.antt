@@ -1,3 +1,5 @@
--- Clients on threads: a program beside a history of the machine, and what playing it makes of its pass.
+-- Clients on threads: a program beside a history of the machine, what playing it makes of its pass, and all clients together.
 pub mod Played
 pub mod Running
+pub mod Shown
+pub mod Together

@@ -3,6 +3,8 @@
 
 mod client;
 mod gate;
+mod laws;
 
 pub use client::run_client;
 pub use gate::{Gate, Open};
+pub use laws::clients_make_an_order;

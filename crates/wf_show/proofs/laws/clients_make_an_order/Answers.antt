@@ -1,0 +1,5 @@
+use Rattle.wf_show.proofs.Wholes.{is_order}
+use Rattle.wf_show.proofs.laws.clients_make_an_order.Goals as goal
+
+pub returns : goal.returns
+returns c script setup rest whole = is_order script setup rest whole
