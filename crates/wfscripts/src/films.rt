@@ -38,9 +38,7 @@ pub(crate) fn frame_of(film: &[u8], tick: usize, port: usize) -> Option<Frame<'_
             return None;
         }
         let width = be_number(rest, 10, 2);
-        let count = width
-            .wrapping_mul(be_number(rest, 12, 2))
-            .wrapping_mul(4);
+        let count = width.wrapping_mul(be_number(rest, 12, 2)).wrapping_mul(4);
         if be_number(rest, 1, 1) == port && be_number(rest, 2, 4) == tick {
             let pixels = part(rest, HEAD, count);
             return Some(Frame { width, pixels });

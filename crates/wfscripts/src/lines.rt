@@ -110,11 +110,7 @@ impl<'a> Script<'a> {
 }
 
 /// What is said of a film: `WHAT is WANTED`.
-fn film<'b>(
-    alloc: Global,
-    played: &Played,
-    said: &'b str,
-) -> Result<Option<Said<'b>>, AllocError> {
+fn film<'b>(alloc: Global, played: &Played, said: &'b str) -> Result<Option<Said<'b>>, AllocError> {
     let (what, said) = said.split_once(" is ").unwrap_or(("", said));
     let events = played.order.turns().len();
     let came = told_film(alloc, played.film.bytes(), events, what)?;
