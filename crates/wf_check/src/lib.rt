@@ -3,10 +3,12 @@
 
 mod checking;
 mod comparing;
+mod laws;
 #[cfg(test)]
 mod tests;
 mod verdict;
 
 pub use checking::check;
+pub use laws::one_verdict_at_most;
 pub use verdict::Verdict;
 pub use wf_words::NoMemory;

@@ -12,12 +12,19 @@ use Rattle.clap.specs.Words.{Text}
 
 one_mode : (a b : Mode) → mode_word a ≡ mode_word b → a ≡ b
 one_mode mode.Film mode.Film same = refl
+one_mode mode.Film mode.Check same = absurd cc
 one_mode mode.Film mode.Print same = absurd cc
 one_mode mode.Film mode.Big same = absurd cc
+one_mode mode.Check mode.Film same = absurd cc
+one_mode mode.Check mode.Check same = refl
+one_mode mode.Check mode.Print same = absurd cc
+one_mode mode.Check mode.Big same = absurd cc
 one_mode mode.Print mode.Film same = absurd cc
+one_mode mode.Print mode.Check same = absurd cc
 one_mode mode.Print mode.Print same = refl
 one_mode mode.Print mode.Big same = absurd cc
 one_mode mode.Big mode.Film same = absurd cc
+one_mode mode.Big mode.Check same = absurd cc
 one_mode mode.Big mode.Print same = absurd cc
 one_mode mode.Big mode.Big same = refl
 

@@ -17,6 +17,7 @@ texts words = map string_bytes words
 -- the word of a mode
 abbrev pub mode_word : Mode → List ℕ
 mode_word mode.Film = codes "film"
+mode_word mode.Check = codes "check"
 mode_word mode.Print = codes "print"
 mode_word mode.Big = codes "big"
 

@@ -7,6 +7,8 @@ use wf_film::FilmForm;
 pub enum Mode {
     /// The film of a script.
     Film,
+    /// Whether a film is that of a script and of its own journal.
+    Check,
     /// A script in its canonical text.
     Print,
     /// The film of a script that is made, in two numbers.

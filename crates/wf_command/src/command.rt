@@ -60,6 +60,7 @@ fn mode_named(word: &str) -> Option<Mode>
 {
     match word {
         "film" => Some(Mode::Film),
+        "check" => Some(Mode::Check),
         "print" => Some(Mode::Print),
         "big" => Some(Mode::Big),
         _ => None,

@@ -6,6 +6,7 @@ use Rattle.wf_calls.specs.declared.order.Turn.{Turn}
 use Rattle.wf_film.specs.declared.form.FilmForm.{FilmForm}
 use Rattle.wf_script.specs.Script.{PlainScript}
 use Rattle.wf_play.specs.Big.{SaysOfBig}
+use Rattle.wf_play.proofs.Checked.{all_told}
 use Rattle.wf_play.specs.Report.{CompletesIn, IsCaused, IsComplete, SaysOfInput, SaysOfRead}
 use Rattle.wf_play.specs.declared.report.Status.{Status}
 use Rattle.wf_play.specs.declared.report.Status.TheVariants as status
@@ -33,6 +34,9 @@ module _ {O : Type 0} (took : O → List ℕ → Type 0) (old new : O) (order : 
   one_complete a b c d bytes (status.Refused line rule) accepted says caused =
       λ script stands within calm quiet. absurd (let no : Ok script ≡ Err says.1.0 = sym stands ∙ says.1.1.0 in cc)
   one_complete a b c d bytes (status.WriteFault written) accepted says caused = λ script stands within calm quiet. absurd (quiet caused)
+  one_complete a b c d bytes (status.Differs at) accepted says caused = absurd says
+  one_complete a b c d bytes (status.BadOrder entry) accepted says caused = absurd says
+  one_complete a b c d bytes (status.BadFilm at rule) accepted says caused = absurd says
   one_complete a b c d bytes status.NoMemory accepted says caused = λ script stands within calm quiet. inr refl
 
   -- without a fault, a script within the limit comes to Done, or to NoMemory
@@ -50,6 +54,9 @@ made_complete took old new form size order a b c d status.ReadFault says caused 
 made_complete took old new form size order a b c d status.TooLong says caused quiet = absurd says
 made_complete took old new form size order a b c d (status.Refused line rule) says caused quiet = absurd says
 made_complete took old new form size order a b c d (status.WriteFault written) says caused quiet = absurd (quiet caused)
+made_complete took old new form size order a b c d (status.Differs at) says caused quiet = absurd says
+made_complete took old new form size order a b c d (status.BadOrder entry) says caused quiet = absurd says
+made_complete took old new form size order a b c d (status.BadFilm at rule) says caused quiet = absurd says
 made_complete took old new form size order a b c d status.NoMemory says caused quiet = inr refl
 
 -- each mode
@@ -59,6 +66,7 @@ pub mode_completes : {O : Type 0} (took : O → List ℕ → Type 0) (old new : 
     → (m ≡ mode.Big → SaysOfBig took old new form size order s) → IsCaused a b c d s → CompletesIn m o a b c d s
 mode_completes took old new order mode.Film form size a b c d o s accepted says big caused =
     all_complete took old new order _ _ a b c d o s accepted says caused
+mode_completes took old new order mode.Check form size a b c d o s accepted says big caused = all_told a b c d o s accepted says caused
 mode_completes took old new order mode.Print form size a b c d o s accepted says big caused =
     all_complete took old new order _ _ a b c d o s accepted says caused
 mode_completes took old new order mode.Big form size a b c d o s accepted says big caused =

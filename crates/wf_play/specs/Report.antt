@@ -1,12 +1,10 @@
 -- What a report says: of the input's bytes, of what went into the film, and of the order.
-use Rattle.std.specs.Prelude.{◌≡◌, ℕ, ◌^◌, ◌<◌, ◌≤◌, ◌⊎◌, List, [], length, Option, Result, Ok, Err, IfSome}
+use Rattle.std.specs.Prelude.{◌≡◌, ℕ, ◌<◌, ◌≤◌, ◌⊎◌, List, [], length, Option, Result, Ok, Err, IfSome}
 use Rattle.wf_io.specs.Bytes.{Puts, PutsNothing, PutsPart}
 use Rattle.wf_io.specs.Causes.{Rose}
 use Rattle.wf_calls.specs.declared.order.Turn.{Turn}
-use Rattle.wf_script.specs.declared.fault.ScriptFault.{ScriptFault}
-use Rattle.wf_script.specs.declared.fault.ScriptFault.TheVariants as fault
 use Rattle.wf_script.specs.Canonical.{canonical}
-use Rattle.wf_script.specs.Grammar.{Stands, read_script}
+use Rattle.wf_script.specs.Grammar.{Stands}
 use Rattle.wf_script.specs.Script.{PlainScript}
 use Rattle.wf_film.specs.declared.form.FilmForm.{FilmForm}
 use Rattle.wf_turn.specs.Films.{IsCutFilm}
@@ -14,6 +12,8 @@ use Rattle.wf_turn.specs.Play.{IsComplete as IsWholeOrder, film, marks, serial_o
 use Rattle.wf_turn.specs.Serial.{BeginsSerial}
 use Rattle.wf_command.specs.declared.asked.Mode.{Mode}
 use Rattle.wf_command.specs.declared.asked.Mode.TheVariants as mode
+use Rattle.wf_play.specs.Check.{SaysOfCheck, TellsVerdict}
+use Rattle.wf_play.specs.Refusals.{IsRefused, script_limit}
 use Rattle.wf_play.specs.declared.report.Status.{Status}
 use Rattle.wf_play.specs.declared.report.Status.TheVariants as status
 
@@ -25,23 +25,10 @@ exit_of status.ReadFault = 3
 exit_of status.TooLong = 4
 exit_of (status.Refused line rule) = 5
 exit_of (status.WriteFault written) = 6
+exit_of (status.Differs at) = 7
+exit_of (status.BadOrder entry) = 8
+exit_of (status.BadFilm at rule) = 9
 exit_of status.NoMemory = 10
-
--- the longest script, in bytes
-abbrev pub script_limit : ℕ
-script_limit = 2 ^ 20
-
--- the status of bytes that are no script, by their first fault
-abbrev pub refusal_of : ScriptFault → Status
-refusal_of fault.Header = status.Refused 1 0
-refusal_of (fault.Line line rule) = status.Refused line rule
-refusal_of fault.TooManyLines = status.Refused 16385 9
-refusal_of (fault.NoEnd line) = status.Refused line 8
-refusal_of fault.NoMemory = status.NoMemory
-
--- the first line of these bytes that breaks a rule, with the least rule that it breaks
-abbrev pub IsRefused : List ℕ → ℕ → ℕ → Type 0
-IsRefused bytes line rule = (f : ScriptFault) × ((read_script bytes ≡ Err f) × (refusal_of f ≡ status.Refused line rule))
 
 -- the bytes that were put are the plain film, in a form, of the script that the input's bytes stand for, under the order,
 -- which is legal and complete, and is the serial order
@@ -86,11 +73,13 @@ module _ {O : Type 0} (took : O → List ℕ → Type 0) (old new : O) (order : 
   SaysOfRead IsWhole IsCut bytes (status.Refused line rule) = (length bytes ≤ script_limit) × IsRefused bytes line rule
   SaysOfRead IsWhole IsCut bytes (status.WriteFault written) = (length bytes ≤ script_limit) × IsCut bytes written
   SaysOfRead IsWhole IsCut bytes status.NoMemory = Unit {0}
+  SaysOfRead IsWhole IsCut bytes _ = ⊥
 
   -- what each status says of an input of these bytes; the mode `big` reads none
   abbrev pub SaysOfInput : Mode → FilmForm → List ℕ → Status → Type 0
   SaysOfInput mode.Film form bytes s =
       SaysOfRead (λ bytes. IsPlainFilm took old new form bytes order) (λ bytes. IsFront took old new form bytes order) bytes s
+  SaysOfInput mode.Check form bytes s = SaysOfCheck bytes s
   SaysOfInput mode.Print form bytes s =
       SaysOfRead (λ bytes. IsPrinted took old new bytes order) (λ bytes. IsCutText took old new bytes order) bytes s
   SaysOfInput mode.Big form bytes s = Unit {0}
@@ -131,4 +120,5 @@ IsComplete bytes input_before input_now film_before film_now s =
 -- in each mode: `big` needs no input
 abbrev pub CompletesIn : Mode → Option (List ℕ) → (input_before input_now film_before film_now : ℕ) → Status → Type 0
 CompletesIn mode.Big input a b film_before film_now s = ¬ Rose film_before film_now → (s ≡ status.Done) ⊎ (s ≡ status.NoMemory)
+CompletesIn mode.Check input input_before input_now c d s = IfSome input (λ bytes. TellsVerdict bytes input_before input_now s)
 CompletesIn _ input a b film_before film_now s = IfSome input (λ bytes. IsComplete bytes a b film_before film_now s)

@@ -2,9 +2,11 @@
 #![tactic(auto)]
 
 mod big;
+mod checked;
 mod gate;
 mod laws;
 mod notes;
+mod parts;
 mod report;
 mod text;
 mod top;

@@ -9,18 +9,24 @@ use wf_calls::Order;
 /// How a play ended.
 #[derive(Clone, Copy, Debug, PartialEq, Eq)]
 pub enum Status {
-    /// The film is whole.
+    /// All was put, or the film that was checked is the film of its script and of its journal.
     Done,
     /// The words are no command.
     Usage,
     /// The input failed.
     ReadFault,
-    /// The input is longer than a script may be, 1,048,576 bytes.
+    /// The input is longer than it may be: a script than 1,048,576 bytes, and a film than 67,108,864.
     TooLong,
     /// The input is no script: the first line that breaks a rule, counted from 1, and the least rule that it breaks.
     Refused { line: u32, rule: u32 },
     /// The film's sink failed when it had taken this many bytes.
     WriteFault { written: u64 },
+    /// The film that was checked differs at this byte, counted from 0, from the film of the script and of its journal.
+    Differs { at: u64 },
+    /// This entry of its journal, counted from 0, is no turn of the script; or all are, so many, and a program is not through.
+    BadOrder { entry: u32 },
+    /// What stands behind the script is no film: at this byte, counted from 0, it breaks this rule of films.
+    BadFilm { at: u64, rule: u32 },
     /// There was no memory. Nothing was put into the film.
     NoMemory,
 }
@@ -37,6 +43,9 @@ impl Status {
             Status::TooLong => 4,
             Status::Refused { .. } => 5,
             Status::WriteFault { .. } => 6,
+            Status::Differs { .. } => 7,
+            Status::BadOrder { .. } => 8,
+            Status::BadFilm { .. } => 9,
             Status::NoMemory => 10,
         }
     }

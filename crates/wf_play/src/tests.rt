@@ -37,7 +37,7 @@ const FILM_OF_TWO: [u8; 74] = *b"WFF2\
 const USAGE: &str =
     "usage: wfplay <film|check|print|big> [--threads] [--rows N] [--size N] [--film N]\n";
 
-/// A play: its words, its script with so many spaces behind it, and which calls of the source and of the film's sink fail, 0 for
+/// A play: its words, its script with so many spaces and a film behind it, and which calls of the source and of the film's sink fail, 0 for
 /// none. And what is wanted: the status with its exit, how many bytes of the film or of the text are put, how many turns are
 /// played, and the line in the notes.
 #[derive(Clone, Copy)]
@@ -45,6 +45,7 @@ struct Row {
     words: &'static str,
     script: &'static str,
     spaces: usize,
+    film: &'static [u8],
     take: u32,
     put: u32,
     status: Status,
@@ -59,6 +60,7 @@ const DONE: Row = Row {
     words: "film",
     script: ONE_TICK,
     spaces: 0,
+    film: b"",
     take: 0,
     put: 0,
     status: Status::Done,
@@ -143,6 +145,25 @@ const PRINTED: Row = Row {
     ..DONE
 };
 
+/// A film that is checked, and is the same.
+const SAME: Row = Row {
+    words: "check",
+    film: &FILM_OF_TWO,
+    note: "same\n",
+    ..NO_PLAY
+};
+
+/// A film of another script.
+fn judged(script: &'static str, status: Status, exit: u8, note: &'static str) -> Row {
+    Row {
+        script,
+        status,
+        exit,
+        note,
+        ..SAME
+    }
+}
+
 /// The line of a script of one round.
 const COUNTED: &str = "big 1: lines 20 events 21 frames 1 bytes 12438 sum 784032\n";
 
@@ -170,6 +191,7 @@ fn plays<R: Threads + Wait + Sync + AllocGlobal>(rt: &R, row: &Row) -> Result<bo
     }
     let mut bytes = Vec::from_slice(alloc, row.script.as_bytes())?;
     bytes.extend_from_slice(&vec![in alloc; b' '; row.spaces]?)?;
+    bytes.extend_from_slice(row.film)?;
     let mut input = MemorySource::new(bytes, 7, [row.take].to_vec(alloc)?);
     let (Ok(mut film), Ok(mut notes)) = (
         MemorySink::new(alloc, 4096, [row.put].to_vec(alloc)?),
@@ -234,7 +256,8 @@ fn each_play_ends_as_it_should(rt: HostRuntime) -> Result<(), Fail> {
         long,
         usage(""),
         usage("film film"),
-        usage("check"),
+        usage("check film"),
+        usage("checks"),
         usage("films"),
         usage("fil"),
         usage("--film"),
@@ -298,6 +321,70 @@ fn each_play_ends_as_it_should(rt: HostRuntime) -> Result<(), Fail> {
         Row {
             words: "print --film 1",
             ..PRINTED
+        },
+        SAME,
+        Row {
+            film: &FILM,
+            ..SAME
+        },
+        Row {
+            words: "check --film 1",
+            ..SAME
+        },
+        Row {
+            script: "WFS1\nport 4x2 # end\n0 tick\n \tend # the end\r\n",
+            ..SAME
+        },
+        judged(
+            "WFS1\nport 4x3\n0 tick\nend\n",
+            Status::Differs { at: 17 },
+            7,
+            "differs at 17\n",
+        ),
+        judged(
+            "WFS1\nport 4x2\n0 tick\n0 tick\nend\n",
+            Status::BadOrder { entry: 3 },
+            8,
+            "bad order at entry 3\n",
+        ),
+        judged(
+            "WFS1\nport 4x2\n0 tick\nend\nend\n",
+            Status::BadFilm { at: 0, rule: 1 },
+            9,
+            "bad film at 0: rule 1\n",
+        ),
+        Row {
+            film: b"",
+            ..judged(
+                "WFS1\nport 4x2\n0 tick\nend",
+                Status::BadFilm { at: 0, rule: 3 },
+                9,
+                "bad film at 0: rule 3\n",
+            )
+        },
+        judged(
+            "WFS1\nport 4x2\n0 tock\nend\n",
+            Status::Refused { line: 3, rule: 3 },
+            5,
+            "line 3: rule 3\n",
+        ),
+        Row {
+            film: b"",
+            ..judged(
+                "WFS1\nport 4x2\n0 tick\n",
+                Status::Refused { line: 4, rule: 8 },
+                5,
+                "line 4: rule 8\n",
+            )
+        },
+        Row {
+            words: "check",
+            ..read_fault(4)
+        },
+        Row {
+            words: "check",
+            script: "WFS1\n",
+            ..long
         },
         MADE,
         Row {

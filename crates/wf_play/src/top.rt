@@ -1,17 +1,19 @@
 //! The top call.
 
-ghost use Rattle.std.specs.Prelude.{◌≡◌, ◌≢◌, ◌≤◌, ◌⊎◌, IfErr, IfSome};
+ghost use Rattle.std.specs.Prelude.{◌≡◌, ◌≢◌, ◌≤◌, ◌⊎◌, [], codes, IfErr, IfSome};
 ghost use Rattle.wf_io.specs.Causes.{Rose};
 ghost use Rattle.wf_command.specs.Words.{AreAccepted, AskFor};
 ghost use Rattle.wf_film.specs.declared.form.FilmForm.{FilmForm};
 ghost use Rattle.wf_play.specs.Big.{SaysOfBig};
-ghost use Rattle.wf_play.specs.Notes.{PutsOrFront, note_of};
+ghost use Rattle.wf_play.specs.Check.{IsChecked};
+ghost use Rattle.wf_play.specs.Notes.{IsSame, PutsOrFront, note_of};
+ghost use Rattle.wf_play.specs.Refusals.{refusal_of};
 ghost use Rattle.wf_play.specs.Report.{CompletesIn, IsCaused, IsPlainFilm, IsPrinted, IsReadStop, ReadsScript, SaysOfFilm, SaysOfInput};
-ghost use Rattle.wf_play.specs.Report.{refusal_of};
 
 use crate::big::play_big;
+use crate::checked::play_check;
 use crate::gate::Gate;
-use crate::notes::put_note;
+use crate::notes::{put_line, put_note};
 use crate::report::{Report, Status, without_order};
 use std::alloc::Global;
 use std::sync::Wait;
@@ -23,7 +25,7 @@ use wf_script::{Script, ScriptFault, parse, print};
 use wf_turn::{PlayStop, serial};
 
 /// The longest script, in bytes.
-const SCRIPT_LIMIT: usize = 1_048_576;
+pub(crate) const SCRIPT_LIMIT: usize = 1_048_576;
 
 /// Reads the script and writes its film in a form.
 fn play_film<I: Source, O: Sink>(
@@ -83,7 +85,7 @@ fn play_print<I: Source, O: Sink>(alloc: Global, input: &mut I, film: &mut O) ->
 }
 
 /// The status of bytes that are no script, by their first fault.
-fn refusal_of(fault: ScriptFault) -> Status
+pub(crate) fn refusal_of(fault: ScriptFault) -> Status
     ensures { result ≡ refusal_of fault }
 {
     match fault {
@@ -129,6 +131,8 @@ fn play_asked<I: Source, O: Sink>(
     ensures mode { result.status ≢ Status.Usage }
     ensures input { IfSome (I.left input.old) (λ bytes.
         SaysOfInput O.took film.old film.new result.order asked.mode asked.form bytes result.status) }
+    ensures checked { asked.mode ≡ Mode.Check
+        → IsChecked O.took film.old film.new result.order (I.left input.old) result.status }
     ensures made { asked.mode ≡ Mode.Big
         → (input.new ≡ input.old) × SaysOfBig O.took film.old film.new asked.form asked.size result.order result.status }
     ensures film { SaysOfFilm O.took film.old film.new result.order result.status }
@@ -138,34 +142,56 @@ fn play_asked<I: Source, O: Sink>(
 {
     match asked.mode {
         Mode::Film => play_film(alloc, asked.form, input, film),
+        Mode::Check => without_order(alloc, play_check(alloc, input)),
         Mode::Print => play_print(alloc, input, film),
         Mode::Big => play_big(alloc, asked.form, asked.size, film),
     }
 }
 
-/// Plays what the words ask for.
-fn play_words<I: Source, O: Sink>(
+/// Tells why words ask for nothing, also in the notes.
+fn refuse_words<N: Sink>(alloc: Global, status: Status, notes: &mut N) -> Report
+    ensures status { result.status ≡ status }
+    ensures order { result.order ≡ [] }
+    ensures notes { PutsOrFront N.took notes.old notes.new (N.faults notes.old) (N.faults notes.new) (note_of status) }
+    ensures count { N.faults notes.old ≤ N.faults notes.new }
+{
+    put_note(notes, status);
+    without_order(alloc, status)
+}
+
+/// Plays what the words ask for, and puts its line into the notes.
+fn play_words<I: Source, O: Sink, N: Sink>(
     alloc: Global,
     words: &[String],
     input: &mut I,
     film: &mut O,
+    notes: &mut N,
 ) -> Report
     ensures usage { result.status ≡ Status.Usage → ¬ (AreAccepted words.now) }
     ensures refused { ¬ (AreAccepted words.now) → (result.status ≡ Status.Usage) ⊎ (result.status ≡ Status.NoMemory) }
     ensures usage_first { result.status ≡ Status.Usage → input.new ≡ input.old }
     ensures input { (asked : Asked) → AskFor asked words.now → IfSome (I.left input.old) (λ bytes.
         SaysOfInput O.took film.old film.new result.order asked.mode asked.form bytes result.status) }
+    ensures checked { (asked : Asked) → AskFor asked words.now → asked.mode ≡ Mode.Check
+        → IsChecked O.took film.old film.new result.order (I.left input.old) result.status }
     ensures made { (asked : Asked) → AskFor asked words.now → asked.mode ≡ Mode.Big
         → (input.new ≡ input.old) × SaysOfBig O.took film.old film.new asked.form asked.size result.order result.status }
     ensures film { SaysOfFilm O.took film.old film.new result.order result.status }
     ensures caused { IsCaused (I.faults input.old) (I.faults input.new) (O.faults film.old) (O.faults film.new) result.status }
+    ensures notes { ¬ (IsSame words.now result.status) → PutsOrFront N.took notes.old notes.new (N.faults notes.old) (N.faults notes.new) (note_of result.status) }
+    ensures same { IsSame words.now result.status → PutsOrFront N.took notes.old notes.new (N.faults notes.old) (N.faults notes.new) (codes "same\n") }
     ensures input_count { I.faults input.old ≤ I.faults input.new }
     ensures film_count { O.faults film.old ≤ O.faults film.new }
+    ensures notes_count { N.faults notes.old ≤ N.faults notes.new }
 {
     match asked_by(alloc, words) {
-        Ok(asked) => play_asked(alloc, asked, input, film),
-        Err(WordsStop::Usage) => without_order(alloc, Status::Usage),
-        Err(WordsStop::NoMemory) => without_order(alloc, Status::NoMemory),
+        Ok(asked) => {
+            let report = play_asked(alloc, asked, input, film);
+            put_line(notes, asked.mode, report.status);
+            report
+        }
+        Err(WordsStop::Usage) => refuse_words(alloc, Status::Usage, notes),
+        Err(WordsStop::NoMemory) => refuse_words(alloc, Status::NoMemory, notes),
     }
 }
 
@@ -194,6 +220,11 @@ pub fn play<R: Threads + Wait + Sync, I: Source, O: Sink, N: Sink, G: Gate>(
         → IfSome (I.left input.old) (λ bytes. result.status ≡ Status.Done
         → IsPrinted O.took film.old film.new bytes result.order) }
 
+    // With the mode `check` nothing is put into the film, and the status says what the film behind the script of the input is: with
+    // Done, the film of that script and of its own journal.
+    ensures checked { (asked : Asked) → AskFor asked words.now → asked.mode ≡ Mode.Check
+        → IsChecked O.took film.old film.new result.order (I.left input.old) result.status }
+
     // With the mode `big` nothing is read, and what is put is the line over the film of the script that is made, or its front.
     ensures made { (asked : Asked) → AskFor asked words.now → asked.mode ≡ Mode.Big
         → (input.new ≡ input.old) × SaysOfBig O.took film.old film.new asked.form asked.size result.order result.status }
@@ -210,14 +241,13 @@ pub fn play<R: Threads + Wait + Sync, I: Source, O: Sink, N: Sink, G: Gate>(
 
     // What went out.
     ensures film { SaysOfFilm O.took film.old film.new result.order result.status }
-    ensures notes { PutsOrFront N.took notes.old notes.new (N.faults notes.old) (N.faults notes.new) (note_of result.status) }
+    ensures notes { ¬ (IsSame words.now result.status) → PutsOrFront N.took notes.old notes.new (N.faults notes.old) (N.faults notes.new) (note_of result.status) }
+    ensures same { IsSame words.now result.status → PutsOrFront N.took notes.old notes.new (N.faults notes.old) (N.faults notes.new) (codes "same\n") }
 
     // No count of faults falls.
     ensures input_count { I.faults input.old ≤ I.faults input.new }
     ensures film_count { O.faults film.old ≤ O.faults film.new }
     ensures notes_count { N.faults notes.old ≤ N.faults notes.new }
 {
-    let report = play_words(alloc, words, input, film);
-    put_note(notes, report.status);
-    report
+    play_words(alloc, words, input, film, notes)
 }

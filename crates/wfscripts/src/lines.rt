@@ -1,10 +1,13 @@
 //! The lines of a script with what their comments say.
 
+use crate::checks::told_check;
 use crate::events::{Journal, is_code};
 use crate::films::{frame_of, told_film, told_frame};
 use crate::plays::{OF_ONE, Played, Plays};
 use std::alloc::{AllocError, Global};
 use std::io;
+use std::sync::Wait;
+use std::thread::Threads;
 use wf_cases::{word, words_of};
 use wf_play::Status;
 
@@ -18,6 +21,7 @@ pub(crate) struct Checked {
 /// A script that is being compared, and how many ticks were passed.
 #[derive(Drop)]
 struct Script<'a> {
+    text: &'a str,
     plays: &'a Plays,
     journal: Journal<'a>,
     ticks: usize,
@@ -37,7 +41,7 @@ fn before_colon(said: &str) -> &str {
 }
 
 /// Compares each comment with what came, and prints each that says otherwise.
-pub(crate) fn check_text<R: Print + AllocGlobal>(
+pub(crate) fn check_text<R: Threads + Wait + Sync + Print + AllocGlobal>(
     rt: &R,
     name: &str,
     text: &str,
@@ -50,12 +54,13 @@ pub(crate) fn check_text<R: Print + AllocGlobal>(
         return println!(rt; "{name}: {:?}", played.status);
     }
     let mut script = Script {
+        text,
         plays,
         journal: Journal::new(played.order.turns()),
         ticks: 0,
     };
     for (place, line) in text.lines().enumerate() {
-        let Some(Said { came, said }) = script.line(rt.alloc(), line)? else {
+        let Some(Said { came, said }) = script.line(rt, line)? else {
             continue;
         };
         checked.said = checked.said.saturating_add(1);
@@ -71,7 +76,12 @@ pub(crate) fn check_text<R: Print + AllocGlobal>(
 
 impl<'a> Script<'a> {
     /// What a line's comment says, if it says something, and what came.
-    fn line<'b>(&mut self, alloc: Global, line: &'b str) -> Result<Option<Said<'b>>, AllocError> {
+    fn line<'b, R: Threads + Wait + Sync + AllocGlobal>(
+        &mut self,
+        rt: &R,
+        line: &'b str,
+    ) -> io::Result<Option<Said<'b>>> {
+        let alloc = rt.alloc();
         let (line, comment) = line.split_once('#').unwrap_or((line, ""));
         let comment = comment.trim();
         let words = words_of(alloc, line)?;
@@ -80,12 +90,12 @@ impl<'a> Script<'a> {
             self.ticks = self.ticks.saturating_add(1);
         }
         if let (Some(said), Some(played)) = (comment.strip_prefix(OF_ONE), &self.plays.of_one) {
-            return film(alloc, played, said.trim());
+            return self.film(rt, played, said.trim());
         }
         let (first, rest) = comment.split_once(' ').unwrap_or((comment, ""));
         match first {
-            "port" if rest.contains(": ") => self.frame(alloc, rest),
-            "film:" => film(alloc, &self.plays.played, rest),
+            "port" if rest.contains(": ") => Ok(self.frame(alloc, rest)?),
+            "film:" => self.film(rt, &self.plays.played, rest),
             _ if is_code(first) => Ok(Some(Said {
                 came,
                 said: before_colon(comment),
@@ -107,13 +117,22 @@ impl<'a> Script<'a> {
         let said = before_colon(said);
         Ok(Some(Said { came, said }))
     }
-}
 
-/// What is said of a film: `WHAT is WANTED`.
-fn film<'b>(alloc: Global, played: &Played, said: &'b str) -> Result<Option<Said<'b>>, AllocError> {
-    let (what, said) = said.split_once(" is ").unwrap_or(("", said));
-    let events = played.order.turns().len();
-    let came = told_film(alloc, played.film.bytes(), events, what)?;
-    let said = before_colon(said);
-    Ok(Some(Said { came, said }))
+    /// What is said of a film: `WHAT is WANTED`.
+    fn film<'b, R: Threads + Wait + Sync + AllocGlobal>(
+        &self,
+        rt: &R,
+        played: &Played,
+        said: &'b str,
+    ) -> io::Result<Option<Said<'b>>> {
+        let (what, said) = said.split_once(" is ").unwrap_or(("", said));
+        let (alloc, film) = (rt.alloc(), played.film.bytes());
+        let words = words_of(alloc, what)?;
+        let came = match words.split_first() {
+            Some((&"check", changes)) => told_check(rt, self.text, film, changes)?,
+            _ => told_film(alloc, film, played.order.turns().len(), what)?,
+        };
+        let said = before_colon(said);
+        Ok(Some(Said { came, said }))
+    }
 }

@@ -1,10 +1,11 @@
 //! The program `wfscripts`: plays the scripts that its command line names, and compares what came with what the comments of
 //! their lines say. Behind an event line stand the answers of its events, as `# Ok 3` or `# Ok 0, Ok 0`. A comment
 //! `port N: WHAT is ..` tells of the frame that port N showed at the last tick, `film: WHAT is ..` of the whole film, and
-//! `film 1: WHAT is ..` of the film in form 1.
+//! `film 1: WHAT is ..` of the film in form 1. Where WHAT is `check`, with changes, it is what a check finds of the film so changed.
 //! A `:` ends what is wanted, and behind it stands what a person wants to know.
 #![tactic(auto)]
 
+mod checks;
 mod events;
 mod films;
 mod lines;

@@ -19,6 +19,7 @@ pub(crate) struct Played {
     pub(crate) status: Status,
     pub(crate) order: Order,
     pub(crate) film: MemorySink,
+    pub(crate) notes: MemorySink,
 }
 
 /// The play of a text, and where a comment tells of its film in form 1 also that one.
@@ -33,19 +34,39 @@ pub(crate) fn play_text<R: Threads + Wait + Sync + AllocGlobal>(
     rt: &R,
     text: &str,
 ) -> io::Result<Plays> {
-    let played = play_by(rt, text, &["film"])?;
+    let played = play_by(rt, Vec::from_slice(rt.alloc(), text.as_bytes())?, &["film"])?;
     let of_one = if text.contains(OF_ONE) {
-        Some(play_by(rt, text, &["film", "--film", "1"])?)
+        let bytes = Vec::from_slice(rt.alloc(), text.as_bytes())?;
+        Some(play_by(rt, bytes, &["film", "--film", "1"])?)
     } else {
         None
     };
     Ok(Plays { played, of_one })
 }
 
-/// Plays a text by these words.
-fn play_by<R: Threads + Wait + Sync + AllocGlobal>(
+/// What a check of a film behind a text puts into the notes, with `,` for `:`.
+pub(crate) fn check_film<R: Threads + Wait + Sync + AllocGlobal>(
     rt: &R,
     text: &str,
+    film: &[u8],
+) -> io::Result<String> {
+    let mut bytes = Vec::from_slice(rt.alloc(), text.as_bytes())?;
+    bytes.extend_from_slice(film)?;
+    let told = play_by(rt, bytes, &["check"])?;
+    let mut note = String::new(rt.alloc());
+    for byte in told.notes.bytes() {
+        note.push(match *byte {
+            b':' => ',',
+            other => char::from(other),
+        })?;
+    }
+    Ok(note)
+}
+
+/// Plays an input by these words.
+fn play_by<R: Threads + Wait + Sync + AllocGlobal>(
+    rt: &R,
+    bytes: Vec<u8>,
     asked: &[&str],
 ) -> io::Result<Played> {
     let alloc = rt.alloc();
@@ -53,7 +74,6 @@ fn play_by<R: Threads + Wait + Sync + AllocGlobal>(
     for word in asked.iter() {
         words.push(String::from_str(alloc, word)?)?;
     }
-    let bytes = Vec::from_slice(alloc, text.as_bytes())?;
     let mut input = MemorySource::new(bytes, 4096, Vec::new(alloc));
     let (Ok(mut film), Ok(mut notes)) = (
         MemorySink::new(alloc, ROOM, Vec::new(alloc)),
@@ -66,5 +86,6 @@ fn play_by<R: Threads + Wait + Sync + AllocGlobal>(
         status: report.status,
         order: report.order,
         film,
+        notes,
     })
 }

@@ -6,7 +6,7 @@ use Rattle.wf_play.proofs.top.play.Goals as goal
 
 pub returns-clause-headline : goal.returns-clause-headline
 returns-clause-headline g c = λ asked asks is.
-    let done = c.play_words-report in
+    let done = c.play_words in
     done_says g.O.Sink.took c.args.film.now done.new.film done.result.order _ _ (g.I.Source.left c.args.input.now) done.result.status
     (subst (λ m. IfSome (g.I.Source.left c.args.input.now)
     (λ bytes. SaysOfInput g.O.Sink.took c.args.film.now done.new.film done.result.order m asked.form bytes done.result.status)) is
@@ -14,7 +14,7 @@ returns-clause-headline g c = λ asked asks is.
 
 pub returns-clause-printed : goal.returns-clause-printed
 returns-clause-printed g c = λ asked asks is.
-    let done = c.play_words-report in
+    let done = c.play_words in
     done_says g.O.Sink.took c.args.film.now done.new.film done.result.order _ _ (g.I.Source.left c.args.input.now) done.result.status
     (subst (λ m. IfSome (g.I.Source.left c.args.input.now)
     (λ bytes. SaysOfInput g.O.Sink.took c.args.film.now done.new.film done.result.order m asked.form bytes done.result.status)) is
@@ -22,7 +22,7 @@ returns-clause-printed g c = λ asked asks is.
 
 pub returns-clause-complete : goal.returns-clause-complete
 returns-clause-complete g c = λ asked asks.
-    let done = c.play_words-report in
+    let done = c.play_words in
     mode_completes g.O.Sink.took c.args.film.now done.new.film done.result.order asked.mode asked.form asked.size
     (g.I.Source.faults c.args.input.now) (g.I.Source.faults done.new.input) (g.O.Sink.faults c.args.film.now)
     (g.O.Sink.faults done.new.film) (g.I.Source.left c.args.input.now) done.result.status
