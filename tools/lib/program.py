@@ -16,6 +16,13 @@ def play(text, form=2):
     return played.returncode, played.stdout, played.stderr.decode("utf-8", "replace")
 
 
+def checked(text, film):
+    """The exit status and the notes of a check of the film behind a script."""
+    given = text.encode("utf-8") + film
+    ran = subprocess.run([str(PROGRAM), "check"], input=given, capture_output=True, timeout=SECONDS, check=False)
+    return ran.returncode, ran.stderr.decode("utf-8", "replace")
+
+
 def printed(text):
     """The exit status and the notes of a script that is printed."""
     words = [str(PROGRAM), "print"]

@@ -1,6 +1,7 @@
 -- One verdict at most is said of a script and of bytes.
-use Rattle.std.proofs.Common.{◌≡◌, ◌∙◌, ℕ, zero, suc, ◌+◌, ◌<◌, ◌≤◌, ◌⊎◌, inl, inr, Bool, true, false, IsTrue, List, [], ◌∷◌, ◌++◌, length, take}
-use Rattle.std.proofs.Common.{drop, Option, Some, None, Ok, refl, sym, ap, subst, arith, cases_lt, append_assoc, take-append-drop}
+use Rattle.std.proofs.Common.{◌≡◌, ◌∙◌, ℕ, zero, suc, ◌+◌, ◌<◌, ◌≤◌, inl, inr, true, false, IsTrue, List, [], ◌∷◌, ◌++◌, length, take}
+use Rattle.std.proofs.Common.{drop, Option, Some, None, refl, sym, ap, subst, arith, take-append-drop}
+use Rattle.std.proofs.lemmas.Bool.{cases_lt}
 use Rattle.std.proofs.lemmas.List.{take_all}
 use Rattle.std.specs.Prelude.{IsSome}
 use Rattle.std.specs.List.{slice_get}
@@ -25,6 +26,11 @@ no_fault bytes film fault stands is =
     let none : film_fault bytes ≡ None = ap (fault_of (length bytes)) (stands_read bytes film stands) in
     let no : None ≡ Some fault = sym none ∙ is in
     absurd cc
+
+-- the verdict on a fault
+abbrev found : Option FilmFault → Verdict
+found None = verdict.Same
+found (Some fault) = verdict.BadFilm fault.at fault.rule
 
 -- two lists differ first at one place
 
@@ -143,7 +149,7 @@ module _ (script : PlainScript) (bytes : List ℕ) where
       absurd (complete_stops entry one.film other.film one.stands other.stands one.complete other.stops)
   one_verdict verdict.Same (verdict.Differs at) one other = absurd (same_differs at one other)
   one_verdict (verdict.BadFilm at rule) verdict.Same one other = absurd (no_fault bytes other.film _ other.stands one)
-  one_verdict (verdict.BadFilm at rule) (verdict.BadFilm place kind) one other = cc (one, other)
+  one_verdict (verdict.BadFilm at rule) (verdict.BadFilm place kind) one other = ap found (sym one ∙ other)
   one_verdict (verdict.BadFilm at rule) (verdict.BadOrder entry) one other = absurd (no_fault bytes other.film _ other.stands one)
   one_verdict (verdict.BadFilm at rule) (verdict.Differs place) one other = absurd (no_fault bytes other.film _ other.stands one)
   one_verdict (verdict.BadOrder entry) verdict.Same one other =

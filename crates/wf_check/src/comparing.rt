@@ -37,6 +37,9 @@ fn common(one: &[u8], other: &[u8]) -> usize
     ensures apart { result < length one.now → result < length other.now → get_or one.now result 0 ≢ get_or other.now result 0 }
 {
     let most = one.len().min(other.len());
+    if one[..most] == other[..most] {
+        return most;
+    }
     for place in 0..most {
         if one[place] != other[place] {
             return place;

@@ -1,5 +1,5 @@
 -- Words ask for one thing at most.
-use Rattle.std.proofs.Common.{◌≡◌, ◌∙◌, ℕ, List, Option, Some, None, inl, inr, refl, sym, ap, arith}
+use Rattle.std.proofs.Common.{◌≡◌, ◌∙◌, ℕ, List, get_or, Option, Some, None, inl, inr, refl, sym, ap, arith}
 use Rattle.std.specs.Prelude.{String}
 use Rattle.std.specs.Global.{Global}
 use Rattle.wf_film.specs.declared.form.FilmForm.{FilmForm}
@@ -10,22 +10,26 @@ use Rattle.wf_command.specs.declared.asked.Mode.TheVariants as mode
 use Rattle.wf_command.specs.Words.{AskFor, IsForm, IsRounds, IsSize, mode_word}
 use Rattle.clap.specs.Words.{Text}
 
+-- words with other first letters are other words
+other_word : (a b : List ℕ) → (get_or a 0 0 ≡ get_or b 0 0 → ⊥) → a ≡ b → ⊥
+other_word a b apart same = apart (ap (λ (w : List ℕ). get_or w 0 0) same)
+
 one_mode : (a b : Mode) → mode_word a ≡ mode_word b → a ≡ b
 one_mode mode.Film mode.Film same = refl
-one_mode mode.Film mode.Check same = absurd cc
-one_mode mode.Film mode.Print same = absurd cc
-one_mode mode.Film mode.Big same = absurd cc
-one_mode mode.Check mode.Film same = absurd cc
+one_mode mode.Film mode.Check same = absurd (other_word _ _ (λ (is : 102 ≡ 99). omega (arith, is)) same)
+one_mode mode.Film mode.Print same = absurd (other_word _ _ (λ (is : 102 ≡ 112). omega (arith, is)) same)
+one_mode mode.Film mode.Big same = absurd (other_word _ _ (λ (is : 102 ≡ 98). omega (arith, is)) same)
+one_mode mode.Check mode.Film same = absurd (other_word _ _ (λ (is : 99 ≡ 102). omega (arith, is)) same)
 one_mode mode.Check mode.Check same = refl
-one_mode mode.Check mode.Print same = absurd cc
-one_mode mode.Check mode.Big same = absurd cc
-one_mode mode.Print mode.Film same = absurd cc
-one_mode mode.Print mode.Check same = absurd cc
+one_mode mode.Check mode.Print same = absurd (other_word _ _ (λ (is : 99 ≡ 112). omega (arith, is)) same)
+one_mode mode.Check mode.Big same = absurd (other_word _ _ (λ (is : 99 ≡ 98). omega (arith, is)) same)
+one_mode mode.Print mode.Film same = absurd (other_word _ _ (λ (is : 112 ≡ 102). omega (arith, is)) same)
+one_mode mode.Print mode.Check same = absurd (other_word _ _ (λ (is : 112 ≡ 99). omega (arith, is)) same)
 one_mode mode.Print mode.Print same = refl
-one_mode mode.Print mode.Big same = absurd cc
-one_mode mode.Big mode.Film same = absurd cc
-one_mode mode.Big mode.Check same = absurd cc
-one_mode mode.Big mode.Print same = absurd cc
+one_mode mode.Print mode.Big same = absurd (other_word _ _ (λ (is : 112 ≡ 98). omega (arith, is)) same)
+one_mode mode.Big mode.Film same = absurd (other_word _ _ (λ (is : 98 ≡ 102). omega (arith, is)) same)
+one_mode mode.Big mode.Check same = absurd (other_word _ _ (λ (is : 98 ≡ 99). omega (arith, is)) same)
+one_mode mode.Big mode.Print same = absurd (other_word _ _ (λ (is : 98 ≡ 112). omega (arith, is)) same)
 one_mode mode.Big mode.Big same = refl
 
 one_form : (text : Option Text) (a b : FilmForm) → IsForm text a → IsForm text b → a ≡ b

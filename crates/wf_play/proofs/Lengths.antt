@@ -1,7 +1,7 @@
 -- How far a script part goes, found byte by byte.
 use Rattle.std.proofs.Common.{◌≡◌, ◌∙◌, ℕ, ◌+◌, ◌-◌, ◌<◌, ◌≤◌, ◌==◌, true, false, List, [], ◌∷◌, ◌++◌, length, take, drop, get_or, refl, sym}
-use Rattle.std.proofs.Common.{ap, arith, get_or-drop, length-drop}
-use Rattle.std.proofs.lemmas.List.{drop_more, take_more}
+use Rattle.std.proofs.Common.{ap, arith, get_or-drop, length-drop, ne_eqb}
+use Rattle.std.proofs.lemmas.List.{drop_all, drop_more, take_more}
 use Rattle.wf_play.specs.Parts.{is_end, length_behind}
 
 module _ (line bs : List ℕ) where
@@ -54,3 +54,35 @@ module _ (bytes : List ℕ) (start place : ℕ) (within : start ≤ place) (insi
       → length_behind line (drop place bytes) ≡ 1 + length_behind (take (place + 1 - start) (drop start bytes)) (drop (place + 1) bytes)
   same_line other = ap (length_behind line) from_here ∙ grows line (drop (place + 1) bytes) (get_or bytes place 0) other
       ∙ ap (λ (front : List ℕ). 1 + length_behind front (drop (place + 1) bytes)) (sym longer)
+
+  -- so the place goes on to the next byte: behind a line feed, and in the line
+  module _ (total now : ℕ) (same : place + length_behind line (drop place bytes) ≡ total) where
+    abbrev rest : List ℕ
+    rest = drop (place + 1) bytes
+
+    one_more : (n : ℕ) → place + 1 + n ≡ place + (1 + n)
+    one_more n = omega arith
+
+    pub stops_here : get_or bytes place 0 ≡ 10 → is_end line ≡ true → place + 1 ≡ total
+    stops_here feed is = ap (λ n. place + n) (sym (ends feed is)) ∙ same
+
+    pub on_next : now ≡ place + 1 → get_or bytes place 0 ≡ 10 → is_end line ≡ false
+        → place + 1 + length_behind (take (place + 1 - now) (drop now bytes)) rest ≡ total
+    on_next now_is feed isnt =
+        let none : place + 1 - now ≡ 0 = omega arith in
+        ap (λ n. place + 1 + length_behind (take n (drop now bytes)) rest) none ∙ one_more (length_behind [] rest)
+        ∙ ap (λ n. place + n) (sym (next_line feed isnt)) ∙ same
+
+    pub on_same : now ≡ start → (get_or bytes place 0 ≡ 10 → ⊥)
+        → place + 1 + length_behind (take (place + 1 - now) (drop now bytes)) rest ≡ total
+    on_same now_is other =
+        ap (λ s. place + 1 + length_behind (take (place + 1 - s) (drop s bytes)) rest) now_is
+        ∙ one_more (length_behind (take (place + 1 - start) (drop start bytes)) rest)
+        ∙ ap (λ n. place + n) (sym (same_line (ne_eqb (get_or bytes place 0) 10 other))) ∙ same
+
+-- all bytes were passed
+pub at_end : (bytes line : List ℕ) (place total : ℕ) → length bytes ≤ place → place ≤ length bytes
+    → place + length_behind line (drop place bytes) ≡ total → length bytes ≡ total
+at_end bytes line place total least most same =
+    let none : length_behind line (drop place bytes) ≡ 0 = ap (length_behind line) (drop_all place bytes least) ∙ none_left line in
+    omega (arith, none, same)

@@ -1,5 +1,5 @@
 pub mod Fronts
 pub mod Lengths
 pub mod Lines
-pub mod Checked
+pub mod Checks
 pub mod Says

@@ -49,6 +49,13 @@ SaysOfParts text film (status.BadFilm at rule) = IsJudged text film (verdict.Bad
 SaysOfParts text film status.NoMemory = Unit {0}
 SaysOfParts text film _ = ⊥
 
+-- what a check comes to once its input is read
+abbrev pub IsOutcome : Status → Type 0
+IsOutcome status.Usage = ⊥
+IsOutcome status.ReadFault = ⊥
+IsOutcome (status.WriteFault written) = ⊥
+IsOutcome _ = Unit {0}
+
 -- what each status says of an input of these bytes
 abbrev pub SaysOfCheck : List ℕ → Status → Type 0
 SaysOfCheck bytes status.Usage = Unit {0}

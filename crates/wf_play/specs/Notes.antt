@@ -1,8 +1,7 @@
 -- The line that goes into the notes.
-use Rattle.std.specs.Prelude.{ℕ, ◌<◌, ◌⊎◌, List, [], ◌++◌, length, take, codes, decimal}
+use Rattle.std.specs.Prelude.{◌≡◌, ℕ, ◌<◌, ◌⊎◌, List, [], ◌++◌, length, take, codes, decimal, String}
 use Rattle.wf_io.specs.Bytes.{Puts}
 use Rattle.wf_io.specs.Causes.{Rose}
-use Rattle.std.specs.Prelude.{String}
 use Rattle.std.specs.Global.{Global}
 use Rattle.wf_command.specs.Words.{AskFor}
 use Rattle.wf_command.specs.declared.asked.Asked.{Asked}

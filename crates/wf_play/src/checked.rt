@@ -1,7 +1,7 @@
 //! The mode `check`: the film behind a script is checked.
 
 ghost use Rattle.std.specs.Prelude.{◌≡◌, ◌≢◌, ◌≤◌, IfSome};
-ghost use Rattle.wf_play.specs.Check.{AreWithin, IsTooLong, SaysOfCheck, SaysOfParts, status_of};
+ghost use Rattle.wf_play.specs.Check.{AreWithin, IsOutcome, IsTooLong, SaysOfCheck, SaysOfParts, status_of};
 ghost use Rattle.wf_play.specs.Report.{IsCaused};
 
 use crate::parts::parts_of;
@@ -43,7 +43,8 @@ fn check_film(alloc: Global, script: &[u8], film: &[u8]) -> Status
 
 /// Checks the film behind the script in these bytes, of which each is kept once.
 fn check_parts(alloc: Global, bytes: &[u8]) -> Status
-    ensures { SaysOfCheck bytes.now result }
+    ensures says { SaysOfCheck bytes.now result }
+    ensures outcome { IsOutcome result }
 {
     let (script, film) = parts_of(bytes);
     if script.len() > SCRIPT_LIMIT || film.len() > FILM_LIMIT {

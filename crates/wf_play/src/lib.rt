@@ -1,4 +1,4 @@
-//! The top call: plays a scene script and writes its film, or prints it.
+//! The top call: plays a scene script and writes its film, or prints it, or checks a film.
 #![tactic(auto)]
 
 mod big;

@@ -12,6 +12,16 @@ fn without_return(line: &[u8]) -> &[u8]
     line.strip_suffix(b"\r").unwrap_or(line)
 }
 
+/// What stands before a place and behind it. What is at the place is dropped.
+fn cut_out(text: &[u8], place: usize) -> (&[u8], &[u8])
+    requires { place ≤ length text.now }
+    ensures front { result.0.now ≡ take place text.now }
+    ensures behind { result.1.now ≡ drop (place + 1) text.now }
+{
+    let (front, behind) = text.split_at(place);
+    (front, behind.get(1..).unwrap_or(behind))
+}
+
 /// Where a comment begins.
 fn comment_in(line: &[u8]) -> Option<usize>
     ensures { result ≡ position (λ b. b == 35) line.now }
@@ -24,7 +34,7 @@ fn without_comment(line: &[u8]) -> &[u8]
     ensures { result.now ≡ without_comment line.now }
 {
     let place = comment_in(line).unwrap_or(line.len());
-    line.split_at(place).0
+    cut_out(line, place).0
 }
 
 /// Where the first blank stands.
@@ -40,8 +50,7 @@ fn cut_at_blank(text: &[u8]) -> (&[u8], &[u8])
     ensures behind { result.1.now ≡ after_first is_blank text.now }
 {
     let place = blank_in(text).unwrap_or(text.len());
-    let (front, behind) = text.split_at(place);
-    (front, behind.get(1..).unwrap_or(behind))
+    cut_out(text, place)
 }
 
 /// The first word of a text and what stands behind it, or none where there is no word.

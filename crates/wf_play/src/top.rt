@@ -196,10 +196,11 @@ fn play_words<I: Source, O: Sink, N: Sink>(
 }
 
 /// Reads a scene script from `input`, writes its film or its canonical text into `film`, and answers how that ended. `words` are
-/// the command's words without the program's name: the mode, `film`, `print` or `big`; for the form of the film `--film N`, N 1 or 2
-/// and by default 2; and for `big`, which reads nothing, plays the script that `make` of `wf_script` makes and writes one line on its
-/// film, `--size N`, N from 1 to 1000 and by default 1. Each status but `Done` puts its line into `notes`, and a fault there changes
-/// nothing else. All memory but that of the script's own creations is taken before the first byte is put.
+/// the command's words without the program's name: the mode, `film`, `check`, `print` or `big`; for the form of the film `--film N`, N 1
+/// or 2 and by default 2; and for `big`, which reads nothing, plays the script that `make` of `wf_script` makes and writes one line on
+/// its film, `--size N`, N from 1 to 1000 and by default 1. `check` reads a script and the film behind it, writes nothing, and answers
+/// whether that is the film of the script and of its own journal. Each status but `Done` puts its line into `notes`, and a check `same`
+/// with `Done`; a fault there changes nothing else. All memory but that of the script's own creations is taken before the first byte is put.
 pub fn play<R: Threads + Wait + Sync, I: Source, O: Sink, N: Sink, G: Gate>(
     _rt: &R,
     alloc: Global,

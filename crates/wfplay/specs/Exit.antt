@@ -1,9 +1,11 @@
--- What an exit status of 0 says of what was put.
-use Rattle.std.specs.Prelude.{ℕ, List}
+-- What an exit status says of what was put, and of a film that was checked.
+use Rattle.std.specs.Prelude.{◌≡◌, ℕ, List, Option}
 use Rattle.wf_calls.specs.declared.order.Turn.{Turn}
 use Rattle.wf_film.specs.declared.form.FilmForm.{FilmForm}
 use Rattle.wf_play.specs.Big.{IsTallied}
-use Rattle.wf_play.specs.Report.{IsPlainFilm, IsPrinted}
+use Rattle.wf_play.specs.Check.{IsChecked}
+use Rattle.wf_play.specs.Report.{IsPlainFilm, IsPrinted, exit_of}
+use Rattle.wf_play.specs.declared.report.Status.{Status}
 
 -- what was put is the plain film, in a form, of the script of the input's bytes, under an order
 abbrev pub PutsFilm : {O : Type 0} → (O → List ℕ → Type 0) → (old new : O) → FilmForm → List ℕ → Type 0
@@ -12,6 +14,11 @@ PutsFilm took old new form bytes = (order : List Turn) × IsPlainFilm took old n
 -- what was put is the canonical text of the script of the input's bytes, and nothing was played
 abbrev pub PutsText : {O : Type 0} → (O → List ℕ → Type 0) → (old new : O) → List ℕ → Type 0
 PutsText took old new bytes = (order : List Turn) × IsPrinted took old new bytes order
+
+-- nothing was put, and the exit is that of a status which says what the film behind the script of the input is
+abbrev pub ExitsByCheck : {O : Type 0} → (O → List ℕ → Type 0) → (old new : O) → Option (List ℕ) → ℕ → Type 0
+ExitsByCheck took old new input exit =
+    (status : Status) × (order : List Turn) × ((exit ≡ exit_of status) × IsChecked took old new order input status)
 
 -- what was put is the line over the film, in a form, of the script of so many rounds that is made, under an order
 abbrev pub PutsLine : {O : Type 0} → (O → List ℕ → Type 0) → (old new : O) → FilmForm → ℕ → Type 0

@@ -1,7 +1,7 @@
 use Rattle.std.proofs.Common.{sym, subst}
 use Rattle.std.specs.Prelude.{IfSome}
 use Rattle.wf_play.specs.Report.{SaysOfInput}
-use Rattle.wf_play.proofs.Checked.{caused_so, nothing_put}
+use Rattle.wf_play.proofs.Checks.{caused_so, nothing_put}
 use Rattle.wf_play.proofs.top.play_asked.Goals as goal
 
 pub returns-in-Print-clause-input : goal.returns-in-Print-clause-input

@@ -1,12 +1,13 @@
 -- What the mode `check` tells.
 use Rattle.std.proofs.Common.{◌≡◌, ◌∙◌, ℕ, ◌+◌, ◌≤◌, ◌<◌, ◌⊎◌, inl, inr, List, [], Option, Some, None, Ok, Err, refl, sym, arith}
-use Rattle.std.proofs.Common.{cases_lt, length, length-append, ap, take-append-drop}
+use Rattle.std.proofs.Common.{length, length-append, ap, take-append-drop}
+use Rattle.std.proofs.lemmas.Bool.{cases_lt}
 use Rattle.std.specs.Prelude.{IfSome}
 use Rattle.wf_io.specs.Bytes.{PutsNothing}
 use Rattle.wf_calls.specs.declared.order.Turn.{Turn}
 use Rattle.wf_script.specs.Script.{PlainScript}
 use Rattle.wf_check.specs.declared.verdict.Verdict.TheVariants as verdict
-use Rattle.wf_play.specs.Check.{AreWithin, IsTooLong, SaysOfCheck, SaysOfParts, TellsVerdict, film_limit}
+use Rattle.wf_play.specs.Check.{AreWithin, IsOutcome, IsTooLong, SaysOfCheck, SaysOfParts, TellsVerdict, film_limit}
 use Rattle.wf_play.specs.Parts.{film_part, script_length, script_part}
 use Rattle.wf_play.specs.Refusals.{script_limit}
 use Rattle.wf_play.specs.Report.{IsCaused, SaysOfFilm}
@@ -32,6 +33,34 @@ parts_say bytes (status.Differs at) within says = (within, says)
 parts_say bytes (status.BadOrder entry) within says = (within, says)
 parts_say bytes (status.BadFilm at rule) within says = (within, says)
 parts_say bytes status.NoMemory within says = tt
+
+-- others do not come of the parts
+pub outcome : (text film : List ℕ) (s : Status) → SaysOfParts text film s → IsOutcome s
+outcome text film status.Done says = tt
+outcome text film status.Usage says = says
+outcome text film status.ReadFault says = says
+outcome text film status.TooLong says = tt
+outcome text film (status.Refused line rule) says = tt
+outcome text film (status.WriteFault written) says = says
+outcome text film (status.Differs at) says = tt
+outcome text film (status.BadOrder entry) says = tt
+outcome text film (status.BadFilm at rule) says = tt
+outcome text film status.NoMemory says = tt
+
+pub outcome_used : (s : Status) → IsOutcome s → s ≡ status.Usage → ⊥
+outcome_used s comes is = rw is at comes
+
+pub outcome_caused : (a b c d : ℕ) (s : Status) → IsOutcome s → IsCaused a b c d s
+outcome_caused a b c d status.Done comes = tt
+outcome_caused a b c d status.Usage comes = tt
+outcome_caused a b c d status.ReadFault comes = absurd comes
+outcome_caused a b c d status.TooLong comes = tt
+outcome_caused a b c d (status.Refused line rule) comes = tt
+outcome_caused a b c d (status.WriteFault written) comes = absurd comes
+outcome_caused a b c d (status.Differs at) comes = tt
+outcome_caused a b c d (status.BadOrder entry) comes = tt
+outcome_caused a b c d (status.BadFilm at rule) comes = tt
+outcome_caused a b c d status.NoMemory comes = tt
 
 one_told : (a b c d : ℕ) (bytes : List ℕ) (s : Status) → (s ≡ status.Usage → ⊥) → SaysOfCheck bytes s → IsCaused a b c d s
     → TellsVerdict bytes a b s
