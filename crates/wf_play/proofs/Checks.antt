@@ -1,11 +1,9 @@
 -- What the mode `check` tells.
-use Rattle.std.proofs.Common.{◌≡◌, ◌∙◌, ℕ, ◌+◌, ◌≤◌, ◌<◌, ◌⊎◌, inl, inr, List, [], Option, Some, None, Ok, Err, refl, sym, arith}
+use Rattle.std.proofs.Common.{◌≡◌, ◌∙◌, ℕ, ◌+◌, ◌<◌, inl, inr, List, [], Option, Some, None, Ok, Err, refl, sym, arith}
 use Rattle.std.proofs.Common.{length, length-append, ap, take-append-drop}
 use Rattle.std.proofs.lemmas.Bool.{cases_lt}
 use Rattle.std.specs.Prelude.{IfSome}
-use Rattle.wf_io.specs.Bytes.{PutsNothing}
 use Rattle.wf_calls.specs.declared.order.Turn.{Turn}
-use Rattle.wf_script.specs.Script.{PlainScript}
 use Rattle.wf_check.specs.declared.verdict.Verdict.TheVariants as verdict
 use Rattle.wf_play.specs.Check.{AreWithin, IsOutcome, IsTooLong, SaysOfCheck, SaysOfParts, TellsVerdict, film_limit}
 use Rattle.wf_play.specs.Parts.{film_part, script_length, script_part}

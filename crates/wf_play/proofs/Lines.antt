@@ -1,5 +1,5 @@
 -- The line of a mode's status.
-use Rattle.std.proofs.Common.{◌≡◌, ap, refl, sym, codes}
+use Rattle.std.proofs.Common.{◌≡◌, refl, codes}
 use Rattle.wf_command.specs.declared.asked.Mode.{Mode}
 use Rattle.wf_command.specs.declared.asked.Mode.TheVariants as mode
 use Rattle.wf_play.specs.Notes.{note_in, note_of}

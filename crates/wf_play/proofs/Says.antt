@@ -4,7 +4,6 @@ use Rattle.std.specs.Prelude.{IfSome}
 use Rattle.wf_io.specs.Causes.{Rose}
 use Rattle.wf_calls.specs.declared.order.Turn.{Turn}
 use Rattle.wf_film.specs.declared.form.FilmForm.{FilmForm}
-use Rattle.wf_script.specs.Script.{PlainScript}
 use Rattle.wf_play.specs.Big.{SaysOfBig}
 use Rattle.wf_play.proofs.Checks.{all_told}
 use Rattle.wf_play.specs.Report.{CompletesIn, IsCaused, IsComplete, SaysOfInput, SaysOfRead}

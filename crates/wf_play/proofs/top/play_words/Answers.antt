@@ -1,13 +1,49 @@
-use Rattle.std.proofs.Common.{◌≡◌, subst}
+use Rattle.std.proofs.Common.{◌≡◌, ◌∙◌, ℕ, List, ap, sym, subst}
 use Rattle.wf_command.specs.Meaning.{one_meaning}
+use Rattle.wf_command.specs.declared.asked.Asked.{Asked}
 use Rattle.wf_command.specs.declared.asked.Mode.TheVariants as mode
 use Rattle.wf_play.specs.Big.{SaysOfBig}
+use Rattle.wf_play.specs.Notes.{PutsOrFront, note_of}
+use Rattle.wf_play.specs.declared.report.Status.TheVariants as status
+use Rattle.wf_play.proofs.Lines.{plain_note, same_note}
 use Rattle.wf_play.proofs.top.play_words.Goals as goal
 
 pub returns-in-Ok-clause-made : goal.returns-in-Ok-clause-made
 returns-in-Ok-clause-made g c = λ asked asks is.
-    let done = c.play_asked in
+    let done = c.play_asked-report in
     let same = one_meaning c.args.words.now c.in-Ok.asked asked c.in-Ok.ensures.asked asks in
     subst (λ a. a.mode ≡ mode.Big → (done.new.input ≡ c.args.input.now)
     × SaysOfBig g.O.Sink.took c.args.film.now done.new.film a.form a.size done.result.order done.result.status) same
     done.ensures.made is
+
+pub returns-in-Ok-clause-checked : goal.returns-in-Ok-clause-checked
+returns-in-Ok-clause-checked g c = λ asked asks is.
+    let done = c.play_asked-report in
+    let same = one_meaning c.args.words.now c.in-Ok.asked asked c.in-Ok.ensures.asked asks in
+    done.ensures.checked (ap (λ (a : Asked). a.mode) same ∙ is)
+
+pub returns-in-Ok-clause-notes : goal.returns-in-Ok-clause-notes
+returns-in-Ok-clause-notes g c = λ other.
+    let s = c.play_asked-report.result.status in
+    subst (λ (line : List ℕ). PutsOrFront g.N.Sink.took c.args.notes.now c.put_line.new.notes (g.N.Sink.faults c.args.notes.now)
+    (g.N.Sink.faults c.put_line.new.notes) line)
+    (plain_note c.in-Ok.asked.mode s
+    (λ is done. other (record { asked = c.in-Ok.asked; asks = c.in-Ok.ensures.asked; mode_is = is; done = done })))
+    c.put_line.ensures.line
+
+pub returns-in-Ok-clause-same : goal.returns-in-Ok-clause-same
+returns-in-Ok-clause-same g c = λ found.
+    let same = one_meaning c.args.words.now c.in-Ok.asked found.asked c.in-Ok.ensures.asked found.asks in
+    subst (λ (line : List ℕ). PutsOrFront g.N.Sink.took c.args.notes.now c.put_line.new.notes (g.N.Sink.faults c.args.notes.now)
+    (g.N.Sink.faults c.put_line.new.notes) line)
+    (same_note c.in-Ok.asked.mode c.play_asked-report.result.status (ap (λ (a : Asked). a.mode) same ∙ found.mode_is) found.done)
+    c.put_line.ensures.line
+
+pub returns-in-Err-Usage-clause-notes : goal.returns-in-Err-Usage-clause-notes
+returns-in-Err-Usage-clause-notes g c = λ other.
+    subst (λ s. PutsOrFront g.N.Sink.took c.args.notes.now c.refuse_words.new.notes (g.N.Sink.faults c.args.notes.now)
+    (g.N.Sink.faults c.refuse_words.new.notes) (note_of s)) (sym c.refuse_words.ensures.status) c.refuse_words.ensures.notes
+
+pub returns-in-Err-Usage-clause-same : goal.returns-in-Err-Usage-clause-same
+returns-in-Err-Usage-clause-same g c = λ found.
+    let no : status.Usage ≡ status.Done = sym c.refuse_words.ensures.status ∙ found.done in absurd cc
