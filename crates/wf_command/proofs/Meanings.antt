@@ -1,5 +1,5 @@
 -- What the matches of a parse mean.
-use Rattle.std.proofs.Common.{◌≡◌, ◌∙◌, true, List, [], Option, refl, sym, ap, subst, codes}
+use Rattle.std.proofs.Common.{◌≡◌, ◌∙◌, ℕ, true, List, [], Option, refl, sym, ap, subst, codes}
 use Rattle.std.specs.Prelude.{String}
 use Rattle.std.specs.Global.{Global}
 use Rattle.clap.specs.Words.{App, HasMatchesOf, Text, fault_of, first_of, first_value, found_of, is_simple, is_simple_and_free}
@@ -8,7 +8,7 @@ use Rattle.clap.specs.declared.parser.matches.ArgMatches.{ArgMatches}
 use Rattle.clap.proofs.OnLiterals.{clap_on_literals}
 use Rattle.clap.proofs.WalkLemmas.{first_value-rows, one_text-rows}
 use Rattle.wf_command.specs.declared.asked.Asked.{Asked}
-use Rattle.wf_command.specs.Words.{AreAccepted, AskFor, IsForm, IsMeant, IsSize, command, rows, texts}
+use Rattle.wf_command.specs.Words.{AreAccepted, AskFor, IsMeant, command, rows, texts, texts_in, texts_of}
 
 simple : is_simple command ≡ true
 unfolding clap_on_literals
@@ -23,33 +23,25 @@ module _ (app : App) (words : List (String Global)) (m : ArgMatches) (is : app �
   rows_are : rows_of (found_of m) ≡ rows words
   rows_are = (subst (λ (a : App). HasMatchesOf a (texts words) m) is has simple).0
 
-  mode_text : first_value (found_of m) (codes "mode") ≡ first_of (codes "mode") (rows words)
-  mode_text = first_value-rows (found_of m) (codes "mode") ∙ ap (first_of (codes "mode")) rows_are
+  texts_are : texts_in (found_of m) ≡ texts_of words
+  texts_are =
+      let found = found_of m in
+      let first : (id : List ℕ) → first_value found id ≡ first_of id (rows words) =
+      λ id. first_value-rows found id ∙ ap (first_of id) rows_are in
+      let one : (id : List ℕ) → one_text found id ≡ one_of id (rows words) = λ id. one_text-rows found id ∙ ap (one_of id) rows_are in
+      let t = texts_in found in
+      let u = texts_of words in
+      ap (λ (x : Option Text). record t { mode = x }) (first (codes "mode"))
+      ∙ ap (λ (x : Option Text). record t { mode = u.mode; threads = x }) (first (codes "threads"))
+      ∙ ap (λ (x : Option Text). record t { mode = u.mode; threads = u.threads; rows = x }) (one (codes "rows"))
+      ∙ ap (λ (x : Option Text). record u { film = x; size = t.size }) (one (codes "film"))
+      ∙ ap (λ (x : Option Text). record u { size = x }) (one (codes "size"))
 
-  film_text : one_text (found_of m) (codes "film") ≡ one_of (codes "film") (rows words)
-  film_text = one_text-rows (found_of m) (codes "film") ∙ ap (one_of (codes "film")) rows_are
-
-  size_text : one_text (found_of m) (codes "size") ≡ one_of (codes "size") (rows words)
-  size_text = one_text-rows (found_of m) (codes "size") ∙ ap (one_of (codes "size")) rows_are
-
-  pub meant : (a : Asked) → fault_of app (texts words) ≡ []
-      → IsMeant (first_value (found_of m) (codes "mode")) (one_text (found_of m) (codes "film")) (one_text (found_of m) (codes "size")) a
-      → AskFor a words
+  pub meant : (a : Asked) → fault_of app (texts words) ≡ [] → IsMeant (texts_in (found_of m)) a → AskFor a words
   meant a taken asks = record {
     taken = ap (λ (x : App). fault_of x (texts words)) (sym is) ∙ taken;
-    meant = record {
-      mode_is = sym mode_text ∙ asks.mode_is;
-      form_is = subst (λ (t : Option Text). IsForm t a.form) film_text asks.form_is;
-      size_is = subst (λ (t : Option Text). IsSize t a.size) size_text asks.size_is;
-    };
+    meant = subst (λ t. IsMeant t a) texts_are asks;
   }
 
-  pub not_meant : ((a : Asked) → ¬ (IsMeant (first_value (found_of m) (codes "mode")) (one_text (found_of m) (codes "film"))
-      (one_text (found_of m) (codes "size")) a)) → ¬ (AreAccepted words)
-  not_meant none = λ accepted.
-      let asks = accepted.1.meant in
-      none accepted.0 (record {
-        mode_is = mode_text ∙ asks.mode_is;
-        form_is = subst (λ (t : Option Text). IsForm t accepted.0.form) (sym film_text) asks.form_is;
-        size_is = subst (λ (t : Option Text). IsSize t accepted.0.size) (sym size_text) asks.size_is;
-      })
+  pub not_meant : ((a : Asked) → ¬ (IsMeant (texts_in (found_of m)) a)) → ¬ (AreAccepted words)
+  not_meant none = λ accepted. none accepted.0 (subst (λ t. IsMeant t accepted.0) (sym texts_are) accepted.1.meant)

@@ -1,5 +1,5 @@
 -- Words ask for one thing at most.
-use Rattle.std.proofs.Common.{◌≡◌, ◌∙◌, ℕ, List, get_or, Option, Some, None, inl, inr, refl, sym, ap, arith}
+use Rattle.std.proofs.Common.{◌≡◌, ◌∙◌, ℕ, ◌≤◌, Bool, true, false, List, get_or, Option, Some, None, inl, inr, refl, sym, ap, arith}
 use Rattle.std.specs.Prelude.{String}
 use Rattle.std.specs.Global.{Global}
 use Rattle.wf_film.specs.declared.form.FilmForm.{FilmForm}
@@ -7,7 +7,7 @@ use Rattle.wf_film.specs.declared.form.FilmForm.TheVariants as forms
 use Rattle.wf_command.specs.declared.asked.Asked.{Asked}
 use Rattle.wf_command.specs.declared.asked.Mode.{Mode}
 use Rattle.wf_command.specs.declared.asked.Mode.TheVariants as mode
-use Rattle.wf_command.specs.Words.{AskFor, IsForm, IsRounds, IsSize, mode_word}
+use Rattle.wf_command.specs.Words.{AskFor, IsCount, IsForm, IsSet, IsUpTo, mode_word, texts_of}
 use Rattle.clap.specs.Words.{Text}
 
 -- words with other first letters are other words
@@ -39,25 +39,36 @@ one_form (Some text) forms.One forms.Two first second = absurd (second first)
 one_form (Some text) forms.Two forms.One first second = absurd (first second)
 one_form (Some text) forms.Two forms.Two first second = refl
 
-one_size : (text : Option Text) (a b : ℕ) → IsSize text a → IsSize text b → a ≡ b
-one_size None a b first second = first ∙ sym second
-one_size (Some text) a b (inl first) (inl second) = sym first.1.1 ∙ second.1.1
-one_size (Some text) a b (inl first) (inr second) = absurd (second.1 a first.0 first.1)
-one_size (Some text) a b (inr first) (inl second) = absurd (first.1 b second.0 second.1)
-one_size (Some text) a b (inr first) (inr second) = first.0 ∙ sym second.0
+one_count : (last : ℕ) (text : Option Text) (a b : ℕ) → IsCount last text a → IsCount last text b → a ≡ b
+one_count last None a b first second = first ∙ sym second
+one_count last (Some text) a b (inl first) (inl second) = sym first.1.1 ∙ second.1.1
+one_count last (Some text) a b (inl first) (inr second) = absurd (second.1 a first.0 first.1)
+one_count last (Some text) a b (inr first) (inl second) = absurd (first.1 b second.0 second.1)
+one_count last (Some text) a b (inr first) (inr second) = first.0 ∙ sym second.0
 
--- the number of rounds is in its range
-pub are_rounds : (text : Option Text) (n : ℕ) → IsSize text n → IsRounds n
-are_rounds None n is = record { some = omega (arith, is); most = omega (arith, is) }
-are_rounds (Some text) n (inl is) = is.0
-are_rounds (Some text) n (inr is) = record { some = omega (arith, is.0); most = omega (arith, is.0) }
+one_flag : (text : Option Text) (a b : Bool) → IsSet text a → IsSet text b → a ≡ b
+one_flag text true true first second = refl
+one_flag text true false first second = absurd (second first)
+one_flag text false true first second = absurd (first second)
+one_flag text false false first second = refl
+
+-- the number of an option is in its range
+pub is_up_to : (last : ℕ) → 1 ≤ last → (text : Option Text) (n : ℕ) → IsCount last text n → IsUpTo last n
+is_up_to last some None n is = record { some = omega (arith, is); most = omega (arith, is, some) }
+is_up_to last some (Some text) n (inl is) = is.0
+is_up_to last some (Some text) n (inr is) = record { some = omega (arith, is.0); most = omega (arith, is.0, some) }
 
 pub one_meaning : (words : List (String Global)) (a b : Asked) → AskFor a words → AskFor b words → a ≡ b
 one_meaning words a b first second =
     let words_are : Some (mode_word a.mode) ≡ Some (mode_word b.mode) = sym first.meant.mode_is ∙ second.meant.mode_is in
     let same : mode_word a.mode ≡ mode_word b.mode = cc in
-    ap (λ (m : Mode). record { mode = m; form = a.form; size = a.size }) (one_mode a.mode b.mode same)
-    ∙ ap (λ (f : FilmForm). record { mode = b.mode; form = f; size = a.size })
-    (one_form _ a.form b.form first.meant.form_is second.meant.form_is)
-    ∙ ap (λ (n : ℕ). record { mode = b.mode; form = b.form; size = n })
-    (one_size _ a.size b.size first.meant.size_is second.meant.size_is)
+    let t = texts_of words in
+    ap (λ (m : Mode). record a { mode = m }) (one_mode a.mode b.mode same)
+    ∙ ap (λ (x : Bool). record a { mode = b.mode; threads = x })
+    (one_flag t.threads a.threads b.threads first.meant.threads_is second.meant.threads_is)
+    ∙ ap (λ (n : ℕ). record a { mode = b.mode; threads = b.threads; rows = n })
+    (one_count 16 t.rows a.rows b.rows first.meant.rows_is second.meant.rows_is)
+    ∙ ap (λ (f : FilmForm). record b { form = f; size = a.size })
+    (one_form t.film a.form b.form first.meant.form_is second.meant.form_is)
+    ∙ ap (λ (n : ℕ). record b { size = n })
+    (one_count 1000 t.size a.size b.size first.meant.size_is second.meant.size_is)

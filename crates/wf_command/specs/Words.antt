@@ -1,8 +1,10 @@
 -- The words of the command line, which stand without the program's name.
-use Rattle.std.specs.Prelude.{◌≡◌, ℕ, ◌≤◌, ◌⊎◌, true, List, [], ◌∷◌, codes, map, Option, Some, None, pos, String, string_bytes}
+use Rattle.std.specs.Prelude.{◌≡◌, ℕ, ◌≤◌, ◌⊎◌, Bool, true, false, List, [], ◌∷◌, codes, map, Option, Some, None, pos, String, string_bytes}
 use Rattle.std.specs.Global.{Global}
 use Rattle.std.specs.Str.Parse.{IsNumeral, digits_value, without_leading_plus}
-use Rattle.clap.specs.Words.{App, Row, Rule, Text, fault_of, first_of, matches_of, new_app, new_rule, one_of, with_rule}
+use Rattle.clap.specs.Words.{App, Row, Rule, Text, fault_of, first_of, first_value, matches_of, new_app, new_rule, one_of, one_text, with_rule}
+use Rattle.clap.specs.declared.builder.action.ArgAction.TheVariants.{SetTrue}
+use Rattle.clap.specs.declared.parser.matches.Found.{Found}
 use Rattle.clap.specs.declared.builder.value_parser.ValueParser.TheVariants as parser
 use Rattle.wf_film.specs.declared.form.FilmForm.{FilmForm}
 use Rattle.wf_film.specs.declared.form.FilmForm.TheVariants as forms
@@ -35,6 +37,18 @@ film_rule = record (new_rule (codes "film")) {
   defaults = codes "2" ∷ [];
 }
 
+-- the flag `--threads`
+abbrev pub threads_rule : Rule
+threads_rule = record (new_rule (codes "threads")) { long = Some (codes "threads"); action = Some SetTrue }
+
+-- `--rows N`, N from 1 to 16, by default 1
+abbrev pub rows_rule : Rule
+rows_rule = record (new_rule (codes "rows")) {
+  long = Some (codes "rows");
+  parser = Some (parser.Signed (pos 1) (pos 16));
+  defaults = codes "1" ∷ [];
+}
+
 -- `--size N`, N from 1 to 1000, by default 1
 abbrev pub size_rule : Rule
 size_rule = record (new_rule (codes "size")) {
@@ -50,7 +64,7 @@ bare =
     record plain { top = record plain.top { no_binary_name = true; disable_help_flag = true } }
 
 abbrev pub command : App
-command = with_rule (with_rule (with_rule bare mode_rule) film_rule) size_rule
+command = with_rule (with_rule (with_rule (with_rule (with_rule bare mode_rule) threads_rule) rows_rule) film_rule) size_rule
 
 -- what the words ask for
 
@@ -68,26 +82,64 @@ IsForm None form = form ≡ forms.Two
 IsForm (Some text) forms.One = Writes text 1
 IsForm (Some text) forms.Two = ¬ (Writes text 1)
 
--- a number of rounds
-pub record IsRounds (n : ℕ) : Type 0 where
+-- the flag stands among the words
+abbrev pub IsSet : Option Text → Bool → Type 0
+IsSet text true = text ≡ Some (codes "true")
+IsSet text false = ¬ (text ≡ Some (codes "true"))
+
+-- a number from 1 to another
+pub record IsUpTo (last n : ℕ) : Type 0 where
   pub some : 1 ≤ n
-  pub most : n ≤ 1000
+  pub most : n ≤ last
 
--- the number that the text of `--size` asks for
-abbrev pub IsSize : Option Text → ℕ → Type 0
-IsSize None n = n ≡ 1
-IsSize (Some text) n = (IsRounds n × Writes text n) ⊎ ((n ≡ 1) × ((k : ℕ) → IsRounds k → ¬ (Writes text k)))
+-- the number, from 1 to another, that the text of an option asks for; 1 without one
+abbrev pub IsCount : ℕ → Option Text → ℕ → Type 0
+IsCount last None n = n ≡ 1
+IsCount last (Some text) n = (IsUpTo last n × Writes text n) ⊎ ((n ≡ 1) × ((k : ℕ) → IsUpTo last k → ¬ (Writes text k)))
 
--- the mode, the form and the number of rounds that the texts of the arguments ask for
-pub record IsMeant (mode film size : Option Text) (a : Asked) : Type 0 where
-  pub mode_is : mode ≡ Some (mode_word a.mode)
-  pub form_is : IsForm film a.form
-  pub size_is : IsSize size a.size
+-- the texts of the arguments
+pub record Texts : Type 0 where
+  pub mode : Option Text
+  pub threads : Option Text
+  pub rows : Option Text
+  pub film : Option Text
+  pub size : Option Text
+
+-- what matches hold of them
+abbrev pub texts_in : Found → Texts
+texts_in found =
+    record {
+      mode = first_value found (codes "mode");
+      threads = first_value found (codes "threads");
+      rows = one_text found (codes "rows");
+      film = one_text found (codes "film");
+      size = one_text found (codes "size");
+    }
+
+-- what the words hold of them
+abbrev pub texts_of : List (String Global) → Texts
+texts_of words =
+    let found = rows words in
+    record {
+      mode = first_of (codes "mode") found;
+      threads = first_of (codes "threads") found;
+      rows = one_of (codes "rows") found;
+      film = one_of (codes "film") found;
+      size = one_of (codes "size") found;
+    }
+
+-- the mode with its options that the texts of the arguments ask for
+pub record IsMeant (t : Texts) (a : Asked) : Type 0 where
+  pub mode_is : t.mode ≡ Some (mode_word a.mode)
+  pub threads_is : IsSet t.threads a.threads
+  pub rows_is : IsCount 16 t.rows a.rows
+  pub form_is : IsForm t.film a.form
+  pub size_is : IsCount 1000 t.size a.size
 
 -- the words are a command, and this is its mode with its options
 pub record AskFor (a : Asked) (words : List (String Global)) : Type 0 where
   pub taken : fault_of command (texts words) ≡ []
-  pub meant : IsMeant (first_of (codes "mode") (rows words)) (one_of (codes "film") (rows words)) (one_of (codes "size") (rows words)) a
+  pub meant : IsMeant (texts_of words) a
 
 -- the words that are accepted
 abbrev pub AreAccepted : List (String Global) → Type 0

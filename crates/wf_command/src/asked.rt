@@ -19,6 +19,10 @@ pub enum Mode {
 #[derive(Clone, Copy, Debug, PartialEq, Eq)]
 pub struct Asked {
     pub mode: Mode,
+    /// Each client plays on a thread of its own.
+    pub threads: bool,
+    /// In how many bands of rows, 1 to 16, a frame is painted at most.
+    pub rows: u8,
     /// The form of the film.
     pub form: FilmForm,
     /// How many rounds the script has that is made, 1 to 1000.

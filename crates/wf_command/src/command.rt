@@ -2,12 +2,14 @@
 
 ghost use Rattle.std.specs.Prelude.{◌≡◌, ◌≢◌, IfErr, IfOk, IfSome, codes, false};
 ghost use Rattle.std.specs.Option.{IfNone};
-ghost use Rattle.clap.specs.Words.{app_of, first_value, found_of, kind_of, one_text, rule_of};
-ghost use Rattle.wf_command.specs.Words.{AreAccepted, AskFor, IsForm, IsMeant, IsSize, command, film_rule, mode_rule, mode_word, size_rule};
+ghost use Rattle.clap.specs.Words.{app_of, first_value, found_of, kind_of, one_text, rule_of, with_rule};
+ghost use Rattle.wf_command.specs.Words.{bare};
+ghost use Rattle.wf_command.specs.Words.{AreAccepted, AskFor, IsCount, IsForm, IsMeant, IsSet, command, film_rule, mode_rule, mode_word};
+ghost use Rattle.wf_command.specs.Words.{rows_rule, size_rule, texts_in, threads_rule};
 
 use crate::asked::{Asked, Mode, WordsStop};
 use clap::error::ErrorKind;
-use clap::{Arg, ArgMatches, Command, Error, value_parser};
+use clap::{Arg, ArgAction, ArgMatches, Command, Error, value_parser};
 use std::alloc::{AllocError, Global};
 use wf_film::FilmForm;
 
@@ -17,6 +19,27 @@ fn mode_arg<'a>(alloc: Global) -> Arg<'a>
     ensures own { result.global ≡ false }
 {
     Arg::new(alloc, "mode").required(true)
+}
+
+/// Whether each client plays on a thread of its own.
+fn threads_arg<'a>(alloc: Global) -> Arg<'a>
+    ensures rule { rule_of result ≡ threads_rule }
+    ensures own { result.global ≡ false }
+{
+    Arg::new(alloc, "threads")
+        .long("threads")
+        .action(ArgAction::SetTrue)
+}
+
+/// In how many bands of rows a frame is painted at most.
+fn rows_arg<'a>(alloc: Global) -> Arg<'a>
+    ensures rule { rule_of result ≡ rows_rule }
+    ensures own { result.global ≡ false }
+{
+    Arg::new(alloc, "rows")
+        .long("rows")
+        .value_parser(value_parser!(u8).range(1..=16))
+        .default_value("1")
 }
 
 /// The form of the film.
@@ -41,14 +64,23 @@ fn size_arg<'a>(alloc: Global) -> Arg<'a>
         .default_value("1")
 }
 
-/// The command: a mode, and its options.
-fn command<'a>(alloc: Global) -> Result<Command<'a>, AllocError>
-    ensures { IfOk result (λ c. app_of c ≡ command) }
+/// The command so far: a mode, and how a script is played.
+fn command_of_mode<'a>(alloc: Global) -> Result<Command<'a>, AllocError>
+    ensures { IfOk result (λ c. app_of c ≡ with_rule (with_rule (with_rule bare mode_rule) threads_rule) rows_rule) }
 {
     Command::new(alloc, "wfplay")
         .no_binary_name(true)
         .disable_help_flag(true)
         .arg(mode_arg(alloc))?
+        .arg(threads_arg(alloc))?
+        .arg(rows_arg(alloc))
+}
+
+/// The command: a mode, and its options.
+fn command<'a>(alloc: Global) -> Result<Command<'a>, AllocError>
+    ensures { IfOk result (λ c. app_of c ≡ command) }
+{
+    command_of_mode(alloc)?
         .arg(film_arg(alloc))?
         .arg(size_arg(alloc))
 }
@@ -77,9 +109,29 @@ fn form_in(matches: &ArgMatches) -> FilmForm
     }
 }
 
+/// Whether `--threads` stands among the words.
+fn threads_in(matches: &ArgMatches) -> bool
+    ensures { IsSet (first_value (found_of matches.now) (codes "threads")) result }
+{
+    match matches.get_str("threads") {
+        Some(word) => word == "true",
+        None => false,
+    }
+}
+
+/// How many bands a frame is painted in at most, by `--rows`.
+fn rows_in(matches: &ArgMatches) -> u8
+    ensures { IsCount 16 (one_text (found_of matches.now) (codes "rows")) result }
+{
+    match matches.get_one::<u8>("rows") {
+        Some(rows) if 1 <= rows && rows <= 16 => rows,
+        _ => 1,
+    }
+}
+
 /// How many rounds a made script has, by `--size`.
 fn size_in(matches: &ArgMatches) -> u16
-    ensures { IsSize (one_text (found_of matches.now) (codes "size")) result }
+    ensures { IsCount 1000 (one_text (found_of matches.now) (codes "size")) result }
 {
     match matches.get_one::<u16>("size") {
         Some(size) if 1 <= size && size <= 1000 => size,
@@ -89,17 +141,20 @@ fn size_in(matches: &ArgMatches) -> u16
 
 /// What the matches of a command ask for, or none where they name no mode.
 fn asked_in(matches: &ArgMatches) -> Option<Asked>
-    ensures asked { IfSome result (λ a.
-        IsMeant (first_value (found_of matches.now) (codes "mode")) (one_text (found_of matches.now) (codes "film"))
-        (one_text (found_of matches.now) (codes "size")) a) }
-    ensures none { IfNone result ((a : Asked)
-        → ¬ (IsMeant (first_value (found_of matches.now) (codes "mode")) (one_text (found_of matches.now) (codes "film"))
-        (one_text (found_of matches.now) (codes "size")) a)) }
+    ensures asked { IfSome result (IsMeant (texts_in (found_of matches.now))) }
+    ensures none { IfNone result ((a : Asked) → ¬ (IsMeant (texts_in (found_of matches.now)) a)) }
 {
+    let (threads, rows) = (threads_in(matches), rows_in(matches));
     let (form, size) = (form_in(matches), size_in(matches));
     match matches.get_str("mode") {
         Some(word) => match mode_named(word) {
-            Some(mode) => Some(Asked { mode, form, size }),
+            Some(mode) => Some(Asked {
+                mode,
+                threads,
+                rows,
+                form,
+                size,
+            }),
             None => None,
         },
         None => None,
