@@ -52,7 +52,7 @@ untouched c h p (x ∷ xs) none = of_client (x.client == c) refl (λ left. untou
 
 -- lists that grow to the same by one element
 
-nothing_more : (xs ys : List Happening) → xs ++ ys ≡ xs → ys ≡ []
+pub nothing_more : (xs ys : List Happening) → xs ++ ys ≡ xs → ys ≡ []
 nothing_more [] ys same = same
 nothing_more (x ∷ xs) ys same = nothing_more xs ys cc
 
@@ -76,7 +76,7 @@ module _ (c : ℕ) (old before new : List Happening) (e : Happening) (own : e.cl
   here = eq-eqb e.client c own
 
   -- none of them is the client's
-  none_between : events_of c more.0 ≡ []
+  pub none_between : events_of c more.0 ≡ []
   none_between =
       let counts : events_of c before ++ events_of c (e ∷ []) ≡ events_of c old ++ e ∷ [] =
       sym (events_of-append c before (e ∷ [])) ∙ ap (events_of c) (sym is) ∙ counted in
@@ -87,7 +87,7 @@ module _ (c : ℕ) (old before new : List Happening) (e : Happening) (own : e.cl
       (sym (events_of-append c old more.0) ∙ ap (events_of c) (sym more.1) ∙ same)
 
   module _ (h : State) (p : Program) where
-    reached : program_after c p before ≡ program_after c p old
+    pub reached : program_after c p before ≡ program_after c p old
     reached =
         let q : Program = program_after c p old in
         ap (program_after c p) more.1 ∙ program_after-append c p old more.0

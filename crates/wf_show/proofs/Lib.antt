@@ -8,3 +8,15 @@ pub mod Parts
 pub mod Merging
 pub mod Setting
 pub mod Wholes
+pub mod Framings
+pub mod Advances
+pub mod Endings
+pub mod Showings
+pub mod Fronts
+pub mod Assembling
+pub mod Counting
+pub mod Filming
+pub mod Telling
+pub mod Seating
+pub mod Casts
+pub mod Results

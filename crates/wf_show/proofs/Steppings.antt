@@ -1,6 +1,7 @@
 -- One call of a program through its pass.
 use Rattle.std.proofs.Common.{◌≡◌, ◌∙◌, ◌≤◌, Bool, true, false, not, ◌&&◌, List, [], ◌∷◌, ◌++◌, Some, IsTrue, refl, sym, ap, subst}
-use Rattle.std.proofs.Common.{arith, append-nil, append_assoc}
+use Rattle.std.proofs.Common.{arith, append-nil, append_assoc, length}
+use Rattle.std.proofs.lemmas.List.{length-append}
 use Rattle.wf_calls.specs.Parts.{is_begin}
 use Rattle.wf_calls.specs.declared.reply.Reply.{Reply}
 use Rattle.wf_desk.specs.History.{IsPrefix, event, events_of, replay}
@@ -43,6 +44,7 @@ starts p pass none fit room own =
             client = refl;
             opening = refl;
             goes_on = ([], sym (append-nil pass.seen));
+            count = refl;
             own = own;
             played = λ h is. (untouched pass.client h p pass.seen nothing).played;
             program = sym (untouched pass.client own.object p pass.seen nothing).program;
@@ -64,7 +66,7 @@ module _ (p p1 : Program) (old pass new : PlainPass) (w : Wanted) (reply : Reply
       let opened = so_far.runs.own in
       goes (replay after opened.object made.before) pass.client reply (made.allowed opened.object opened.opening)
 
-  counted : events_of pass.client new.seen ≡ events_of pass.client pass.seen ++ e ∷ []
+  pub counted : events_of pass.client new.seen ≡ events_of pass.client pass.seen ++ e ∷ []
   counted =
       ap (λ c. events_of c new.seen) (sym made.client) ∙ sym own.mine ∙ made.mine
       ∙ ap (λ (l : List Happening). l ++ e ∷ []) so_far.runs.own.mine
@@ -105,6 +107,7 @@ module _ (p p1 : Program) (old pass new : PlainPass) (w : Wanted) (reply : Reply
               client = made.client ∙ runs.client;
               opening = made.opening ∙ runs.opening;
               goes_on = longer;
+              count = omega (arith, runs.count, made.left, ap length made.mine, length-append pass.mine (e ∷ []));
               own = own;
               played = λ h is. subst (λ c. IsPlayed c h p new.seen) (sym made.client) (played h (sym made.opening ∙ is));
               program = program_is ∙ ap (λ c. program_after c p new.seen) (sym made.client);

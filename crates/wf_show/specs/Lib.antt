@@ -3,3 +3,7 @@ pub mod Played
 pub mod Running
 pub mod Shown
 pub mod Together
+pub mod Players
+pub mod Clocks
+pub mod Ends
+pub mod Casting

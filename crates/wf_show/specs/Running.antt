@@ -1,5 +1,5 @@
 -- What playing a program makes of its pass.
-use Rattle.std.specs.Prelude.{◌≡◌, ◌≤◌, IsTrue, Some}
+use Rattle.std.specs.Prelude.{◌≡◌, ◌+◌, ◌≤◌, IsTrue, Some, length}
 use Rattle.wf_calls.specs.declared.call.Call.{Call}
 use Rattle.wf_calls.specs.declared.reply.Reply.{Reply}
 use Rattle.wf_desk.specs.History.{IsPrefix}
@@ -27,6 +27,7 @@ pub record Runs (p now : Program) (old new : PlainPass) : Type 0 where
   pub client : new.client ≡ old.client
   pub opening : new.opening ≡ old.opening
   pub goes_on : IsPrefix old.seen new.seen
+  pub count : length new.mine + new.left ≡ length old.mine + old.left
   pub own : IsOwn after MayAnswer new
   pub played : (h : State) → new.opening ≡ Some h → IsPlayed new.client h p new.seen
   pub program : now ≡ program_after new.client p new.seen

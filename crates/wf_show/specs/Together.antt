@@ -1,5 +1,5 @@
 -- The clients of a script beside one another: the clock's setup first, and then all.
-use Rattle.std.specs.Prelude.{◌≡◌, ℕ, zero, suc, ◌<◌, true, false, IsTrue, List, [], ◌∷◌, ◌++◌, None}
+use Rattle.std.specs.Prelude.{◌≡◌, ℕ, zero, suc, ◌<◌, ◌==◌, true, false, IsTrue, List, [], ◌∷◌, ◌++◌, None}
 use Rattle.std.specs.List.{list_all}
 use Rattle.wf_desk.specs.History.{IsLegal}
 use Rattle.wf_machine.specs.Object.{MayAnswer, after}
@@ -7,13 +7,18 @@ use Rattle.wf_model.specs.State.{opening}
 use Rattle.wf_script.specs.Script.{PlainScript, may_tick}
 use Rattle.wf_turn.specs.Play.{IsComplete, IsLegal as IsLegalOrder, frames_after, replay}
 use Rattle.wf_turn.specs.Program.{Program, in_setup, place_of, program, taught}
-use Rattle.wf_show.specs.Played.{Happening, IsPlayed, gone_on, program_after}
+use Rattle.wf_show.specs.Played.{Happening, IsPlayed, after_event, gone_on, program_after}
 use Rattle.wf_show.specs.Shown.{frames_by, order_of}
 
 -- each event is of the setup: it is client 0's, and a line of the setup is not through before it
 abbrev pub IsSetup : Program → List Happening → Type 0
 IsSetup p [] = Unit {0}
 IsSetup p (e ∷ es) = (e.client ≡ 0) × (in_setup p ≡ true) × IsSetup (gone_on p e.reply) es
+
+-- before each event of client 0 a line of the setup is not through
+abbrev pub IsSettingUp : Program → List Happening → Type 0
+IsSettingUp p [] = Unit {0}
+IsSettingUp p (e ∷ es) = ((e.client == 0) ≡ true → in_setup p ≡ true) × IsSettingUp (after_event 0 p e) es
 
 -- each event is of a client below a number
 abbrev pub AllBelow : ℕ → List Happening → Type 0

@@ -17,7 +17,12 @@ use wf_machine::Machine;
 use wf_turn::{Program, Wanted};
 
 /// Makes the call that a program wants; one that waits, at a moment when no frame runs.
-fn ask<R: Wait>(rt: &R, desk: &Desk<Machine>, pass: &mut Pass<Machine>, wanted: Wanted) -> Reply
+pub(crate) fn ask<R: Wait>(
+    rt: &R,
+    desk: &Desk<Machine>,
+    pass: &mut Pass<Machine>,
+    wanted: Wanted,
+) -> Reply
     requires desk { pass.old.desk ≡ desk.now.id }
     requires left { 0 < pass.old.left }
     ensures made { Made after MayAnswer (IsReadyFor wanted) pass.old wanted.call result pass.new }

@@ -1,10 +1,19 @@
 //! Clients on threads, which share one machine by a desk.
 #![tactic(auto)]
 
+mod casting;
 mod client;
+mod clock;
+mod closing;
 mod gate;
 mod laws;
+mod painting;
+mod player;
+mod playing;
+mod teaching;
+mod together;
 
 pub use client::run_client;
 pub use gate::{Gate, Open};
 pub use laws::clients_make_an_order;
+pub use playing::threaded;

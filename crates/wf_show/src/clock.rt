@@ -1,0 +1,188 @@
+//! The clock, which is client 0, and writes the film.
+
+ghost use Rattle.std.specs.Prelude.{◌≡◌, ◌+◌, ◌*◌, ◌<◌, ◌≤◌, ◌^◌, ℕ, length, flat_map, None, IfErr, IsSome, IsSomeAnd, OnOk, false, true};
+ghost use Rattle.wf_film.specs.Film.{frame_bytes};
+ghost use Rattle.wf_io.specs.Bytes.{Puts, PutsPart};
+ghost use Rattle.wf_io.specs.Causes.{HasCause};
+ghost use Rattle.wf_machine.specs.Object.{IsPaintable};
+ghost use Rattle.wf_turn.specs.Playing.{job_frames};
+ghost use Rattle.wf_turn.specs.Program.{in_setup, place_of};
+ghost use Rattle.wf_turn.specs.Turns.{shown};
+ghost use Rattle.wf_show.specs.Clocks.{Advanced, Cuts, IsClock, SetsUp, Shows, start};
+ghost use Rattle.wf_show.specs.Together.{IsSettingUp};
+
+use crate::client::ask;
+use crate::painting::paint_rows;
+use crate::player::Player;
+use std::sync::Wait;
+use std::thread::Threads;
+use wf_calls::{Job, JobKind};
+use wf_desk::Desk;
+use wf_film::Writer;
+use wf_io::{Sink, WriteStop};
+use wf_machine::Machine;
+use wf_turn::Program;
+
+/// Makes the next call of the clock's program, and paints a Job that comes. It answers whether one came.
+fn advance<R: Threads + Wait + Sync>(
+    rt: &R,
+    desk: &Desk<Machine>,
+    clock: &mut Player,
+    rows: u32,
+) -> bool
+    requires some { 1 ≤ rows }
+    requires rows { rows ≤ 16 }
+    requires clock { IsClock desk.now.id clock.old }
+    requires more { IsSome (place_of clock.old.program) }
+    ensures clock { IsClock desk.now.id clock.new }
+    ensures advanced { Advanced clock.old clock.new result }
+    ensures setting { SetsUp clock.old clock.new }
+{
+    let Some(wanted) = clock.program.next() else {
+        unreachable!()
+    };
+    let reply = ask(rt, desk, &mut clock.pass, wanted);
+    clock.program.took(reply);
+    paint_rows(rt, rows, &mut clock.program)
+}
+
+/// Puts the frame of the painted Job that a program holds, if it is a port's, as begun by the event of a place.
+fn put_frame<K: Sink>(
+    program: &Program,
+    begin: u32,
+    k: &mut K,
+    writer: &mut Writer,
+) -> Result<(), WriteStop>
+    requires paintable { IsSomeAnd program.now.job IsPaintable }
+    requires few { writer.old.written < 2 ^ 62 }
+    ensures all { OnOk result (Puts K.took k.old k.new (flat_map (frame_bytes writer.old.form) (job_frames begin program.now))) }
+    ensures written { OnOk result (writer.new.written
+        ≡ writer.old.written + length (flat_map (frame_bytes writer.old.form) (job_frames begin program.now))) }
+    ensures form { writer.new.form ≡ writer.old.form }
+    ensures most { OnOk result (writer.new.written ≤ writer.old.written + 4194318) }
+    ensures part { IfErr result (λ stop. PutsPart K.took k.old k.new writer.old.written
+        (flat_map (frame_bytes writer.old.form) (job_frames begin program.now)) stop.written) }
+    ensures cause { HasCause (K.faults k.old) (K.faults k.new) result }
+{
+    match program.job() {
+        Some(job) => put_job(k, writer, program.tick(), begin, job),
+        None => Ok(()),
+    }
+}
+
+/// Puts the frame that a painted Job shows in a tick, if it is a port's, as begun by the event of a place.
+fn put_job<K: Sink>(
+    k: &mut K,
+    writer: &mut Writer,
+    tick: u32,
+    begin: u32,
+    job: &Job,
+) -> Result<(), WriteStop>
+    requires paintable { IsPaintable job.now }
+    requires few { writer.old.written < 2 ^ 62 }
+    ensures all { OnOk result (Puts K.took k.old k.new
+        (flat_map (frame_bytes writer.old.form) (shown job.now.kind tick begin job.now))) }
+    ensures written { OnOk result (writer.new.written
+        ≡ writer.old.written + length (flat_map (frame_bytes writer.old.form) (shown job.now.kind tick begin job.now))) }
+    ensures form { writer.new.form ≡ writer.old.form }
+    ensures most { OnOk result (writer.new.written ≤ writer.old.written + 4194318) }
+    ensures part { IfErr result (λ stop. PutsPart K.took k.old k.new writer.old.written
+        (flat_map (frame_bytes writer.old.form) (shown job.now.kind tick begin job.now)) stop.written) }
+    ensures cause { HasCause (K.faults k.old) (K.faults k.new) result }
+{
+    match job.kind {
+        JobKind::Context { .. } => Ok(()),
+        JobKind::Port { port } => writer.frame(k, port as u8, tick, begin, &job.image),
+    }
+}
+
+/// Makes the next call, and puts the frame that it shows. Where the sink fails, the frame ends.
+fn step<R: Threads + Wait + Sync, K: Sink>(
+    rt: &R,
+    desk: &Desk<Machine>,
+    clock: &mut Player,
+    rows: u32,
+    k: &mut K,
+    writer: &mut Writer,
+) -> Result<(), WriteStop>
+    requires some { 1 ≤ rows }
+    requires rows { rows ≤ 16 }
+    requires clock { IsClock desk.now.id clock.old }
+    requires more { IsSome (place_of clock.old.program) }
+    requires few { writer.old.written + clock.old.pass.left * 4194318 < 2 ^ 62 }
+    ensures clock { IsClock desk.now.id clock.new }
+    ensures form { writer.new.form ≡ writer.old.form }
+    ensures all { OnOk result (Shows K.took k.old k.new writer.old.form writer.old.written writer.new.written clock.old clock.new) }
+    ensures left { OnOk result (clock.new.pass.left + 1 ≡ clock.old.pass.left) }
+    ensures most { OnOk result (writer.new.written ≤ writer.old.written + 4194318) }
+    ensures setting { SetsUp clock.old clock.new }
+    ensures part { IfErr result (λ stop. Cuts K.took k.old k.new writer.old.form writer.old.written stop.written clock.old clock.new) }
+    ensures cause { HasCause (K.faults k.old) (K.faults k.new) result }
+{
+    if advance(rt, desk, clock, rows) {
+        let begin = clock.pass.place();
+        if let Err(stop) = put_frame(&clock.program, begin, k, writer) {
+            advance(rt, desk, clock, rows);
+            return Err(stop);
+        }
+    }
+    Ok(())
+}
+
+/// Plays the clock's program to its end, and puts its frames. Where the sink fails, the frame ends, and nothing more is played.
+pub(crate) fn go_on<R: Threads + Wait + Sync, K: Sink>(
+    rt: &R,
+    desk: &Desk<Machine>,
+    clock: &mut Player,
+    rows: u32,
+    k: &mut K,
+    writer: &mut Writer,
+) -> Result<(), WriteStop>
+    requires some { 1 ≤ rows }
+    requires rows { rows ≤ 16 }
+    requires clock { IsClock desk.now.id clock.old }
+    requires few { writer.old.written + clock.old.pass.left * 4194318 < 2 ^ 62 }
+    ensures clock { IsClock desk.now.id clock.new }
+    ensures all { OnOk result (Shows K.took k.old k.new writer.old.form writer.old.written writer.new.written clock.old clock.new) }
+    ensures through { OnOk result (place_of clock.new.program ≡ None) }
+    ensures few { OnOk result (writer.new.written < 2 ^ 62) }
+    ensures part { IfErr result (λ stop. Cuts K.took k.old k.new writer.old.form writer.old.written stop.written clock.old clock.new) }
+    ensures cause { HasCause (K.faults k.old) (K.faults k.new) result }
+{
+    while clock.program.place().is_some() {
+        if let Err(stop) = step(rt, desk, clock, rows, k, writer) {
+            return Err(stop);
+        }
+    }
+    Ok(())
+}
+
+/// Plays the setup. Where the sink fails, the frame ends, and nothing more is played.
+pub(crate) fn set_up<R: Threads + Wait + Sync, K: Sink>(
+    rt: &R,
+    desk: &Desk<Machine>,
+    clock: &mut Player,
+    rows: u32,
+    k: &mut K,
+    writer: &mut Writer,
+) -> Result<(), WriteStop>
+    requires some { 1 ≤ rows }
+    requires rows { rows ≤ 16 }
+    requires clock { IsClock desk.now.id clock.old }
+    requires few { writer.old.written + clock.old.pass.left * 4194318 < 2 ^ 62 }
+    ensures clock { IsClock desk.now.id clock.new }
+    ensures form { writer.new.form ≡ writer.old.form }
+    ensures all { OnOk result (Shows K.took k.old k.new writer.old.form writer.old.written writer.new.written clock.old clock.new) }
+    ensures over { OnOk result (in_setup clock.new.program ≡ false) }
+    ensures few { OnOk result (writer.new.written + clock.new.pass.left * 4194318 < 2 ^ 62) }
+    ensures setting { IsSettingUp (start clock.old) clock.old.pass.seen → IsSettingUp (start clock.new) clock.new.pass.seen }
+    ensures part { IfErr result (λ stop. Cuts K.took k.old k.new writer.old.form writer.old.written stop.written clock.old clock.new) }
+    ensures cause { HasCause (K.faults k.old) (K.faults k.new) result }
+{
+    while clock.program.in_setup() {
+        if let Err(stop) = step(rt, desk, clock, rows, k, writer) {
+            return Err(stop);
+        }
+    }
+    Ok(())
+}

@@ -1,0 +1,55 @@
+//! The clock on the calling thread, and the others beside it.
+
+ghost use Rattle.std.specs.Prelude.{◌≡◌, ◌+◌, ◌*◌, ◌<◌, ◌≤◌, ◌^◌, All, None, IfErr, OnOk};
+ghost use Rattle.wf_io.specs.Causes.{HasCause};
+ghost use Rattle.wf_turn.specs.Program.{place_of};
+ghost use Rattle.wf_show.specs.Clocks.{Cuts, IsClock, Shows};
+ghost use Rattle.wf_show.specs.Players.{AllWorked, IsWaiting};
+
+use crate::clock::go_on;
+use crate::gate::Gate;
+use crate::player::{Player, run_all};
+use std::sync::Wait;
+use std::thread::{Threads, join_mut};
+use wf_desk::Desk;
+use wf_film::Writer;
+use wf_io::{Sink, WriteStop};
+use wf_machine::Machine;
+
+/// Plays the clock's program to its end, and puts its frames, while the others play theirs on threads.
+pub(crate) fn play_together<R: Threads + Wait + Sync, K: Sink, G: Gate>(
+    rt: &R,
+    desk: &Desk<Machine>,
+    gate: &G,
+    clock: &mut Player,
+    rows: u32,
+    k: &mut K,
+    writer: &mut Writer,
+    others: &mut [Player],
+) -> Result<(), WriteStop>
+    requires some { 1 ≤ rows }
+    requires rows { rows ≤ 16 }
+    requires clock { IsClock desk.now.id clock.old }
+    requires few { writer.old.written + clock.old.pass.left * 4194318 < 2 ^ 62 }
+    requires others { All (IsWaiting desk.now.id) others.old }
+    ensures others { AllWorked others.old others.new }
+    ensures clock { IsClock desk.now.id clock.new }
+    ensures all { OnOk result (Shows K.took k.old k.new writer.old.form writer.old.written writer.new.written clock.old clock.new) }
+    ensures through { OnOk result (place_of clock.new.program ≡ None) }
+    ensures few { OnOk result (writer.new.written < 2 ^ 62) }
+    ensures part { IfErr result (λ stop. Cuts K.took k.old k.new writer.old.form writer.old.written stop.written clock.old clock.new) }
+    ensures cause { HasCause (K.faults k.old) (K.faults k.new) result }
+{
+    let (_, played) = join_mut(
+        rt,
+        &mut ||
+            requires { All (IsWaiting desk.now.id) others.now }
+            ensures { AllWorked others.entry.now others.exit.now }
+        { run_all(rt, desk, gate, others) },
+        &mut ||
+            requires { IsClock desk.now.id clock.now × (writer.now.written + clock.now.pass.left * 4194318 < 2 ^ 62)
+                × (1 ≤ rows) × (rows ≤ 16) }
+        { go_on(rt, desk, clock, rows, k, writer) },
+    );
+    played
+}
