@@ -1,5 +1,5 @@
 -- What a status says, drawn from what it says of the input, or of the script that was made.
-use Rattle.std.proofs.Common.{◌≡◌, ◌∙◌, ◌⊎◌, ℕ, inl, inr, List, Option, Some, None, Ok, Err, refl, sym, arith}
+use Rattle.std.proofs.Common.{◌≡◌, ◌∙◌, ◌⊎◌, ℕ, Bool, inl, inr, List, Option, Some, None, Ok, Err, refl, sym, arith}
 use Rattle.std.specs.Prelude.{IfSome}
 use Rattle.wf_io.specs.Causes.{Rose}
 use Rattle.wf_calls.specs.declared.order.Turn.{Turn}
@@ -59,14 +59,14 @@ made_complete took old new form size order a b c d (status.BadFilm at rule) says
 made_complete took old new form size order a b c d status.NoMemory says caused quiet = inr refl
 
 -- each mode
-pub mode_completes : {O : Type 0} (took : O → List ℕ → Type 0) (old new : O) (order : List Turn) (m : Mode) (form : FilmForm) (size : ℕ)
-    (a b c d : ℕ) (o : Option (List ℕ)) (s : Status) → (s ≡ status.Usage → ⊥)
-    → IfSome o (λ bytes. SaysOfInput took old new order m form bytes s)
+pub mode_completes : {O : Type 0} (took : O → List ℕ → Type 0) (old new : O) (order : List Turn) (m : Mode) (form : FilmForm) (threads : Bool)
+    (size a b c d : ℕ) (o : Option (List ℕ)) (s : Status) → (s ≡ status.Usage → ⊥)
+    → IfSome o (λ bytes. SaysOfInput took old new order m form threads bytes s)
     → (m ≡ mode.Big → SaysOfBig took old new form size order s) → IsCaused a b c d s → CompletesIn m o a b c d s
-mode_completes took old new order mode.Film form size a b c d o s accepted says big caused =
+mode_completes took old new order mode.Film form threads size a b c d o s accepted says big caused =
     all_complete took old new order _ _ a b c d o s accepted says caused
-mode_completes took old new order mode.Check form size a b c d o s accepted says big caused = all_told a b c d o s accepted says caused
-mode_completes took old new order mode.Print form size a b c d o s accepted says big caused =
+mode_completes took old new order mode.Check form threads size a b c d o s accepted says big caused = all_told a b c d o s accepted says caused
+mode_completes took old new order mode.Print form threads size a b c d o s accepted says big caused =
     all_complete took old new order _ _ a b c d o s accepted says caused
-mode_completes took old new order mode.Big form size a b c d o s accepted says big caused =
+mode_completes took old new order mode.Big form threads size a b c d o s accepted says big caused =
     made_complete took old new form size order a b c d s (big refl) caused

@@ -1,5 +1,5 @@
 -- What a report says: of the input's bytes, of what went into the film, and of the order.
-use Rattle.std.specs.Prelude.{◌≡◌, ℕ, ◌<◌, ◌≤◌, ◌⊎◌, List, [], length, Option, Result, Ok, Err, IfSome}
+use Rattle.std.specs.Prelude.{◌≡◌, ℕ, ◌<◌, ◌≤◌, ◌⊎◌, Bool, true, false, List, [], length, Option, Result, Ok, Err, IfSome}
 use Rattle.wf_io.specs.Bytes.{Puts, PutsNothing, PutsPart}
 use Rattle.wf_io.specs.Causes.{Rose}
 use Rattle.wf_calls.specs.declared.order.Turn.{Turn}
@@ -7,6 +7,8 @@ use Rattle.wf_script.specs.Canonical.{canonical}
 use Rattle.wf_script.specs.Grammar.{Stands}
 use Rattle.wf_script.specs.Script.{PlainScript}
 use Rattle.wf_film.specs.declared.form.FilmForm.{FilmForm}
+use Rattle.wf_show.specs.Ends.{OthersThrough}
+use Rattle.wf_turn.specs.declared.player.PlayStop.TheVariants as stop
 use Rattle.wf_turn.specs.Films.{IsCutFilm}
 use Rattle.wf_turn.specs.Play.{IsComplete as IsWholeOrder, film, marks, serial_order}
 use Rattle.wf_turn.specs.Serial.{BeginsSerial}
@@ -31,22 +33,24 @@ exit_of (status.BadFilm at rule) = 9
 exit_of status.NoMemory = 10
 
 -- the bytes that were put are the plain film, in a form, of the script that the input's bytes stand for, under the order,
--- which is legal and complete, and is the serial order
-pub record IsPlainFilm {O : Type 0} (took : O → List ℕ → Type 0) (old new : O) (form : FilmForm) (bytes : List ℕ) (order : List Turn)
-    : Type 0 where
+-- which is legal and complete; without threads it is the serial order
+pub record IsPlainFilm {O : Type 0} (took : O → List ℕ → Type 0) (old new : O) (form : FilmForm) (threads : Bool) (bytes : List ℕ)
+    (order : List Turn) : Type 0 where
   pub script : PlainScript
   pub stands : Stands bytes script
   pub put : Puts took old new (film form script order)
   pub complete : IsWholeOrder script order
-  pub serial : order ≡ serial_order script (marks order)
+  pub serial : threads ≡ false → order ≡ serial_order script (marks order)
 
--- the first `written` bytes of a film of that script were put, with an order that begins the serial one
-pub record IsFront {O : Type 0} (took : O → List ℕ → Type 0) (old new : O) (form : FilmForm) (bytes : List ℕ) (order : List Turn)
-    (written : ℕ) : Type 0 where
+-- The first `written` bytes of a film of that script were put. Without threads the order begins the serial one; with threads each
+-- program but the clock's is through, where the setup is.
+pub record IsFront {O : Type 0} (took : O → List ℕ → Type 0) (old new : O) (form : FilmForm) (threads : Bool) (bytes : List ℕ)
+    (order : List Turn) (written : ℕ) : Type 0 where
   pub script : PlainScript
   pub stands : Stands bytes script
   pub cut : IsCutFilm took old new form script order written
-  pub serial : BeginsSerial script order
+  pub serial : threads ≡ false → BeginsSerial script order
+  pub others : threads ≡ true → OthersThrough script (Err (stop.WriteFault written order))
 
 -- the bytes that were put are the canonical text of the script that the input's bytes stand for, and nothing was played
 pub record IsPrinted {O : Type 0} (took : O → List ℕ → Type 0) (old new : O) (bytes : List ℕ) (order : List Turn) : Type 0 where
@@ -76,13 +80,13 @@ module _ {O : Type 0} (took : O → List ℕ → Type 0) (old new : O) (order : 
   SaysOfRead IsWhole IsCut bytes _ = ⊥
 
   -- what each status says of an input of these bytes; the mode `big` reads none
-  abbrev pub SaysOfInput : Mode → FilmForm → List ℕ → Status → Type 0
-  SaysOfInput mode.Film form bytes s =
-      SaysOfRead (λ bytes. IsPlainFilm took old new form bytes order) (λ bytes. IsFront took old new form bytes order) bytes s
-  SaysOfInput mode.Check form bytes s = SaysOfCheck bytes s
-  SaysOfInput mode.Print form bytes s =
+  abbrev pub SaysOfInput : Mode → FilmForm → Bool → List ℕ → Status → Type 0
+  SaysOfInput mode.Film form threads bytes s =
+      SaysOfRead (λ bytes. IsPlainFilm took old new form threads bytes order) (λ bytes. IsFront took old new form threads bytes order) bytes s
+  SaysOfInput mode.Check form threads bytes s = SaysOfCheck bytes s
+  SaysOfInput mode.Print form threads bytes s =
       SaysOfRead (λ bytes. IsPrinted took old new bytes order) (λ bytes. IsCutText took old new bytes order) bytes s
-  SaysOfInput mode.Big form bytes s = Unit {0}
+  SaysOfInput mode.Big form threads bytes s = Unit {0}
 
   -- what each status says of the film and of the order, whatever the input
   abbrev pub SaysOfFilm : Status → Type 0

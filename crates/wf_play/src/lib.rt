@@ -3,7 +3,6 @@
 
 mod big;
 mod checked;
-mod gate;
 mod laws;
 mod notes;
 mod parts;
@@ -11,12 +10,12 @@ mod report;
 mod text;
 mod top;
 
-pub use gate::{Gate, Open};
 pub use laws::one_film;
 pub use notes::put_note;
 pub use report::{Report, Status};
 pub use top::play;
 pub use wf_command::{Asked, Mode};
+pub use wf_show::{Gate, Open};
 
 #[cfg(test)]
 mod tests;

@@ -1,9 +1,12 @@
 //! The top call.
 
-ghost use Rattle.std.specs.Prelude.{◌≡◌, ◌≢◌, ◌≤◌, ◌⊎◌, [], codes, IfErr, IfSome};
+ghost use Rattle.std.specs.Prelude.{◌≡◌, ◌≢◌, ◌≤◌, ◌⊎◌, Bool, true, false, [], codes, IfErr, IfSome};
 ghost use Rattle.wf_io.specs.Causes.{Rose};
-ghost use Rattle.wf_command.specs.Words.{AreAccepted, AskFor};
+ghost use Rattle.wf_command.specs.Words.{AreAccepted, AskFor, IsUpTo};
 ghost use Rattle.wf_film.specs.declared.form.FilmForm.{FilmForm};
+ghost use Rattle.wf_show.specs.Ends.{OthersThrough};
+ghost use Rattle.wf_turn.specs.Films.{IsCaused as IsCausedPlay, PlaysFilm};
+ghost use Rattle.wf_turn.specs.Serial.{IsInFileOrder};
 ghost use Rattle.wf_play.specs.Big.{SaysOfBig};
 ghost use Rattle.wf_play.specs.Check.{IsChecked};
 ghost use Rattle.wf_play.specs.Notes.{IsSame, PutsOrFront, note_of};
@@ -12,31 +15,58 @@ ghost use Rattle.wf_play.specs.Report.{CompletesIn, IsCaused, IsPlainFilm, IsPri
 
 use crate::big::play_big;
 use crate::checked::play_check;
-use crate::gate::Gate;
 use crate::notes::{put_line, put_note};
 use crate::report::{Report, Status, without_order};
 use std::alloc::Global;
 use std::sync::Wait;
 use std::thread::Threads;
+use wf_calls::Order;
 use wf_command::{Asked, Mode, WordsStop, asked_by};
-use wf_film::FilmForm;
 use wf_io::{ReadStop, Sink, Source, read_all};
 use wf_script::{Script, ScriptFault, parse, print};
+use wf_show::{Gate, threaded};
 use wf_turn::{PlayStop, serial};
 
 /// The longest script, in bytes.
 pub(crate) const SCRIPT_LIMIT: usize = 1_048_576;
 
-/// Reads the script and writes its film in a form.
-fn play_film<I: Source, O: Sink>(
+/// Plays a script, with its clients on threads or line by line, and writes its film.
+fn play_script<R: Threads + Wait + Sync, O: Sink, G: Gate>(
+    rt: &R,
     alloc: Global,
-    form: FilmForm,
+    asked: Asked,
+    script: &Script,
+    film: &mut O,
+    gate: &G,
+) -> Result<Order, PlayStop>
+    requires some { 1 ≤ asked.rows }
+    requires most { asked.rows ≤ 16 }
+    ensures plays { PlaysFilm O.took film.old film.new asked.form script.now result }
+    ensures order { asked.threads ≡ false → IsInFileOrder script.now result }
+    ensures others { asked.threads ≡ true → OthersThrough script.now result }
+    ensures caused { IsCausedPlay (O.faults film.old) (O.faults film.new) result }
+{
+    if asked.threads {
+        threaded(rt, alloc, script, asked.form, film, gate, asked.rows.into())
+    } else {
+        serial(alloc, script, asked.form, film)
+    }
+}
+
+/// Reads the script and writes its film.
+fn play_film<R: Threads + Wait + Sync, I: Source, O: Sink, G: Gate>(
+    rt: &R,
+    alloc: Global,
+    asked: Asked,
     input: &mut I,
     film: &mut O,
+    gate: &G,
 ) -> Report
+    requires some { 1 ≤ asked.rows }
+    requires most { asked.rows ≤ 16 }
     ensures mode { result.status ≢ Status.Usage }
     ensures input { IfSome (I.left input.old) (λ bytes.
-        SaysOfInput O.took film.old film.new result.order Mode.Film form bytes result.status) }
+        SaysOfInput O.took film.old film.new result.order Mode.Film asked.form asked.threads bytes result.status) }
     ensures film { SaysOfFilm O.took film.old film.new result.order result.status }
     ensures caused { IsCaused (I.faults input.old) (I.faults input.new) (O.faults film.old) (O.faults film.new) result.status }
     ensures input_count { I.faults input.old ≤ I.faults input.new }
@@ -46,7 +76,7 @@ fn play_film<I: Source, O: Sink>(
         Ok(script) => script,
         Err(status) => return without_order(alloc, status),
     };
-    match serial(alloc, &script, form, film) {
+    match play_script(rt, alloc, asked, &script, film, gate) {
         Ok(order) => Report {
             status: Status::Done,
             order,
@@ -62,8 +92,8 @@ fn play_film<I: Source, O: Sink>(
 /// Reads the script and prints it.
 fn play_print<I: Source, O: Sink>(alloc: Global, input: &mut I, film: &mut O) -> Report
     ensures mode { result.status ≢ Status.Usage }
-    ensures input { (form : FilmForm) → IfSome (I.left input.old) (λ bytes.
-        SaysOfInput O.took film.old film.new result.order Mode.Print form bytes result.status) }
+    ensures input { (form : FilmForm) (threads : Bool) → IfSome (I.left input.old) (λ bytes.
+        SaysOfInput O.took film.old film.new result.order Mode.Print form threads bytes result.status) }
     ensures film { SaysOfFilm O.took film.old film.new result.order result.status }
     ensures caused { IsCaused (I.faults input.old) (I.faults input.new) (O.faults film.old) (O.faults film.new) result.status }
     ensures input_count { I.faults input.old ≤ I.faults input.new }
@@ -120,17 +150,19 @@ fn read_script<I: Source>(alloc: Global, input: &mut I) -> Result<Script, Status
 }
 
 /// Plays what is asked for.
-fn play_asked<I: Source, O: Sink>(
+fn play_asked<R: Threads + Wait + Sync, I: Source, O: Sink, G: Gate>(
+    rt: &R,
     alloc: Global,
     asked: Asked,
     input: &mut I,
     film: &mut O,
+    gate: &G,
 ) -> Report
-    requires some { 1 ≤ asked.size }
-    requires most { asked.size ≤ 1000 }
+    requires size { IsUpTo 1000 asked.size }
+    requires rows { IsUpTo 16 asked.rows }
     ensures mode { result.status ≢ Status.Usage }
     ensures input { IfSome (I.left input.old) (λ bytes.
-        SaysOfInput O.took film.old film.new result.order asked.mode asked.form bytes result.status) }
+        SaysOfInput O.took film.old film.new result.order asked.mode asked.form asked.threads bytes result.status) }
     ensures checked { asked.mode ≡ Mode.Check
         → IsChecked O.took film.old film.new result.order (I.left input.old) result.status }
     ensures made { asked.mode ≡ Mode.Big
@@ -141,7 +173,7 @@ fn play_asked<I: Source, O: Sink>(
     ensures film_count { O.faults film.old ≤ O.faults film.new }
 {
     match asked.mode {
-        Mode::Film => play_film(alloc, asked.form, input, film),
+        Mode::Film => play_film(rt, alloc, asked, input, film, gate),
         Mode::Check => without_order(alloc, play_check(alloc, input)),
         Mode::Print => play_print(alloc, input, film),
         Mode::Big => play_big(alloc, asked.form, asked.size, film),
@@ -160,18 +192,20 @@ fn refuse_words<N: Sink>(alloc: Global, status: Status, notes: &mut N) -> Report
 }
 
 /// Plays what the words ask for, and puts its line into the notes.
-fn play_words<I: Source, O: Sink, N: Sink>(
+fn play_words<R: Threads + Wait + Sync, I: Source, O: Sink, N: Sink, G: Gate>(
+    rt: &R,
     alloc: Global,
     words: &[String],
     input: &mut I,
     film: &mut O,
     notes: &mut N,
+    gate: &G,
 ) -> Report
     ensures usage { result.status ≡ Status.Usage → ¬ (AreAccepted words.now) }
     ensures refused { ¬ (AreAccepted words.now) → (result.status ≡ Status.Usage) ⊎ (result.status ≡ Status.NoMemory) }
     ensures usage_first { result.status ≡ Status.Usage → input.new ≡ input.old }
     ensures input { (asked : Asked) → AskFor asked words.now → IfSome (I.left input.old) (λ bytes.
-        SaysOfInput O.took film.old film.new result.order asked.mode asked.form bytes result.status) }
+        SaysOfInput O.took film.old film.new result.order asked.mode asked.form asked.threads bytes result.status) }
     ensures checked { (asked : Asked) → AskFor asked words.now → asked.mode ≡ Mode.Check
         → IsChecked O.took film.old film.new result.order (I.left input.old) result.status }
     ensures made { (asked : Asked) → AskFor asked words.now → asked.mode ≡ Mode.Big
@@ -186,7 +220,7 @@ fn play_words<I: Source, O: Sink, N: Sink>(
 {
     match asked_by(alloc, words) {
         Ok(asked) => {
-            let report = play_asked(alloc, asked, input, film);
+            let report = play_asked(rt, alloc, asked, input, film, gate);
             put_line(notes, asked.mode, report.status);
             report
         }
@@ -196,25 +230,29 @@ fn play_words<I: Source, O: Sink, N: Sink>(
 }
 
 /// Reads a scene script from `input`, writes its film or its canonical text into `film`, and answers how that ended. `words` are
-/// the command's words without the program's name: the mode, `film`, `check`, `print` or `big`; for the form of the film `--film N`, N 1
-/// or 2 and by default 2; and for `big`, which reads nothing, plays the script that `make` of `wf_script` makes and writes one line on
-/// its film, `--size N`, N from 1 to 1000 and by default 1. `check` reads a script and the film behind it, writes nothing, and answers
-/// whether that is the film of the script and of its own journal. Each status but `Done` puts its line into `notes`, and a check `same`
-/// with `Done`; a fault there changes nothing else. All memory but that of the script's own creations is taken before the first byte is put.
+/// the command's words without the program's name: the mode, `film`, `check`, `print` or `big`; for a film `--threads`, by which each
+/// client plays on a thread of its own, and then `--rows N`, N from 1 to 16 and by default 1, in how many bands a frame is painted at
+/// most; for its form `--film N`, N 1 or 2 and by default 2; and for `big`, which reads nothing, plays the script that `make` of
+/// `wf_script` makes and writes one line on its film, `--size N`, N from 1 to 1000 and by default 1. `check` reads a script and the film
+/// behind it, writes nothing, and answers whether that is the film of the script and of its own journal. Each status but `Done` puts its
+/// line into `notes`, and a check `same` with `Done`; a fault there changes nothing else. All memory but that of the script's own
+/// creations is taken before the first byte is put. With `--threads` it may wait, and the gate is called round each event of the
+/// clients 1 to 7.
 pub fn play<R: Threads + Wait + Sync, I: Source, O: Sink, N: Sink, G: Gate>(
-    _rt: &R,
+    rt: &R,
     alloc: Global,
     words: &[String],
     input: &mut I,
     film: &mut O,
     notes: &mut N,
-    _gate: &G,
+    gate: &G,
 ) -> Report
     // The film, where the input tells its bytes: with the mode `film` and Done, it is the plain film, in the form that is
-    // asked for, of the script that the bytes stand for, under the order of the report.
+    // asked for, of the script that the bytes stand for, under the order of the report, which is legal and complete. Without
+    // `--threads` that order is the serial one.
     ensures headline { (asked : Asked) → AskFor asked words.now → asked.mode ≡ Mode.Film
         → IfSome (I.left input.old) (λ bytes. result.status ≡ Status.Done
-        → IsPlainFilm O.took film.old film.new asked.form bytes result.order) }
+        → IsPlainFilm O.took film.old film.new asked.form asked.threads bytes result.order) }
 
     // With the mode `print` and Done, it is the script's canonical text.
     ensures printed { (asked : Asked) → AskFor asked words.now → asked.mode ≡ Mode.Print
@@ -235,7 +273,7 @@ pub fn play<R: Threads + Wait + Sync, I: Source, O: Sink, N: Sink, G: Gate>(
     ensures refused { ¬ (AreAccepted words.now) → (result.status ≡ Status.Usage) ⊎ (result.status ≡ Status.NoMemory) }
     ensures usage_first { result.status ≡ Status.Usage → input.new ≡ input.old }
     ensures input { (asked : Asked) → AskFor asked words.now → IfSome (I.left input.old) (λ bytes.
-        SaysOfInput O.took film.old film.new result.order asked.mode asked.form bytes result.status) }
+        SaysOfInput O.took film.old film.new result.order asked.mode asked.form asked.threads bytes result.status) }
     ensures caused { IsCaused (I.faults input.old) (I.faults input.new) (O.faults film.old) (O.faults film.new) result.status }
     ensures complete { (asked : Asked) → AskFor asked words.now → CompletesIn asked.mode (I.left input.old) (I.faults input.old)
         (I.faults input.new) (O.faults film.old) (O.faults film.new) result.status }
@@ -250,5 +288,5 @@ pub fn play<R: Threads + Wait + Sync, I: Source, O: Sink, N: Sink, G: Gate>(
     ensures film_count { O.faults film.old ≤ O.faults film.new }
     ensures notes_count { N.faults notes.old ≤ N.faults notes.new }
 {
-    play_words(alloc, words, input, film, notes)
+    play_words(rt, alloc, words, input, film, notes, gate)
 }

@@ -1,5 +1,5 @@
 -- What an exit status says of what was put, and of a film that was checked.
-use Rattle.std.specs.Prelude.{◌≡◌, ℕ, List, Option}
+use Rattle.std.specs.Prelude.{◌≡◌, ℕ, Bool, List, Option}
 use Rattle.wf_calls.specs.declared.order.Turn.{Turn}
 use Rattle.wf_film.specs.declared.form.FilmForm.{FilmForm}
 use Rattle.wf_play.specs.Big.{IsTallied}
@@ -8,8 +8,8 @@ use Rattle.wf_play.specs.Report.{IsPlainFilm, IsPrinted, exit_of}
 use Rattle.wf_play.specs.declared.report.Status.{Status}
 
 -- what was put is the plain film, in a form, of the script of the input's bytes, under an order
-abbrev pub PutsFilm : {O : Type 0} → (O → List ℕ → Type 0) → (old new : O) → FilmForm → List ℕ → Type 0
-PutsFilm took old new form bytes = (order : List Turn) × IsPlainFilm took old new form bytes order
+abbrev pub PutsFilm : {O : Type 0} → (O → List ℕ → Type 0) → (old new : O) → FilmForm → Bool → List ℕ → Type 0
+PutsFilm took old new form threads bytes = (order : List Turn) × IsPlainFilm took old new form threads bytes order
 
 -- what was put is the canonical text of the script of the input's bytes, and nothing was played
 abbrev pub PutsText : {O : Type 0} → (O → List ℕ → Type 0) → (old new : O) → List ℕ → Type 0

@@ -51,7 +51,7 @@ fn exit_of_play<R: Threads + Wait + Sync, I: Source, O: Sink, N: Sink>(
     notes: &mut N,
 ) -> u8
     ensures film { (asked : Asked) → AskFor asked words.now → asked.mode ≡ mode.Film → result ≡ 0
-        → IfSome (I.left input.old) (PutsFilm O.took film.old film.new asked.form) }
+        → IfSome (I.left input.old) (PutsFilm O.took film.old film.new asked.form asked.threads) }
     ensures printed { (asked : Asked) → AskFor asked words.now → asked.mode ≡ mode.Print → result ≡ 0
         → IfSome (I.left input.old) (PutsText O.took film.old film.new) }
     ensures checked { (asked : Asked) → AskFor asked words.now → asked.mode ≡ mode.Check

@@ -9,7 +9,7 @@ returns-clause-headline g c = λ asked asks is.
     let done = c.play_words in
     done_says g.O.Sink.took c.args.film.now done.new.film done.result.order _ _ (g.I.Source.left c.args.input.now) done.result.status
     (subst (λ m. IfSome (g.I.Source.left c.args.input.now)
-    (λ bytes. SaysOfInput g.O.Sink.took c.args.film.now done.new.film done.result.order m asked.form bytes done.result.status)) is
+    (λ bytes. SaysOfInput g.O.Sink.took c.args.film.now done.new.film done.result.order m asked.form asked.threads bytes done.result.status)) is
     (done.ensures.input asked asks))
 
 pub returns-clause-printed : goal.returns-clause-printed
@@ -17,13 +17,13 @@ returns-clause-printed g c = λ asked asks is.
     let done = c.play_words in
     done_says g.O.Sink.took c.args.film.now done.new.film done.result.order _ _ (g.I.Source.left c.args.input.now) done.result.status
     (subst (λ m. IfSome (g.I.Source.left c.args.input.now)
-    (λ bytes. SaysOfInput g.O.Sink.took c.args.film.now done.new.film done.result.order m asked.form bytes done.result.status)) is
+    (λ bytes. SaysOfInput g.O.Sink.took c.args.film.now done.new.film done.result.order m asked.form asked.threads bytes done.result.status)) is
     (done.ensures.input asked asks))
 
 pub returns-clause-complete : goal.returns-clause-complete
 returns-clause-complete g c = λ asked asks.
     let done = c.play_words in
-    mode_completes g.O.Sink.took c.args.film.now done.new.film done.result.order asked.mode asked.form asked.size
+    mode_completes g.O.Sink.took c.args.film.now done.new.film done.result.order asked.mode asked.form asked.threads asked.size
     (g.I.Source.faults c.args.input.now) (g.I.Source.faults done.new.input) (g.O.Sink.faults c.args.film.now)
     (g.O.Sink.faults done.new.film) (g.I.Source.left c.args.input.now) done.result.status
     (λ usage. done.ensures.usage usage (asked, asks)) (done.ensures.input asked asks)

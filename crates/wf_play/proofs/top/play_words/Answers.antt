@@ -47,3 +47,9 @@ returns-in-Err-Usage-clause-notes g c = λ other.
 pub returns-in-Err-Usage-clause-same : goal.returns-in-Err-Usage-clause-same
 returns-in-Err-Usage-clause-same g c = λ found.
     let no : status.Usage ≡ status.Done = sym c.refuse_words.ensures.status ∙ found.done in absurd cc
+
+pub returns-in-Err-NoMemory-clause-notes : goal.returns-in-Err-NoMemory-clause-notes
+returns-in-Err-NoMemory-clause-notes g c = λ other.
+    let told = c.refuse_words-in-Err-NoMemory in
+    subst (λ s. PutsOrFront g.N.Sink.took c.args.notes.now told.new.notes (g.N.Sink.faults c.args.notes.now)
+    (g.N.Sink.faults told.new.notes) (note_of s)) (sym told.ensures.status) told.ensures.notes
