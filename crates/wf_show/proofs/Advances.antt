@@ -32,7 +32,8 @@ use Rattle.wf_show.proofs.Steppings.{counted, goes_once, gone}
 -- the call, before what came of it is taken
 module _ (desk : TableId) (a : Player) (pass : PlainPass) (w : Wanted) (reply : Reply)
     (clock : IsClock desk a) (asks : next a.program ≡ Some w) (begins : IsTrue w.wait → IsTrue (is_begin w.call))
-    (goes : GoesOnAfter a.program w) (made : Made after MayAnswer (IsReadyFor w) a.pass w.call reply pass) (own : IsOwn after MayAnswer pass)
+    (goes : GoesOnAfter a.program w) (made : Made after MayAnswer (IsReadyFor w) a.pass w.call reply pass)
+    (own : IsOwn after MayAnswer pass)
   where
     pub gone_is : GoesOn a.program reply
     gone_is =
@@ -40,7 +41,8 @@ module _ (desk : TableId) (a : Player) (pass : PlainPass) (w : Wanted) (reply : 
 
 module _ (desk : TableId) (a : Player) (pass : PlainPass) (now : Program) (w : Wanted) (reply : Reply) (painted : Bool)
     (clock : IsClock desk a) (asks : next a.program ≡ Some w) (begins : IsTrue w.wait → IsTrue (is_begin w.call))
-    (goes : GoesOnAfter a.program w) (made : Made after MayAnswer (IsReadyFor w) a.pass w.call reply pass) (own : IsOwn after MayAnswer pass)
+    (goes : GoesOnAfter a.program w) (made : Made after MayAnswer (IsReadyFor w) a.pass w.call reply pass)
+    (own : IsOwn after MayAnswer pass)
     (now_is : now ≡ gone_on a.program reply) (painted_is : painted ≡ is_work (took a.program reply)) where
   abbrev p : Program
   p = start a
@@ -84,11 +86,13 @@ module _ (desk : TableId) (a : Player) (pass : PlainPass) (now : Program) (w : W
   frames_are =
       let c : ℕ = a.pass.client in
       let q : Program = took a.program reply in
-      let one : frames_by 0 c p pass.seen ≡ frames_by 0 c p a.pass.seen ++ frames_of (length made.before) (took (program_after c p a.pass.seen) reply)
+      let one : frames_by 0 c p pass.seen ≡ frames_by 0 c p a.pass.seen ++ frames_of (length made.before) (took
+      (program_after c p a.pass.seen) reply)
       = one_frames c a.pass.seen made.before pass.seen e refl made.goes_on made.seen counts own.object p in
       let here : frames_by 0 0 p pass.seen
       ≡ frames_by 0 0 p a.pass.seen ++ frames_of (length made.before) (took (program_after c p a.pass.seen) reply) =
-      subst (λ n. frames_by 0 n p pass.seen ≡ frames_by 0 n p a.pass.seen ++ frames_of (length made.before) (took (program_after c p a.pass.seen) reply)) zero_is one in
+      subst (λ n. frames_by 0 n p pass.seen ≡ frames_by 0 n p a.pass.seen ++ frames_of (length made.before) (took
+      (program_after c p a.pass.seen) reply)) zero_is one in
       ap (λ (s : PlainScript). frames_by 0 0 (program s 0) pass.seen) script_is ∙ here
       ∙ ap (λ (fs : List Frame). shown_to a ++ fs)
       (ap (λ r. frames_of (length made.before) (took r reply)) was ∙ work_frames (length made.before) q
@@ -112,7 +116,8 @@ module _ (desk : TableId) (a : Player) (pass : PlainPass) (now : Program) (w : W
         painted_is = painted_is;
         shows = frames_are;
         paintable = λ is. subst (λ q. IsSomeAnd q.job IsPaintable) (sym now_is)
-            (still_paintable (took a.program reply) (gone_is desk a pass w reply clock asks begins goes made own).work (sym painted_is ∙ is));
+            (still_paintable (took a.program reply) (gone_is desk a pass w reply clock asks begins goes made own).work
+            (sym painted_is ∙ is));
         called =
             omega (arith, ap length made.mine, length-append a.pass.mine (e ∷ []));
       }
@@ -121,5 +126,6 @@ module _ (desk : TableId) (a : Player) (pass : PlainPass) (now : Program) (w : W
   sets_up inside so_far =
       let c : ℕ = a.pass.client in
       let on : IsSettingUp p pass.seen =
-      one_setting c a.pass.seen made.before pass.seen e refl made.goes_on made.seen counts own.object p zero_is so_far (ap in_setup was ∙ inside) in
+      one_setting c a.pass.seen made.before pass.seen e refl made.goes_on made.seen counts own.object p zero_is so_far
+      (ap in_setup was ∙ inside) in
       subst (λ (s : PlainScript). IsSettingUp (program s 0) pass.seen) (sym script_is) on

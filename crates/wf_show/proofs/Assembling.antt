@@ -1,5 +1,6 @@
 -- From what each client knows, and the one history behind all, to an order of the script.
-use Rattle.std.proofs.Common.{◌≡◌, ◌∙◌, inl, inr, ℕ, zero, suc, ◌+◌, ◌<◌, ◌≤◌, ◌==◌, Bool, true, false, not, cond, ◌&&◌, List, [], ◌∷◌, ◌++◌, map, length}
+use Rattle.std.proofs.Common.{◌≡◌, ◌∙◌, inl, inr, ℕ, zero, suc, ◌+◌, ◌<◌, ◌≤◌, ◌==◌, Bool, true, false, not, cond, ◌&&◌, List, [], ◌∷◌}
+use Rattle.std.proofs.Common.{◌++◌, map, length}
 use Rattle.std.proofs.Common.{Option, Some, None, refl, sym, ap, subst, arith, append-nil, slice_get}
 use Rattle.std.specs.Prelude.{nat_lt, slice_index_or}
 use Rattle.std.specs.List.{list_all, range_with_len}
@@ -163,14 +164,16 @@ module _ (desk : TableId) (script : PlainScript) (ticks : list_all may_tick scri
         let told = play.told in
         let mid : Player = play.middle in
         let runs = play.worked.runs in
-        let mid_client : mid.pass.client ≡ 1 + i = ap (λ (k : PlainPass). k.client) told.same ∙ ap (λ (k : PlainPass). k.client) new_one.pass in
+        let mid_client : mid.pass.client ≡ 1 + i = ap (λ (k : PlainPass). k.client) told.same
+        ∙ ap (λ (k : PlainPass). k.client) new_one.pass in
         let client : now.pass.client ≡ 1 + i = runs.client ∙ mid_client in
         let none : mid.pass.mine ≡ [] = ap (λ (k : PlainPass). k.mine) told.same ∙ ap (λ (k : PlainPass). k.mine) new_one.pass in
         let opened : now.pass.opening ≡ Some opens =
         runs.opening ∙ ap (λ (k : PlainPass). k.opening) told.same ∙ ap (λ (k : PlainPass). k.opening) new_one.pass in
         let begun : mid.program ≡ program_in script setup (suc i) =
         told.program ∙ ap (λ q. taught q was.program) middle_is.program
-        ∙ ap (taught (program_after 0 first setup)) (new_one.program ∙ ap (program script) (let same : 1 + i ≡ suc i = omega arith in same)) in
+        ∙ ap (taught (program_after 0 first setup)) (new_one.program
+        ∙ ap (program script) (let same : 1 + i ≡ suc i = omega arith in same)) in
         let nobody : events_of (1 + i) mid.pass.seen ≡ [] =
         ap (λ n. events_of n mid.pass.seen) (sym mid_client) ∙ sym told.own.mine ∙ none in
         let both : events_of (1 + i) setup ++ events_of (1 + i) told.told.0 ≡ [] =
@@ -247,7 +250,8 @@ module _ (desk : TableId) (script : PlainScript) (ticks : list_all may_tick scri
     completes through =
         let on = is_order script setup rest together in
         subst (λ (es : List Happening). IsComplete script (order_of es)) (sym goes_on.1)
-        (on.complete (λ client within. subst (λ (es : List Happening). place_of (program_after client (program_in script setup client) es) ≡ None)
+        (on.complete (λ client within. subst (λ (es : List Happening). place_of (program_after client
+        (program_in script setup client) es) ≡ None)
         goes_on.1 (each client within)))
       where
         each : (client : ℕ) → client < 8 → place_of (program_after client (program_in script setup client) history) ≡ None
@@ -266,7 +270,8 @@ module _ (desk : TableId) (script : PlainScript) (ticks : list_all may_tick scri
         (sym end.replayed ∙ ap (λ (es : List Happening). replayed script (order_of es)) (sym goes_on.1) ∙ is) in
         let there : slice_get end.last.programs (suc client) ≡ Some p = ap (λ (s : Show). slice_get s.programs (suc client)) same ∙ at in
         let within : suc client < 8 = omega (arith, end.eight, slice_get_within end.last.programs (suc client) p there) in
-        let is_program : slice_get end.last.programs (suc client) ≡ Some (program_after (suc client) (program_in script setup (suc client)) history) =
+        let is_program : slice_get end.last.programs (suc client) ≡ Some (program_after (suc client) (program_in script setup
+        (suc client)) history) =
         end.programs (suc client) within
         ∙ ap (λ (es : List Happening). Some (program_after (suc client) (program_in script setup (suc client)) es)) (sym goes_on.1) in
         ap place_of (one_is there is_program) ∙ others_through client (omega (arith, within))
@@ -314,7 +319,8 @@ module _ (desk : TableId) (script : PlainScript) (ticks : list_all may_tick scri
         let now : Program = program_after 0 first history in
         let inside : in_setup now ≡ true = ap in_setup (clock_known.program ∙ sym here.program) ∙ alone.inside in
         let kept : (b : Bool) → is_setting_up (cond b (all_taught (now ∷ others)) (now ∷ others)) ≡ in_setup now =
-        λ b. elim b as (λ x. is_setting_up (cond x (all_taught (now ∷ others)) (now ∷ others)) ≡ in_setup now) [ true ↦ refl | false ↦ refl ] in
+        λ b. elim b as (λ x. is_setting_up (cond x (all_taught (now ∷ others))
+        (now ∷ others)) ≡ in_setup now) [ true ↦ refl | false ↦ refl ] in
         ap (λ (s : Show). is_setting_up s.programs) (sym same) ∙ kept (in_setup first && not (in_setup now)) ∙ inside
 
   pub each_front : AreEnded desk clock old new → EachFront script history

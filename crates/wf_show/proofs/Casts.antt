@@ -1,5 +1,6 @@
 -- The players of passes, one by one.
-use Rattle.std.proofs.Common.{◌≡◌, ◌∙◌, ℕ, zero, suc, ◌+◌, ◌*◌, ◌<◌, ◌≤◌, ◌==◌, true, false, cond, List, [], ◌∷◌, ◌++◌, map, take, drop, length, refl, ap, subst}
+use Rattle.std.proofs.Common.{◌≡◌, ◌∙◌, ℕ, zero, suc, ◌+◌, ◌*◌, ◌<◌, ◌≤◌, ◌==◌, true, false, cond, List, [], ◌∷◌, ◌++◌, map, take, drop}
+use Rattle.std.proofs.Common.{length, refl, ap, subst}
 use Rattle.std.proofs.Common.{arith}
 use Rattle.std.specs.Prelude.{slice_index_or}
 use Rattle.std.specs.List.{range_with_len}
@@ -76,7 +77,8 @@ module _ (desk : TableId) (script : PlainScript) where
   pub dealt : (o : State) (quotas : List ℕ) → o ≡ opening script.ports
       → quotas ≡ quota script.lines 0 ∷ quota script.lines 1 ∷ quota script.lines 2 ∷ quota script.lines 3
       ∷ quota script.lines 4 ∷ quota script.lines 5 ∷ quota script.lines 6 ∷ quota script.lines 7 ∷ []
-      → fresh {O = State} {C = Call} {R = Reply} desk o 0 quotas ≡ first_pass desk script 0 (quota script.lines 0) ∷ passes_from desk script 1 7
+      → fresh {O = State} {C = Call} {R = Reply} desk o 0 quotas ≡ first_pass desk script 0
+      (quota script.lines 0) ∷ passes_from desk script 1 7
   dealt o quotas opened are = ap (λ h. fresh desk h 0 quotas) opened ∙ ap (fresh desk (opening script.ports) 0) are
 
   pub fresh_clock : (pass : PlainPass) (p : Program) → pass ≡ first_pass desk script 0 (quota script.lines 0) → p ≡ program script 0
@@ -122,7 +124,8 @@ module _ (desk : TableId) (script : PlainScript) where
       let shift : client + 1 + i ≡ client + suc i = omega arith in
       let at : client + length (q ∷ ps) ≡ client + 1 + length ps = omega arith in
       subst (λ c. IsFresh desk script c (slice_index_or (ps ++ p ∷ []) i d)) shift
-      (one_more (client + 1) ps p (λ j e less. subst (λ c. IsFresh desk script c (slice_index_or ps j e)) (shifted j) (all (suc j) e (omega (arith, less))))
+      (one_more (client + 1) ps p (λ j e less. subst (λ c. IsFresh desk script c (slice_index_or ps j e)) (shifted j) (all (suc j) e
+      (omega (arith, less))))
       (subst (λ c. IsFresh desk script c p) at one) i d (omega (arith, within)))
     where
       shifted : (j : ℕ) → client + suc j ≡ client + 1 + j

@@ -1,5 +1,6 @@
 -- How many events there are in all, by how many each client has.
-use Rattle.std.proofs.Common.{◌≡◌, ◌∙◌, ℕ, zero, suc, ◌+◌, ◌*◌, ◌<◌, ◌≤◌, ◌==◌, Bool, true, false, cond, List, [], ◌∷◌, length, refl, sym, ap}
+use Rattle.std.proofs.Common.{◌≡◌, ◌∙◌, ℕ, zero, suc, ◌+◌, ◌*◌, ◌<◌, ◌≤◌, ◌==◌, Bool, true, false, cond, List, [], ◌∷◌, length, refl, sym}
+use Rattle.std.proofs.Common.{ap}
 use Rattle.std.proofs.Common.{arith}
 use Rattle.std.specs.Prelude.{nat_lt}
 use Rattle.std.proofs.lemmas.Bool.{eq-eqb, eqb-true, ltb-false, ltb-true}
@@ -54,7 +55,8 @@ all_counted n (e ∷ es) all =
 
 none_counted : (es : List Happening) → how_many 0 es ≡ 0
 none_counted [] = refl
-none_counted (e ∷ es) = (let none : one_if (nat_lt e.client 0) ≡ 0 = below_none (nat_lt e.client 0) refl in omega (arith, none, none_counted es))
+none_counted (e ∷ es) =
+    let none : one_if (nat_lt e.client 0) ≡ 0 = below_none (nat_lt e.client 0) refl in omega (arith, none, none_counted es)
   where
     below_none : (b : Bool) → nat_lt e.client 0 ≡ b → one_if b ≡ 0
     below_none true less = absurd (omega (arith, ltb-true e.client 0 less))

@@ -31,7 +31,8 @@ pub setup_of : (p : Program) (es : List Happening) → ((c : ℕ) → 0 < c → 
 setup_of p [] none setting = tt
 setup_of p (e ∷ es) none setting = of_client e.client refl (λ each rest. setup_of (gone_on p e.reply) es each rest)
   where
-    of_client : (c : ℕ) → e.client ≡ c → (((d : ℕ) → 0 < d → events_of d es ≡ []) → IsSettingUp (gone_on p e.reply) es → IsSetup (gone_on p e.reply) es)
+    of_client : (c : ℕ) → e.client ≡ c → (((d : ℕ) → 0 < d → events_of d es ≡ []) → IsSettingUp (gone_on p e.reply) es
+        → IsSetup (gone_on p e.reply) es)
         → IsSetup p (e ∷ es)
     of_client zero own rest_of =
         let here : (e.client == 0) ≡ true = eq-eqb e.client 0 own in

@@ -1,5 +1,6 @@
 -- What a play on threads answers, by how all programs were played and what was put.
-use Rattle.std.proofs.Common.{◌≡◌, ◌∙◌, ◌⊎◌, inl, inr, ℕ, ◌<◌, ◌^◌, List, [], length, true, None, Ok, Err, sym, ap, subst, arith, append-nil}
+use Rattle.std.proofs.Common.{◌≡◌, ◌∙◌, ◌⊎◌, inl, inr, ℕ, ◌<◌, ◌^◌, List, [], length, true, None, Ok, Err, sym, ap, subst, arith}
+use Rattle.std.proofs.Common.{append-nil}
 use Rattle.std.specs.List.{list_all}
 use Rattle.atomic_table.specs.Seated.{TableId}
 use Rattle.wf_calls.specs.declared.order.Turn.{Turn}
@@ -82,7 +83,8 @@ module _ (desk : TableId) (script : PlainScript) (ticks : list_all may_tick scri
             let apart = clock_apart desk script ticks clock old new history is_clock script_is fresh seven as_many behind in
             let first_script : first.program.script ≡ script = ap (λ (q : Program). q.script) new_one.program in
             let nothing : first.pass.seen ≡ [] = ap (λ (k : PlainPass). k.seen) new_one.pass in
-            inr (inl (cut_frame took form script history fronts a b written first clock late first_script nothing apart.0 apart.1.0 apart.1.1))
+            inr (inl (cut_frame took form script history fronts a b written first clock late first_script nothing apart.0 apart.1.0
+            apart.1.1))
 
 -- an order is that of the one history behind all players
 abbrev pub Closed : Player → List Player → List Turn → Type 0

@@ -57,7 +57,8 @@ module _ (desk : TableId) (clock : Player) (old new : List Player) (is_clock : I
 
       of_ends : AreEnded desk clock old new → IsEndedAs desk (1 + i) (slice_index_or new i d)
       of_ends (inl all) =
-          played desk script (1 + i) all.middle (slice_index_or old i d) (slice_index_or new i d) (fresh i d of_old) (all.players i d of_old)
+          played desk script (1 + i) all.middle (slice_index_or old i d) (slice_index_or new i d) (fresh i d of_old)
+          (all.players i d of_old)
       of_ends (inr alone) =
           subst (λ (ps : List Player). IsEndedAs desk (1 + i) (slice_index_or ps i d)) (sym alone.rest)
           (stays desk script (1 + i) (slice_index_or old i d) (fresh i d of_old))

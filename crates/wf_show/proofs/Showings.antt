@@ -1,5 +1,6 @@
 -- The clock's calls one after another, and the frames that they put.
-use Rattle.std.proofs.Common.{◌≡◌, ◌∙◌, ℕ, ◌+◌, ◌*◌, ◌<◌, ◌≤◌, ◌^◌, Bool, true, false, List, [], ◌∷◌, ◌++◌, length, Option, Some, None, refl, sym, ap, subst}
+use Rattle.std.proofs.Common.{◌≡◌, ◌∙◌, ℕ, ◌+◌, ◌*◌, ◌<◌, ◌≤◌, ◌^◌, Bool, true, false, List, [], ◌∷◌, ◌++◌, length, Option, Some, None}
+use Rattle.std.proofs.Common.{refl, sym, ap, subst}
 use Rattle.std.proofs.Common.{arith, append-nil, append_assoc}
 use Rattle.std.specs.Prelude.{flat_map}
 use Rattle.std.specs.Option.{IsSome}
@@ -217,4 +218,5 @@ pub cut_sees : {K : Type 0} (bytes : K → List ℕ → Type 0) (k n : K) (form 
 cut_sees bytes k n form was written a b cuts =
     let begun = sees_more cuts.last cuts.middle true cuts.begun in
     let ended = sees_more cuts.middle b cuts.ended cuts.ends in
-    longer a.pass.seen cuts.last.pass.seen b.pass.seen cuts.goes_on (longer cuts.last.pass.seen cuts.middle.pass.seen b.pass.seen begun ended)
+    longer a.pass.seen cuts.last.pass.seen b.pass.seen cuts.goes_on
+    (longer cuts.last.pass.seen cuts.middle.pass.seen b.pass.seen begun ended)

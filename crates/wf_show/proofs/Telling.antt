@@ -46,7 +46,8 @@ first_clock desk clock fresh =
           (subst (λ q. RunsSoFar (program s 0) q first first) (sym fresh.program) begins);
     }
 
-pub first_setting : (desk : TableId) (clock : Player) → IsFresh desk clock.program.script 0 clock → IsSettingUp (start clock) clock.pass.seen
+pub first_setting : (desk : TableId) (clock : Player) → IsFresh desk clock.program.script 0 clock
+    → IsSettingUp (start clock) clock.pass.seen
 first_setting desk clock fresh = subst (λ (k : PlainPass). IsSettingUp (start clock) k.seen) (sym fresh.pass) tt
 
 -- a player that was told waits still
@@ -57,7 +58,8 @@ told_waits desk script client clock old new fresh told =
     told.same ∙ ap (λ (k : PlainPass). record k { seen = new.pass.seen }) fresh.pass in
     record {
       of_desk = ap (λ (k : PlainPass). k.desk) pass_is;
-      client = ap (λ (k : PlainPass). k.client) pass_is ∙ sym (ap (λ (q : Program). q.client) (told.program ∙ ap (taught clock.program) fresh.program));
+      client = ap (λ (k : PlainPass). k.client) pass_is ∙ sym (ap (λ (q : Program). q.client) (told.program
+          ∙ ap (taught clock.program) fresh.program));
       none = ap (λ (k : PlainPass). k.mine) pass_is;
       fit = subst IsFit (sym told.program) (fit_taught clock.program old.program fresh.fit);
       room =

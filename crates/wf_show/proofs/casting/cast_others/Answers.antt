@@ -30,7 +30,13 @@ loop-pass-preserved c =
       tt,
       omega (arith, i.2, length-append l.yielded (k ∷ [])),
       ap length c.push_reserved.ensures.items
-          ∙ omega (arith, i.3, length-append l.players.items (record { pass = k; program = p.program } ∷ []), length-append l.yielded (k ∷ [])),
+          ∙ omega (
+            arith,
+            i.3,
+            length-append l.players.items (record { pass = k; program = p.program } ∷ []),
+            length-append l.yielded
+                (k ∷ []),
+          ),
       subst (AreFresh d s 1) (sym c.push_reserved.ensures.items)
           (one_more d s 1 l.players.items (record { pass = k; program = p.program }) i.4 here),
       omega (arith, i.5, c.push_reserved.ensures.capacity),

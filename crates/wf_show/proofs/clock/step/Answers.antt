@@ -24,7 +24,8 @@ returns-in-Err-clause-part g c =
     let form = c.args.writer.now.form in
     let was = c.args.writer.now.written in
     let part = subst (λ n. PutsPart g.K.Sink.took c.args.k.now c.put_frame.new.k was
-    (flat_map (frame_bytes form) (job_frames n c.advance.new.clock.program)) c.in-Err.stop.written) c.place-begin.ensures.place c.in-Err.ensures.part in
+    (flat_map (frame_bytes form) (job_frames n c.advance.new.clock.program)) c.in-Err.stop.written) c.place-begin.ensures.place
+    c.in-Err.ensures.part in
     cut g.K.Sink.took form c.args.desk.now.id c.args.k.now c.put_frame.new.k was c.in-Err.stop.written c.args.clock.now c.advance.new.clock
     c.advance-in-Err.new.clock c.advance-in-Err.result c.requires.clock c.advance.ensures.clock one
     c.advance-in-Err.ensures.advanced part

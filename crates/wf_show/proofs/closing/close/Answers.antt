@@ -10,14 +10,17 @@ use Rattle.wf_show.proofs.closing.close.Goals as goal
 pub close-journal-requires-clause-passes : goal.close-journal-requires-clause-passes
 close-journal-requires-clause-passes c κs =
     subst (AreAll c.args.desk.id (length c.args.desk.quotas)) (sym c.gather.ensures)
-    (all_passes c.args.desk.id c.args.clock c.args.others.items (length c.args.desk.quotas) c.requires.seated c.requires.seven c.requires.eight)
+    (all_passes c.args.desk.id c.args.clock c.args.others.items
+    (length c.args.desk.quotas) c.requires.seated c.requires.seven c.requires.eight)
 
 pub returns : goal.returns
 returns c =
     let s = c.args.clock.program.script in
     let journal = c.close-journal.result.1 in
-    let closing : IsClosing after MayAnswer entry c.args.desk (passes_of c.args.clock c.args.others.items) c.close-journal.result.0 journal =
-    subst (λ (ks : List PlainPass). IsClosing after MayAnswer entry c.args.desk ks c.close-journal.result.0 journal) c.gather.ensures c.close-journal.ensures in (
+    let closing : IsClosing after MayAnswer entry c.args.desk
+    (passes_of c.args.clock c.args.others.items) c.close-journal.result.0 journal =
+    subst (λ (ks : List PlainPass). IsClosing after MayAnswer entry c.args.desk ks c.close-journal.result.0 journal) c.gather.ensures
+    c.close-journal.ensures in (
       closing.history,
       (
         history_is s c.args.desk c.args.clock c.args.others.items c.close-journal.result.0 journal c.requires.opening c.requires.eight

@@ -28,7 +28,8 @@ returns-clause-played g c =
     let setting = c.set_up.ensures.setting (first_setting d first c.requires.clock) in
     let last = subst (λ (p : Player). Shows g.K.Sink.took c.set_up.new.k c.play_together.new.k c.set_up.new.writer.form
     c.set_up.new.writer.written c.play_together.new.writer.written p end) c.teach.ensures.clock c.in_default-play_together.ensures.all in
-    all_play d m end c.args.others.now c.teach.new.others c.play_together.new.others c.in_default.ensures.clock setting c.in_default.ensures.over
+    all_play d m end c.args.others.now c.teach.new.others c.play_together.new.others c.in_default.ensures.clock setting
+    c.in_default.ensures.over
     (sym last.script) last.goes_on c.teach.ensures.told c.play_together.ensures.others
 
 pub returns-in-Err-play_together-clause-ended : goal.returns-in-Err-play_together-clause-ended
