@@ -203,3 +203,29 @@ def film(show, form):
 def denied_in(turns):
     """The places of an order whose code is OutOfMemory."""
     return [place for place, turn in enumerate(turns) if turn[1] == OUT_OF_MEMORY]
+
+
+def canonical(text):
+    """The canonical text of a script whose numbers have no leading zeros and whose paints have small letters."""
+    lines = [" ".join(line.partition("#")[0].split()) for line in text.split("\n")]
+    return "".join(line + "\n" for line in lines if line and line != "pipes 0")
+
+
+def made(rounds):
+    """The script of so many rounds that the program makes."""
+    lines = ["WFS1", "port 64x48", "pipes 1", "0 d = device", "0 c = screen d 1", "0 activate d c"]
+    for i in range(rounds):
+        k, x, y = 1 + i % 7, 5 * i % 56, 3 * i % 40
+        lines += [f"{k} s{i} = stream 8 8 rgbx 2", f"{k} x{i} = source d c s{i}", f"{k} e{i} = element d c", f"{k} set d e{i} source x{i}",
+                  f"{k} set d e{i} srcrect 0 0 8 8", f"{k} set d e{i} dest {x} {y} 8 8", f"{k} insert d e{i} none",
+                  f"{k} frame s{i} fill {i % 256} {7 * i % 256} {13 * i % 256} 255", f"{k} commit d c", "0 tick",
+                  f"{k} del_element d e{i}", f"{k} del_source d x{i}", f"{k} del_stream s{i}"]
+    return "\n".join(lines + ["end", ""])
+
+
+def summary(rounds, denied=()):
+    """The line on the film of that script in which the creations at these places of the order get no memory."""
+    show = Show(made(rounds), denied)
+    data = film(show, 2)
+    return (f"big {rounds}: lines {7 + 13 * rounds} events {len(show.turns)} frames {rounds} bytes {len(data)}"
+            f" sum {sum(data) % 2**32}\n")
