@@ -6,12 +6,13 @@ use std::alloc::{AllocError, Global};
 use wf_calls::Turn;
 use wf_cases::{bytes_of, number, word, words_of};
 
-/// The words and the input of a play, how many bytes the source gives in a call, and what has to come: the bytes of a whole play, and
-/// the turns of its order.
+/// The words and the input of a play, how many of its bytes are its script's, how many bytes the source gives in a call, and what has to
+/// come: the bytes of a whole play, and the turns of its order.
 #[derive(Drop)]
 pub(crate) struct Parts {
     pub(crate) words: Vec<String>,
     pub(crate) input: Vec<u8>,
+    pub(crate) script: usize,
     pub(crate) step: usize,
     pub(crate) wanted: Vec<u8>,
     pub(crate) turns: Vec<Turn>,
@@ -29,7 +30,7 @@ fn digit(byte: u8) -> u8
 }
 
 /// Adds the bytes that a text has in hexadecimal.
-fn push_hex(bytes: &mut Vec<u8>, text: &str) -> Result<(), AllocError> {
+pub(crate) fn push_hex(bytes: &mut Vec<u8>, text: &str) -> Result<(), AllocError> {
     for pair in text.as_bytes().chunks_exact(2) {
         bytes.push(16 * digit(pair[0]) + digit(pair[1]))?;
     }
@@ -47,6 +48,7 @@ impl Parts {
         Parts {
             words: Vec::new(alloc),
             input: Vec::new(alloc),
+            script: 0,
             step: 4096,
             wanted: Vec::new(alloc),
             turns: Vec::new(alloc),
@@ -54,7 +56,7 @@ impl Parts {
     }
 
     /// Takes a part, where the verb is one of a part: `words WORD ..` the words of the command line, and `step COUNT`. What was
-    /// taken before is added to by `script TEXT` and `bytes HEX` (the input), `spaces COUNT` (the same), `text TEXT` and `film HEX`
+    /// taken before is added to by `script TEXT`, `bytes HEX` and `spaces COUNT` (the input), `text TEXT` and `film HEX`
     /// (what a whole play puts), and `turn CLIENT CODE VALUE`. `order COUNT` takes the turns of the film. `anew` drops all of that.
     pub(crate) fn take(
         &mut self,
@@ -78,6 +80,7 @@ impl Parts {
             }
             "script" => {
                 self.input.extend_from_slice(&bytes_of(alloc, rest)?)?;
+                self.script = self.input.len();
                 told(alloc, &self.input)?
             }
             "bytes" => {
@@ -112,6 +115,7 @@ impl Parts {
             }
             "anew" => {
                 self.input = Vec::new(alloc);
+                self.script = 0;
                 self.wanted = Vec::new(alloc);
                 self.turns = Vec::new(alloc);
                 format!(in alloc; "nothing")?

@@ -1,12 +1,12 @@
 //! The plays of a case, and what is told of them.
 
-use crate::parts::Parts;
+use crate::parts::{Parts, push_hex};
 use std::alloc::{AllocError, Global};
 use std::io;
 use std::sync::Wait;
 use std::thread::Threads;
 use wf_calls::Turn;
-use wf_cases::{number, words_of};
+use wf_cases::{number, word, words_of};
 use wf_io::{MemorySink, MemorySource};
 use wf_play::{Open, Report, play};
 
@@ -72,9 +72,18 @@ fn play_first<R: Threads + Wait + Sync + AllocGlobal>(
     count: usize,
     failing: Failing,
 ) -> io::Result<String> {
-    let alloc = rt.alloc();
     let first = parts.input.get(..count).unwrap_or(&parts.input);
-    let bytes = Vec::from_slice(alloc, first)?;
+    play_bytes(rt, parts, Vec::from_slice(rt.alloc(), first)?, failing)
+}
+
+/// Plays these bytes, with these calls failing.
+fn play_bytes<R: Threads + Wait + Sync + AllocGlobal>(
+    rt: &R,
+    parts: &Parts,
+    bytes: Vec<u8>,
+    failing: Failing,
+) -> io::Result<String> {
+    let alloc = rt.alloc();
     let take = Vec::from_slice(alloc, &[failing.take])?;
     let mut input = MemorySource::new(bytes, parts.step.max(1), take);
     let (Ok(mut film), Ok(mut notes)) = (
@@ -133,8 +142,46 @@ fn play_cuts<R: Threads + Wait + Sync + AllocGlobal>(
     Ok(first)
 }
 
+/// Plays a check of each front of the film behind the script that is shorter, and tells how many of them are no film because they end.
+fn play_film_cuts<R: Threads + Wait + Sync + AllocGlobal>(
+    rt: &R,
+    parts: &Parts,
+) -> io::Result<String> {
+    let (alloc, count) = (rt.alloc(), parts.input.len().saturating_sub(parts.script));
+    let mut early = 0usize;
+    for length in 0..count {
+        let whole = parts.script.saturating_add(length);
+        let came = play_first(rt, parts, whole, Failing::default())?;
+        let want = format!(in alloc;
+            "BadFilm {{ at: {length}, rule: 3 }}, exit 9, 0 turns, 0 bytes, bad film at {length}: rule 3\\n"
+        )?;
+        if came.as_str() == want.as_str() {
+            early = early.saturating_add(1);
+        }
+    }
+    Ok(format!(in alloc; "{early} of {count}")?)
+}
+
+/// Plays the input with other bytes from a place of the film behind the script on.
+fn play_film_with<R: Threads + Wait + Sync + AllocGlobal>(
+    rt: &R,
+    parts: &Parts,
+    place: usize,
+    hex: &str,
+) -> io::Result<String> {
+    let (alloc, input) = (rt.alloc(), parts.input.as_slice());
+    let place = parts.script.saturating_add(place);
+    let mut bytes = Vec::from_slice(alloc, input.get(..place).unwrap_or(input))?;
+    push_hex(&mut bytes, hex)?;
+    if let Some(behind) = input.get(bytes.len()..) {
+        bytes.extend_from_slice(behind)?;
+    }
+    play_bytes(rt, parts, bytes, Failing::default())
+}
+
 /// Makes a call and tells its answer: `play` plays the whole, `take N`, `takes FROM TO`, `put N` and `note N` with a call failing, and
-/// `cut N` and `cuts FROM TO` the first bytes of the input. All other verbs are those of parts.
+/// `cut N` and `cuts FROM TO` the first bytes of the input. `film_cuts` checks the fronts of the film behind the script, and
+/// `film_with PLACE HEX` it with other bytes. All other verbs are those of parts.
 pub(crate) fn answer<R: Threads + Wait + Sync + AllocGlobal>(
     rt: &R,
     parts: &mut Parts,
@@ -186,6 +233,8 @@ pub(crate) fn answer<R: Threads + Wait + Sync + AllocGlobal>(
             wf_cases::number(words, 0),
             wf_cases::number(words, 1),
         ),
+        "film_cuts" => play_film_cuts(rt, parts),
+        "film_with" => play_film_with(rt, parts, wf_cases::number(words, 0), word(words, 1)),
         _ => Ok(format!(in alloc; "no such call")?),
     }
 }
