@@ -31,14 +31,14 @@ WORDS = {
     "transparency": ("none", "alpha", "source", "mask", "alpha+source", "alpha+mask", "source+mask", "alpha+source+mask"),
     "transition": ("now", "vsync"),
 }
-# The numbers of a paint: the least and the most of each; `pixels` is the word of a row.
+# The numbers of a paint: the least and the most of each, and whether it may have a sign, as all of x and y may; `pixels` is the word of a row.
 COLOR = [(0, 255)] * 4
 PAINTS = {
     "fill": COLOR,
     "box": [(-MOST_PLACE, MOST_PLACE)] * 2 + [(0, MOST_PLACE)] * 2 + COLOR,
     "checker": [(1, MOST_SIDE)] + COLOR + COLOR,
     "ramp": COLOR + COLOR,
-    "row": [(0, MOST_SIDE - 1), "pixels"],
+    "row": [(0, MOST_SIDE - 1, True), "pixels"],
 }
 # What stands behind each verb. `set X` is an attribute of X with its value, `get X` one with the number of a component.
 VERBS = {
@@ -73,9 +73,9 @@ def need(holds, rule):
         raise Fault(rule)
 
 
-def is_number(word, least=-MOST_NUMBER, most=MOST_NUMBER):
-    """A word is a number of a range. Where the range has no negative number, it has no sign."""
-    form = NUMBER if least < 0 else UNSIGNED
+def is_number(word, least=-MOST_NUMBER, most=MOST_NUMBER, has_sign=False):
+    """A word is a number of a range. Where the range has no negative number, it has no sign unless it may."""
+    form = NUMBER if least < 0 or has_sign else UNSIGNED
     return bool(form.match(word)) and least <= int(word) <= most
 
 
