@@ -31,7 +31,8 @@ WORDS = {
     "transparency": ("none", "alpha", "source", "mask", "alpha+source", "alpha+mask", "source+mask", "alpha+source+mask"),
     "transition": ("now", "vsync"),
 }
-# The numbers of a paint: the least and the most of each, and whether it may have a sign, as all of x and y may; `pixels` is the word of a row.
+# The numbers of a paint: the least and the most of each, and whether it may have a sign, as all of x and y may; `pixels` is the word of
+# a row.
 COLOR = [(0, 255)] * 4
 PAINTS = {
     "fill": COLOR,

@@ -79,4 +79,6 @@ FILMS = {
     "a journal without a frame": (entries_film, lambda size: (8, "bad order at entry 1")),
     "bytes 0": (lambda size: bytes(size), lambda size: (9, "bad film at 0: rule 1")),
 }
+# What is no script with a film, and as long as both together: without a line whose only word is `end` all of it is the script part.
+ENDLESS = {"line feeds": b"\n", "spaces": b" ", "lines of a word": b"ends\n"}
 SHORT = b"WFF2J" + b"\xff" * 4 + bytes(6)
