@@ -3,6 +3,7 @@
 //! begins with `#`, says nothing.
 #![tactic(auto)]
 
+mod parted;
 mod parts;
 mod plays;
 

@@ -6,14 +6,18 @@ use std::alloc::{AllocError, Global};
 use wf_calls::Turn;
 use wf_cases::{bytes_of, number, word, words_of};
 
-/// The words and the input of a play, how many of its bytes are its script's, how many bytes the source gives in a call, and what has to
-/// come: the bytes of a whole play, and the turns of its order.
+/// The most bytes that a play puts here.
+pub(crate) const ROOM: usize = 65_536;
+
+/// The words and the input of a play, how many of its bytes are its script's, how many bytes the source gives in a call and the sink takes
+/// in one, and what has to come: the bytes of a whole play, and the turns of its order.
 #[derive(Drop)]
 pub(crate) struct Parts {
     pub(crate) words: Vec<String>,
     pub(crate) input: Vec<u8>,
     pub(crate) script: usize,
     pub(crate) step: usize,
+    pub(crate) most: usize,
     pub(crate) wanted: Vec<u8>,
     pub(crate) turns: Vec<Turn>,
 }
@@ -50,12 +54,13 @@ impl Parts {
             input: Vec::new(alloc),
             script: 0,
             step: 4096,
+            most: ROOM,
             wanted: Vec::new(alloc),
             turns: Vec::new(alloc),
         }
     }
 
-    /// Takes a part, where the verb is one of a part: `words WORD ..` the words of the command line, and `step COUNT`. What was
+    /// Takes a part, where the verb is one of a part: `words WORD ..` the words of the command line, `step COUNT` and `most COUNT`. What was
     /// taken before is added to by `script TEXT`, `bytes HEX` and `spaces COUNT` (the input), `text TEXT` and `film HEX`
     /// (what a whole play puts), and `turn CLIENT CODE VALUE`. `order COUNT` takes the turns of the film. `anew` drops all of that.
     pub(crate) fn take(
@@ -77,6 +82,10 @@ impl Parts {
             "step" => {
                 self.step = number::<usize>(words, 0).max(1);
                 format!(in alloc; "{}", self.step)?
+            }
+            "most" => {
+                self.most = number::<usize>(words, 0).max(1);
+                format!(in alloc; "{}", self.most)?
             }
             "script" => {
                 self.input.extend_from_slice(&bytes_of(alloc, rest)?)?;

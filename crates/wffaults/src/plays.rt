@@ -1,6 +1,7 @@
 //! The plays of a case, and what is told of them.
 
-use crate::parts::{Parts, push_hex};
+use crate::parted::Parted;
+use crate::parts::{Parts, ROOM, push_hex};
 use std::alloc::{AllocError, Global};
 use std::io;
 use std::sync::Wait;
@@ -9,9 +10,6 @@ use wf_calls::Turn;
 use wf_cases::{number, word, words_of};
 use wf_io::{MemorySink, MemorySource};
 use wf_play::{Open, Report, play};
-
-/// The most bytes that a play puts here.
-const ROOM: usize = 65_536;
 
 /// Which calls fail, each counted from 1, and 0 for none: of the source, of the film's sink and of that of the notes.
 #[derive(Clone, Copy, Default)]
@@ -86,11 +84,15 @@ fn play_bytes<R: Threads + Wait + Sync + AllocGlobal>(
     let alloc = rt.alloc();
     let take = Vec::from_slice(alloc, &[failing.take])?;
     let mut input = MemorySource::new(bytes, parts.step.max(1), take);
-    let (Ok(mut film), Ok(mut notes)) = (
+    let (Ok(sink), Ok(mut notes)) = (
         MemorySink::new(alloc, ROOM, Vec::from_slice(alloc, &[failing.put])?),
         MemorySink::new(alloc, 4096, Vec::from_slice(alloc, &[failing.note])?),
     ) else {
         return Err(io::ErrorKind::OutOfMemory.into());
+    };
+    let mut film = Parted {
+        sink,
+        most: parts.most,
     };
     let report = play(
         rt,
@@ -101,7 +103,7 @@ fn play_bytes<R: Threads + Wait + Sync + AllocGlobal>(
         &mut notes,
         &Open,
     );
-    let told = told(alloc, parts, &report, film.bytes(), notes.bytes())?;
+    let told = told(alloc, parts, &report, film.sink.bytes(), notes.bytes())?;
     Ok(told)
 }
 
