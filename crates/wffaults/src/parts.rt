@@ -60,9 +60,9 @@ impl Parts {
         }
     }
 
-    /// Takes a part, where the verb is one of a part: `words WORD ..` the words of the command line, `step COUNT` and `most COUNT`. What was
-    /// taken before is added to by `script TEXT`, `bytes HEX` and `spaces COUNT` (the input), `text TEXT` and `film HEX`
-    /// (what a whole play puts), and `turn CLIENT CODE VALUE`. `order COUNT` takes the turns of the film. `anew` drops all of that.
+    /// Takes a part, where the verb is one of a part: `words WORD ..` the words of the command line, `step COUNT` and `most COUNT`.
+    /// What was taken before is added to by `script TEXT`, `bytes HEX` and `spaces COUNT` (the input), `text TEXT` and `film HEX` (what
+    /// a whole play puts), and `turn CLIENT CODE VALUE`. `order COUNT` takes the turns of the film. `anew` drops all of that.
     pub(crate) fn take(
         &mut self,
         alloc: Global,
