@@ -11,8 +11,13 @@ SECONDS = 120
 
 def play(text, form=2):
     """The exit status of a play, its film in a form, and its notes."""
+    return play_bytes(text.encode("utf-8"), form)
+
+
+def play_bytes(data, form=2):
+    """The same of a script that may be any bytes."""
     words = [str(PROGRAM), "film", "--film", str(form)]
-    played = subprocess.run(words, input=text.encode("utf-8"), capture_output=True, timeout=SECONDS, check=False)
+    played = subprocess.run(words, input=data, capture_output=True, timeout=SECONDS, check=False)
     return played.returncode, played.stdout, played.stderr.decode("utf-8", "replace")
 
 
