@@ -3,3 +3,4 @@ pub mod Lengths
 pub mod Lines
 pub mod Checks
 pub mod Says
+mod Rows
