@@ -1,8 +1,7 @@
 -- What the reader of scripts knows of the names that are bound so far.
 use Rattle.std.specs.Prelude.{◌≡◌, ℕ, ◌<◌, Bool, false, List, slice_index_or, Option, Some, None}
-use Rattle.std.specs.BTreeMap.{get_by}
-use Rattle.std.specs.Cmp.Lexicographic.{slice_cmp}
-use Rattle.std.specs.Ordering.{nat_cmp}
+use Rattle.std.specs.HashMap.{get_by}
+use Rattle.std.specs.Str.{bytes_eq}
 use Rattle.wf_script.specs.declared.line.Line.{Line}
 use Rattle.wf_script.specs.declared.name.Name.{Name}
 use Rattle.wf_script.specs.declared.seen.Seen as declared
@@ -14,7 +13,7 @@ is_among client (Some clients) = slice_index_or clients client false
 
 -- whether a client sees a name
 abbrev pub sees : declared.Seen → ℕ → Name → Bool
-sees seen client name = is_among client (get_by (λ key. slice_cmp nat_cmp name key.now) seen.clients)
+sees seen client name = is_among client (get_by (λ key. bytes_eq name key.now) seen.clients)
 
 -- what it knows is right for these lines
 pub record SeesAll (seen : declared.Seen) (lines : List Line) : Type 0 where

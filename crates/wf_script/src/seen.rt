@@ -9,7 +9,7 @@ ghost use Rattle.wf_script.specs.Seen.{SeesAll, sees};
 ghost use Rattle.wf_script.specs.Visible.{is_name_in};
 
 use std::alloc::Global;
-use std::collections::BTreeMap;
+use std::collections::HashMap;
 use wf_words::NoMemory;
 
 /// How many clients there are.
@@ -18,7 +18,7 @@ pub(crate) const CLIENTS: usize = 8;
 /// For each name the clients that see it, and whether only client 0 has spoken.
 #[derive(Drop)]
 pub(crate) struct Seen<'a> {
-    pub clients: BTreeMap<&'a [u8], [bool; 8]>,
+    pub clients: HashMap<&'a [u8], [bool; 8]>,
     pub in_setup: bool,
 }
 
@@ -35,7 +35,7 @@ impl<'a> Seen<'a> {
         ensures { SeesAll result [] }
     {
         Seen {
-            clients: BTreeMap::new(alloc),
+            clients: HashMap::new(alloc),
             in_setup: true,
         }
     }
