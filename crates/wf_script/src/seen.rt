@@ -1,24 +1,25 @@
 //! The names that are bound so far, and who sees them.
 
-ghost use Rattle.std.specs.Prelude.{◌≡◌, ◌<◌, ◌++◌, ◌∷◌, ◌==◌, ◌||◌, ◌&&◌, [], ℕ, List, false, length, slice_index_or, OnOk, map};
+ghost use Rattle.std.specs.Prelude.{◌≡◌, ◌<◌, ◌++◌, ◌∷◌, ◌==◌, ◌||◌, ◌&&◌, [], ℕ, List, false, length, slice_index_or, IfSome, OnOk, map};
 ghost use Rattle.std.specs.Prelude.{option_map, option_to_list};
 ghost use Rattle.std.specs.List.{list_all, list_any};
 ghost use Rattle.wf_script.specs.declared.line.Line.{Line};
 ghost use Rattle.wf_script.specs.Given.{names_among};
-ghost use Rattle.wf_script.specs.Seen.{SeesAll, sees};
+ghost use Rattle.wf_script.specs.Seen.{SeesAll, clients_of, number_of, sees};
 ghost use Rattle.wf_script.specs.Visible.{is_name_in};
 
 use std::alloc::Global;
-use std::collections::HashMap;
+use std::collections::BTreeMap;
 use wf_words::NoMemory;
 
 /// How many clients there are.
 pub(crate) const CLIENTS: usize = 8;
 
-/// For each name the clients that see it, and whether only client 0 has spoken.
+/// For each name the clients that see it, and whether only client 0 has spoken. A name stands behind its number, so that two names
+/// are told apart by one comparison of numbers.
 #[derive(Drop)]
 pub(crate) struct Seen<'a> {
-    pub clients: HashMap<&'a [u8], [bool; 8]>,
+    pub clients: BTreeMap<(u128, &'a [u8]), [bool; 8]>,
     pub in_setup: bool,
 }
 
@@ -29,15 +30,36 @@ fn stays_setup(in_setup: bool, client: u8) -> bool
     in_setup && client == 0
 }
 
+/// The number that is written by the letters of a name in base 256, without what does not fit. No two names have the same.
+#[tactic(auto, using(std::proofs::lemmas::List::Sums::fold_more), unfolding(crate::specs::Seen::number_of))]
+fn number_of(name: &[u8]) -> u128
+    ensures { result ≡ number_of name.now }
+{
+    let mut number: u128 = 0;
+    for letter in name {
+        number = number.wrapping_shl(8).wrapping_add(u128::from(*letter));
+    }
+    number
+}
+
 impl<'a> Seen<'a> {
     /// No names.
     pub(crate) fn new(alloc: Global) -> Seen<'a>
         ensures { SeesAll result [] }
     {
         Seen {
-            clients: HashMap::new(alloc),
+            clients: BTreeMap::new(alloc),
             in_setup: true,
         }
+    }
+
+    /// The clients that see a name, where there is such a name.
+    fn clients_of(&self, name: &'a [u8]) -> Option<[bool; 8]>
+        ensures clients { result ≡ clients_of self.now name.now }
+        ensures length { IfSome result (λ clients. length clients ≡ CLIENTS) }
+    {
+        let key = (number_of(name), name);
+        self.clients.get(&key).copied()
     }
 
     /// Whether a client sees a name.
@@ -45,7 +67,7 @@ impl<'a> Seen<'a> {
         requires { client < CLIENTS }
         ensures { result ≡ sees self.now client name.now }
     {
-        match self.clients.get(&name) {
+        match self.clients_of(name) {
             Some(clients) => clients[usize::from(client)],
             None => false,
         }
@@ -107,7 +129,7 @@ impl<'a> Seen<'a> {
             return Ok(());
         };
         let clients = self.clients_with(client, in_setup, name);
-        self.clients.insert(name, clients)?;
+        self.clients.insert((number_of(name), name), clients)?;
         Ok(())
     }
 
@@ -121,7 +143,7 @@ impl<'a> Seen<'a> {
         if in_setup {
             return [true; 8];
         }
-        let mut clients = self.clients.get(&name).copied().unwrap_or([false; 8]);
+        let mut clients = self.clients_of(name).unwrap_or([false; 8]);
         clients[usize::from(client)] = true;
         clients
     }
