@@ -1,11 +1,11 @@
 //! The names that are bound so far, and who sees them.
 
-ghost use Rattle.std.specs.Prelude.{◌≡◌, ◌<◌, ◌++◌, ◌∷◌, ◌==◌, ◌||◌, ◌&&◌, [], ℕ, List, false, length, slice_index_or, IfSome, OnOk, map};
+ghost use Rattle.std.specs.Prelude.{◌≡◌, ◌<◌, ◌++◌, ◌∷◌, ◌==◌, ◌||◌, ◌&&◌, [], ℕ, List, false, length, slice_index_or, IfOk, IfSome, OnOk, map};
 ghost use Rattle.std.specs.Prelude.{option_map, option_to_list};
 ghost use Rattle.std.specs.List.{list_all, list_any};
 ghost use Rattle.wf_script.specs.declared.line.Line.{Line};
 ghost use Rattle.wf_script.specs.Given.{names_among};
-ghost use Rattle.wf_script.specs.Seen.{SeesAll, clients_of, number_of, sees};
+ghost use Rattle.wf_script.specs.Seen.{SeesAll, clients_of, is_among, number_of, sees};
 ghost use Rattle.wf_script.specs.Visible.{is_name_in};
 
 use std::alloc::Global;
@@ -28,6 +28,18 @@ fn stays_setup(in_setup: bool, client: u8) -> bool
     ensures { result ≡ (in_setup && (client == 0)) }
 {
     in_setup && client == 0
+}
+
+/// Whether a client is among some clients, if there are any.
+fn is_among(client: u8, clients: Option<[bool; 8]>) -> bool
+    requires small { client < CLIENTS }
+    requires length { IfSome clients (λ clients. length clients ≡ CLIENTS) }
+    ensures { result ≡ is_among client clients }
+{
+    match clients {
+        Some(clients) => clients[usize::from(client)],
+        None => false,
+    }
 }
 
 /// The number that is written by the letters of a name in base 256, without what does not fit. No two names have the same.
@@ -67,10 +79,7 @@ impl<'a> Seen<'a> {
         requires { client < CLIENTS }
         ensures { result ≡ sees self.now client name.now }
     {
-        match self.clients_of(name) {
-            Some(clients) => clients[usize::from(client)],
-            None => false,
-        }
+        is_among(client, self.clients_of(name))
     }
 
     /// Whether a client sees the name, if there is one.
@@ -95,42 +104,33 @@ impl<'a> Seen<'a> {
             && self.sees_one(client, third)
     }
 
-    /// Whether there is a name, and a client sees it.
-    pub(crate) fn has(&self, client: u8, name: Option<&'a [u8]>) -> bool
+    /// Takes the line of a client in, with the name that it binds. Says whether the client saw that name already.
+    pub(crate) fn take_line(&mut self, client: u8, name: Option<&'a [u8]>) -> Result<bool, NoMemory>
         requires { client < CLIENTS }
-        ensures { result ≡ list_any (sees self.now client) (option_to_list (option_map (λ w. w.now) name.entry)) }
-    {
-        match name {
-            Some(name) => self.is_visible(client, name),
-            None => false,
-        }
-    }
-
-    /// Takes the line of a client in, with the name that it binds.
-    pub(crate) fn take_line(&mut self, client: u8, name: Option<&'a [u8]>) -> Result<(), NoMemory>
-        requires { client < CLIENTS }
-        ensures { OnOk result ((lines : List Line) (line : Line) → line.client ≡ client → line.name ≡ option_map (λ w. w.now) name.entry
+        ensures taken { IfOk result (λ taken. taken ≡ list_any (sees self.old client) (option_to_list (option_map (λ w. w.now) name.entry))) }
+        ensures right { OnOk result ((lines : List Line) (line : Line) → line.client ≡ client → line.name ≡ option_map (λ w. w.now) name.entry
             → SeesAll self.old lines → SeesAll self.new (lines ++ line ∷ [])) }
     {
         let in_setup = stays_setup(self.in_setup, client);
-        self.bind(client, in_setup, name)?;
+        let taken = self.bind(client, in_setup, name)?;
         self.in_setup = in_setup;
-        Ok(())
+        Ok(taken)
     }
 
-    /// Binds the name of a client's line, in the setup or behind it, if there is one.
-    fn bind(&mut self, client: u8, in_setup: bool, name: Option<&'a [u8]>) -> Result<(), NoMemory>
+    /// Binds the name of a client's line, in the setup or behind it, if there is one. Says whether the client saw it already.
+    fn bind(&mut self, client: u8, in_setup: bool, name: Option<&'a [u8]>) -> Result<bool, NoMemory>
         requires { client < CLIENTS }
-        ensures { OnOk result ((other : ℕ) (word : List ℕ) → other < CLIENTS
+        ensures taken { IfOk result (λ taken. taken ≡ list_any (sees self.old client) (option_to_list (option_map (λ w. w.now) name.entry))) }
+        ensures more { OnOk result ((other : ℕ) (word : List ℕ) → other < CLIENTS
             → sees self.new other word ≡ (sees self.old other word
             || (is_name_in word (option_map (λ w. w.now) name.entry) && (in_setup || (client == other))))) }
     {
         let Some(name) = name else {
-            return Ok(());
+            return Ok(false);
         };
         let clients = self.clients_with(client, in_setup, name);
-        self.clients.insert((number_of(name), name), clients)?;
-        Ok(())
+        let before = self.clients.insert((number_of(name), name), clients)?;
+        Ok(is_among(client, before))
     }
 
     /// The clients that see a name once a client binds it, in the setup or behind it.
