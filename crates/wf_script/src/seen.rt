@@ -15,8 +15,8 @@ use wf_words::NoMemory;
 /// How many clients there are.
 pub(crate) const CLIENTS: usize = 8;
 
-/// For each name the clients that see it, and whether only client 0 has spoken. A name stands behind its number, so that two names
-/// are told apart by one comparison of numbers.
+/// For each name, behind its number, the clients that see it, and whether only client 0 has spoken. Two names are told apart by
+/// their numbers, and letters are compared only where a name is found.
 #[derive(Drop)]
 pub(crate) struct Seen<'a> {
     pub clients: BTreeMap<(u128, &'a [u8]), [bool; 8]>,
@@ -42,7 +42,8 @@ fn is_among(client: u8, clients: Option<[bool; 8]>) -> bool
     }
 }
 
-/// The number that is written by the letters of a name in base 256, without what does not fit. No two names have the same.
+/// The number that the letters of a name write in base 256, without what does not fit into 128 bits. As a name has 16 letters at
+/// most, and none is 0, no two names have the same number. Only speed rests on that.
 #[tactic(auto, using(std::proofs::lemmas::List::Sums::fold_more), unfolding(crate::specs::Seen::number_of))]
 fn number_of(name: &[u8]) -> u128
     ensures { result ≡ number_of name.now }
