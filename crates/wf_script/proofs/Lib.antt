@@ -15,6 +15,7 @@ pub mod Additions
 pub mod Tokens
 pub mod Clean
 pub mod Joined
+pub mod Keys
 pub mod Numerals
 pub mod WordBack
 pub mod PaintBack

@@ -57,7 +57,7 @@ sees_more seen left lines l setup more right =
           ∙ sym (visible_more lines l client name);
     }
 
-or_none : (b : Bool) → b ≡ (b || false)
+pub or_none : (b : Bool) → b ≡ (b || false)
 or_none b = grind arith
 
 -- a map with one entry more

@@ -182,10 +182,9 @@ impl<'a> Reader<'a> {
         if !self.names.sees(client, given.used) {
             return Err(LineFault::Breaks(Rule::Name));
         }
-        if self.names.has(client, parts.name) {
+        if self.names.take_line(client, parts.name)? {
             return Err(LineFault::Breaks(Rule::Name));
         }
-        self.names.take_line(client, parts.name)?;
         self.lines.push(Line {
             client,
             name,

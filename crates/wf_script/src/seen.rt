@@ -1,11 +1,11 @@
 //! The names that are bound so far, and who sees them.
 
-ghost use Rattle.std.specs.Prelude.{◌≡◌, ◌<◌, ◌++◌, ◌∷◌, ◌==◌, ◌||◌, ◌&&◌, [], ℕ, List, false, length, slice_index_or, OnOk, map};
+ghost use Rattle.std.specs.Prelude.{◌≡◌, ◌<◌, ◌++◌, ◌∷◌, ◌==◌, ◌||◌, ◌&&◌, [], ℕ, List, false, length, slice_index_or, IfOk, IfSome, OnOk, map};
 ghost use Rattle.std.specs.Prelude.{option_map, option_to_list};
 ghost use Rattle.std.specs.List.{list_all, list_any};
 ghost use Rattle.wf_script.specs.declared.line.Line.{Line};
 ghost use Rattle.wf_script.specs.Given.{names_among};
-ghost use Rattle.wf_script.specs.Seen.{SeesAll, sees};
+ghost use Rattle.wf_script.specs.Seen.{SeesAll, clients_of, is_among, number_of, sees};
 ghost use Rattle.wf_script.specs.Visible.{is_name_in};
 
 use std::alloc::Global;
@@ -15,10 +15,11 @@ use wf_words::NoMemory;
 /// How many clients there are.
 pub(crate) const CLIENTS: usize = 8;
 
-/// For each name the clients that see it, and whether only client 0 has spoken.
+/// For each name, behind its number, the clients that see it, and whether only client 0 has spoken. Two names are told apart by
+/// their numbers, and letters are compared only where a name is found.
 #[derive(Drop)]
 pub(crate) struct Seen<'a> {
-    pub clients: BTreeMap<&'a [u8], [bool; 8]>,
+    pub clients: BTreeMap<(u128, &'a [u8]), [bool; 8]>,
     pub in_setup: bool,
 }
 
@@ -27,6 +28,31 @@ fn stays_setup(in_setup: bool, client: u8) -> bool
     ensures { result ≡ (in_setup && (client == 0)) }
 {
     in_setup && client == 0
+}
+
+/// Whether a client is among some clients, if there are any.
+fn is_among(client: u8, clients: Option<[bool; 8]>) -> bool
+    requires small { client < CLIENTS }
+    requires length { IfSome clients (λ clients. length clients ≡ CLIENTS) }
+    ensures { result ≡ is_among client clients }
+{
+    match clients {
+        Some(clients) => clients[usize::from(client)],
+        None => false,
+    }
+}
+
+/// The number that the letters of a name write in base 256, without what does not fit into 128 bits. As a name has 16 letters at
+/// most, and none is 0, no two names have the same number. Only speed rests on that.
+#[tactic(auto, using(std::proofs::lemmas::List::Sums::fold_more), unfolding(crate::specs::Seen::number_of))]
+fn number_of(name: &[u8]) -> u128
+    ensures { result ≡ number_of name.now }
+{
+    let mut number: u128 = 0;
+    for letter in name {
+        number = number.wrapping_shl(8).wrapping_add(u128::from(*letter));
+    }
+    number
 }
 
 impl<'a> Seen<'a> {
@@ -40,15 +66,21 @@ impl<'a> Seen<'a> {
         }
     }
 
+    /// The clients that see a name, where there is such a name.
+    fn clients_of(&self, name: &'a [u8]) -> Option<[bool; 8]>
+        ensures clients { result ≡ clients_of self.now name.now }
+        ensures length { IfSome result (λ clients. length clients ≡ CLIENTS) }
+    {
+        let key = (number_of(name), name);
+        self.clients.get(&key).copied()
+    }
+
     /// Whether a client sees a name.
     fn is_visible(&self, client: u8, name: &'a [u8]) -> bool
         requires { client < CLIENTS }
         ensures { result ≡ sees self.now client name.now }
     {
-        match self.clients.get(&name) {
-            Some(clients) => clients[usize::from(client)],
-            None => false,
-        }
+        is_among(client, self.clients_of(name))
     }
 
     /// Whether a client sees the name, if there is one.
@@ -73,42 +105,33 @@ impl<'a> Seen<'a> {
             && self.sees_one(client, third)
     }
 
-    /// Whether there is a name, and a client sees it.
-    pub(crate) fn has(&self, client: u8, name: Option<&'a [u8]>) -> bool
+    /// Takes the line of a client in, with the name that it binds. Says whether the client saw that name already.
+    pub(crate) fn take_line(&mut self, client: u8, name: Option<&'a [u8]>) -> Result<bool, NoMemory>
         requires { client < CLIENTS }
-        ensures { result ≡ list_any (sees self.now client) (option_to_list (option_map (λ w. w.now) name.entry)) }
-    {
-        match name {
-            Some(name) => self.is_visible(client, name),
-            None => false,
-        }
-    }
-
-    /// Takes the line of a client in, with the name that it binds.
-    pub(crate) fn take_line(&mut self, client: u8, name: Option<&'a [u8]>) -> Result<(), NoMemory>
-        requires { client < CLIENTS }
-        ensures { OnOk result ((lines : List Line) (line : Line) → line.client ≡ client → line.name ≡ option_map (λ w. w.now) name.entry
+        ensures taken { IfOk result (λ taken. taken ≡ list_any (sees self.old client) (option_to_list (option_map (λ w. w.now) name.entry))) }
+        ensures right { OnOk result ((lines : List Line) (line : Line) → line.client ≡ client → line.name ≡ option_map (λ w. w.now) name.entry
             → SeesAll self.old lines → SeesAll self.new (lines ++ line ∷ [])) }
     {
         let in_setup = stays_setup(self.in_setup, client);
-        self.bind(client, in_setup, name)?;
+        let taken = self.bind(client, in_setup, name)?;
         self.in_setup = in_setup;
-        Ok(())
+        Ok(taken)
     }
 
-    /// Binds the name of a client's line, in the setup or behind it, if there is one.
-    fn bind(&mut self, client: u8, in_setup: bool, name: Option<&'a [u8]>) -> Result<(), NoMemory>
+    /// Binds the name of a client's line, in the setup or behind it, if there is one. Says whether the client saw it already.
+    fn bind(&mut self, client: u8, in_setup: bool, name: Option<&'a [u8]>) -> Result<bool, NoMemory>
         requires { client < CLIENTS }
-        ensures { OnOk result ((other : ℕ) (word : List ℕ) → other < CLIENTS
+        ensures taken { IfOk result (λ taken. taken ≡ list_any (sees self.old client) (option_to_list (option_map (λ w. w.now) name.entry))) }
+        ensures more { OnOk result ((other : ℕ) (word : List ℕ) → other < CLIENTS
             → sees self.new other word ≡ (sees self.old other word
             || (is_name_in word (option_map (λ w. w.now) name.entry) && (in_setup || (client == other))))) }
     {
         let Some(name) = name else {
-            return Ok(());
+            return Ok(false);
         };
         let clients = self.clients_with(client, in_setup, name);
-        self.clients.insert(name, clients)?;
-        Ok(())
+        let before = self.clients.insert((number_of(name), name), clients)?;
+        Ok(is_among(client, before))
     }
 
     /// The clients that see a name once a client binds it, in the setup or behind it.
@@ -121,7 +144,7 @@ impl<'a> Seen<'a> {
         if in_setup {
             return [true; 8];
         }
-        let mut clients = self.clients.get(&name).copied().unwrap_or([false; 8]);
+        let mut clients = self.clients_of(name).unwrap_or([false; 8]);
         clients[usize::from(client)] = true;
         clients
     }

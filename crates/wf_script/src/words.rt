@@ -72,11 +72,15 @@ fn is_allowed(byte: u8) -> bool
     byte == b'\t' || (b' ' <= byte && byte <= b'~')
 }
 
-/// Whether each byte may stand in a line.
+/// Whether each byte may stand in a line. It looks at all of them, many at a time, where a search would stop at the first that may not.
 pub(crate) fn are_allowed(line: &[u8]) -> bool
     ensures { result ≡ list_all is_allowed line.now }
 {
-    line.iter().all(|byte| is_allowed(*byte))
+    let mut allowed = true;
+    for byte in line {
+        allowed = allowed & is_allowed(*byte);
+    }
+    allowed
 }
 
 /// A line without its comment.
