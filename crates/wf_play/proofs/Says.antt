@@ -59,13 +59,14 @@ made_complete took old new form size order a b c d (status.BadFilm at rule) says
 made_complete took old new form size order a b c d status.NoMemory says caused quiet = inr refl
 
 -- each mode
-pub mode_completes : {O : Type 0} (took : O → List ℕ → Type 0) (old new : O) (order : List Turn) (m : Mode) (form : FilmForm) (threads : Bool)
-    (size a b c d : ℕ) (o : Option (List ℕ)) (s : Status) → (s ≡ status.Usage → ⊥)
+pub mode_completes : {O : Type 0} (took : O → List ℕ → Type 0) (old new : O) (order : List Turn) (m : Mode) (form : FilmForm)
+    (threads : Bool) (size a b c d : ℕ) (o : Option (List ℕ)) (s : Status) → (s ≡ status.Usage → ⊥)
     → IfSome o (λ bytes. SaysOfInput took old new order m form threads bytes s)
     → (m ≡ mode.Big → SaysOfBig took old new form size order s) → IsCaused a b c d s → CompletesIn m o a b c d s
 mode_completes took old new order mode.Film form threads size a b c d o s accepted says big caused =
     all_complete took old new order _ _ a b c d o s accepted says caused
-mode_completes took old new order mode.Check form threads size a b c d o s accepted says big caused = all_told a b c d o s accepted says caused
+mode_completes took old new order mode.Check form threads size a b c d o s accepted says big caused =
+    all_told a b c d o s accepted says caused
 mode_completes took old new order mode.Print form threads size a b c d o s accepted says big caused =
     all_complete took old new order _ _ a b c d o s accepted says caused
 mode_completes took old new order mode.Big form threads size a b c d o s accepted says big caused =

@@ -82,7 +82,8 @@ module _ {O : Type 0} (took : O → List ℕ → Type 0) (old new : O) (order : 
   -- what each status says of an input of these bytes; the mode `big` reads none
   abbrev pub SaysOfInput : Mode → FilmForm → Bool → List ℕ → Status → Type 0
   SaysOfInput mode.Film form threads bytes s =
-      SaysOfRead (λ bytes. IsPlainFilm took old new form threads bytes order) (λ bytes. IsFront took old new form threads bytes order) bytes s
+      SaysOfRead (λ bytes. IsPlainFilm took old new form threads bytes order)
+      (λ bytes. IsFront took old new form threads bytes order) bytes s
   SaysOfInput mode.Check form threads bytes s = SaysOfCheck bytes s
   SaysOfInput mode.Print form threads bytes s =
       SaysOfRead (λ bytes. IsPrinted took old new bytes order) (λ bytes. IsCutText took old new bytes order) bytes s

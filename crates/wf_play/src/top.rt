@@ -212,8 +212,10 @@ fn play_words<R: Threads + Wait + Sync, I: Source, O: Sink, N: Sink, G: Gate>(
         → (input.new ≡ input.old) × SaysOfBig O.took film.old film.new asked.form asked.size result.order result.status }
     ensures film { SaysOfFilm O.took film.old film.new result.order result.status }
     ensures caused { IsCaused (I.faults input.old) (I.faults input.new) (O.faults film.old) (O.faults film.new) result.status }
-    ensures notes { ¬ (IsSame words.now result.status) → PutsOrFront N.took notes.old notes.new (N.faults notes.old) (N.faults notes.new) (note_of result.status) }
-    ensures same { IsSame words.now result.status → PutsOrFront N.took notes.old notes.new (N.faults notes.old) (N.faults notes.new) (codes "same\n") }
+    ensures notes { ¬ (IsSame words.now result.status)
+        → PutsOrFront N.took notes.old notes.new (N.faults notes.old) (N.faults notes.new) (note_of result.status) }
+    ensures same { IsSame words.now result.status
+        → PutsOrFront N.took notes.old notes.new (N.faults notes.old) (N.faults notes.new) (codes "same\n") }
     ensures input_count { I.faults input.old ≤ I.faults input.new }
     ensures film_count { O.faults film.old ≤ O.faults film.new }
     ensures notes_count { N.faults notes.old ≤ N.faults notes.new }
@@ -280,8 +282,10 @@ pub fn play<R: Threads + Wait + Sync, I: Source, O: Sink, N: Sink, G: Gate>(
 
     // What went out.
     ensures film { SaysOfFilm O.took film.old film.new result.order result.status }
-    ensures notes { ¬ (IsSame words.now result.status) → PutsOrFront N.took notes.old notes.new (N.faults notes.old) (N.faults notes.new) (note_of result.status) }
-    ensures same { IsSame words.now result.status → PutsOrFront N.took notes.old notes.new (N.faults notes.old) (N.faults notes.new) (codes "same\n") }
+    ensures notes { ¬ (IsSame words.now result.status)
+        → PutsOrFront N.took notes.old notes.new (N.faults notes.old) (N.faults notes.new) (note_of result.status) }
+    ensures same { IsSame words.now result.status
+        → PutsOrFront N.took notes.old notes.new (N.faults notes.old) (N.faults notes.new) (codes "same\n") }
 
     // No count of faults falls.
     ensures input_count { I.faults input.old ≤ I.faults input.new }

@@ -22,7 +22,8 @@ second_decides Greater Equal same = let e = same refl in cc
 second_decides Greater Greater same = refl
 
 -- keys of names are equal where the names are
-keys_equal : (name word : List ℕ) → is_eq (ordering_then (nat_cmp (number_of name) (number_of word)) (slice_cmp nat_cmp name word)) ≡ bytes_eq name word
+keys_equal : (name word : List ℕ) → is_eq (ordering_then (nat_cmp (number_of name) (number_of word))
+    (slice_cmp nat_cmp name word)) ≡ bytes_eq name word
 keys_equal name word =
     second_decides (nat_cmp (number_of name) (number_of word)) (slice_cmp nat_cmp name word)
     (λ hit. ap (λ w. nat_cmp (number_of name) (number_of w)) (sym ((bytes_eq-Decides name word).0 (sym (is_eq-slice_cmp name word) ∙ hit)))

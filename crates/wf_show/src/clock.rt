@@ -7,7 +7,6 @@ ghost use Rattle.wf_io.specs.Causes.{HasCause};
 ghost use Rattle.wf_machine.specs.Object.{IsPaintable};
 ghost use Rattle.wf_turn.specs.Playing.{job_frames};
 ghost use Rattle.wf_turn.specs.Program.{in_setup, place_of};
-ghost use Rattle.wf_turn.specs.Turns.{shown};
 ghost use Rattle.wf_show.specs.Clocks.{Advanced, Cuts, IsClock, SetsUp, Shows, start};
 ghost use Rattle.wf_show.specs.Together.{IsSettingUp};
 
@@ -16,12 +15,11 @@ use crate::painting::paint_rows;
 use crate::player::Player;
 use std::sync::Wait;
 use std::thread::Threads;
-use wf_calls::{Job, JobKind};
 use wf_desk::Desk;
 use wf_film::Writer;
 use wf_io::{Sink, WriteStop};
 use wf_machine::Machine;
-use wf_turn::Program;
+use wf_turn::{Program, put_job};
 
 /// Makes the next call of the clock's program, and paints a Job that comes. It answers whether one came.
 fn advance<R: Threads + Wait + Sync>(
@@ -67,32 +65,6 @@ fn put_frame<K: Sink>(
     match program.job() {
         Some(job) => put_job(k, writer, program.tick(), begin, job),
         None => Ok(()),
-    }
-}
-
-/// Puts the frame that a painted Job shows in a tick, if it is a port's, as begun by the event of a place.
-fn put_job<K: Sink>(
-    k: &mut K,
-    writer: &mut Writer,
-    tick: u32,
-    begin: u32,
-    job: &Job,
-) -> Result<(), WriteStop>
-    requires paintable { IsPaintable job.now }
-    requires few { writer.old.written < 2 ^ 62 }
-    ensures all { OnOk result (Puts K.took k.old k.new
-        (flat_map (frame_bytes writer.old.form) (shown job.now.kind tick begin job.now))) }
-    ensures written { OnOk result (writer.new.written
-        ≡ writer.old.written + length (flat_map (frame_bytes writer.old.form) (shown job.now.kind tick begin job.now))) }
-    ensures form { writer.new.form ≡ writer.old.form }
-    ensures most { OnOk result (writer.new.written ≤ writer.old.written + 4194318) }
-    ensures part { IfErr result (λ stop. PutsPart K.took k.old k.new writer.old.written
-        (flat_map (frame_bytes writer.old.form) (shown job.now.kind tick begin job.now)) stop.written) }
-    ensures cause { HasCause (K.faults k.old) (K.faults k.new) result }
-{
-    match job.kind {
-        JobKind::Context { .. } => Ok(()),
-        JobKind::Port { port } => writer.frame(k, port as u8, tick, begin, &job.image),
     }
 }
 

@@ -252,7 +252,7 @@ impl<'a> Show<'a> {
 }
 
 /// Puts the frame that a painted Job shows in a tick, if it is a port's, as begun by the turn of a place.
-pub(crate) fn put_job<K: Sink>(
+pub fn put_job<K: Sink>(
     k: &mut K,
     writer: &mut Writer,
     tick: u32,

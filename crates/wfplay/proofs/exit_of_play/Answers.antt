@@ -10,7 +10,8 @@ returns-clause-film g c = λ asked asks is zero.
     let done = c.play-report in
     done_says (g.I.Source.left c.args.input.now)
     (λ bytes. IsPlainFilm g.O.Sink.took c.args.film.now done.new.film asked.form asked.threads bytes done.result.order)
-    (PutsFilm g.O.Sink.took c.args.film.now done.new.film asked.form asked.threads) done.result.status (λ bytes put. (done.result.order, put))
+    (PutsFilm g.O.Sink.took c.args.film.now done.new.film asked.form asked.threads) done.result.status (λ bytes put.
+    (done.result.order, put))
     (done_at_0 done.result.status (sym c.exit.ensures ∙ zero)) (done.ensures.headline asked asks is)
 
 pub returns-clause-printed : goal.returns-clause-printed

@@ -9,7 +9,8 @@ returns-clause-headline g c = λ asked asks is.
     let done = c.play_words in
     done_says g.O.Sink.took c.args.film.now done.new.film done.result.order _ _ (g.I.Source.left c.args.input.now) done.result.status
     (subst (λ m. IfSome (g.I.Source.left c.args.input.now)
-    (λ bytes. SaysOfInput g.O.Sink.took c.args.film.now done.new.film done.result.order m asked.form asked.threads bytes done.result.status)) is
+    (λ bytes. SaysOfInput g.O.Sink.took c.args.film.now done.new.film done.result.order m asked.form asked.threads bytes
+    done.result.status)) is
     (done.ensures.input asked asks))
 
 pub returns-clause-printed : goal.returns-clause-printed
@@ -17,7 +18,8 @@ returns-clause-printed g c = λ asked asks is.
     let done = c.play_words in
     done_says g.O.Sink.took c.args.film.now done.new.film done.result.order _ _ (g.I.Source.left c.args.input.now) done.result.status
     (subst (λ m. IfSome (g.I.Source.left c.args.input.now)
-    (λ bytes. SaysOfInput g.O.Sink.took c.args.film.now done.new.film done.result.order m asked.form asked.threads bytes done.result.status)) is
+    (λ bytes. SaysOfInput g.O.Sink.took c.args.film.now done.new.film done.result.order m asked.form asked.threads bytes
+    done.result.status)) is
     (done.ensures.input asked asks))
 
 pub returns-clause-complete : goal.returns-clause-complete

@@ -9,17 +9,20 @@ pub returns-in-Print-clause-input : goal.returns-in-Print-clause-input
 returns-in-Print-clause-input g c =
     let done = c.play_print in
     subst (λ m. IfSome (g.I.Source.left c.args.input.now)
-    (λ bytes. SaysOfInput g.O.Sink.took c.args.film.now done.new.film done.result.order m c.args.asked.form c.args.asked.threads bytes done.result.status))
+    (λ bytes. SaysOfInput g.O.Sink.took c.args.film.now done.new.film done.result.order m c.args.asked.form c.args.asked.threads bytes
+    done.result.status))
     (sym c.in-Print.is) (done.ensures.input c.args.asked.form c.args.asked.threads)
 
 pub returns-in-Check-clause-input : goal.returns-in-Check-clause-input
 returns-in-Check-clause-input g c =
     let done = c.without_order in
     subst (λ s. IfSome (g.I.Source.left c.args.input.now)
-    (λ bytes. SaysOfInput g.O.Sink.took c.args.film.now c.args.film.now done.result.order c.args.asked.mode c.args.asked.form c.args.asked.threads bytes s))
+    (λ bytes. SaysOfInput g.O.Sink.took c.args.film.now c.args.film.now done.result.order c.args.asked.mode c.args.asked.form
+    c.args.asked.threads bytes s))
     (sym done.ensures.status)
     (subst (λ m. IfSome (g.I.Source.left c.args.input.now)
-    (λ bytes. SaysOfInput g.O.Sink.took c.args.film.now c.args.film.now done.result.order m c.args.asked.form c.args.asked.threads bytes c.play_check.result))
+    (λ bytes. SaysOfInput g.O.Sink.took c.args.film.now c.args.film.now done.result.order m c.args.asked.form c.args.asked.threads
+    bytes c.play_check.result))
     (sym c.in-Check.is) c.play_check.ensures.input)
 
 pub returns-in-Check-clause-checked : goal.returns-in-Check-clause-checked

@@ -35,7 +35,8 @@ returns-clause-taken c =
     let client = c.args.client in
     c.is_among.ensures
     ∙ ap (is_among client) (c.in_ok-before.ensures.old
-    ∙ ap (λ (number : ℕ). get_by (λ (key : ℕ × Bor (List ℕ)). ordering_then (nat_cmp number key.0) (slice_cmp nat_cmp name key.1.now)) seen.clients)
+    ∙ ap (λ (number : ℕ). get_by (λ (key : ℕ × Bor (List ℕ)). ordering_then (nat_cmp number key.0)
+    (slice_cmp nat_cmp name key.1.now)) seen.clients)
     c.number_of.ensures)
     ∙ or_none (sees seen client name)
     ∙ ap (λ (o : Option (Bor (List ℕ))). list_any (sees seen client) (option_to_list (option_map (λ w. w.now) o))) (sym c.in-Some.is)
