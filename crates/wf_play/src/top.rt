@@ -178,8 +178,10 @@ fn play_words<I: Source, O: Sink, N: Sink>(
         → (input.new ≡ input.old) × SaysOfBig O.took film.old film.new asked.form asked.size result.order result.status }
     ensures film { SaysOfFilm O.took film.old film.new result.order result.status }
     ensures caused { IsCaused (I.faults input.old) (I.faults input.new) (O.faults film.old) (O.faults film.new) result.status }
-    ensures notes { ¬ (IsSame words.now result.status) → PutsOrFront N.took notes.old notes.new (N.faults notes.old) (N.faults notes.new) (note_of result.status) }
-    ensures same { IsSame words.now result.status → PutsOrFront N.took notes.old notes.new (N.faults notes.old) (N.faults notes.new) (codes "same\n") }
+    ensures notes { ¬ (IsSame words.now result.status)
+        → PutsOrFront N.took notes.old notes.new (N.faults notes.old) (N.faults notes.new) (note_of result.status) }
+    ensures same { IsSame words.now result.status
+        → PutsOrFront N.took notes.old notes.new (N.faults notes.old) (N.faults notes.new) (codes "same\n") }
     ensures input_count { I.faults input.old ≤ I.faults input.new }
     ensures film_count { O.faults film.old ≤ O.faults film.new }
     ensures notes_count { N.faults notes.old ≤ N.faults notes.new }
@@ -200,7 +202,8 @@ fn play_words<I: Source, O: Sink, N: Sink>(
 /// or 2 and by default 2; and for `big`, which reads nothing, plays the script that `make` of `wf_script` makes and writes one line on
 /// its film, `--size N`, N from 1 to 1000 and by default 1. `check` reads a script and the film behind it, writes nothing, and answers
 /// whether that is the film of the script and of its own journal. Each status but `Done` puts its line into `notes`, and a check `same`
-/// with `Done`; a fault there changes nothing else. All memory but that of the script's own creations is taken before the first byte is put.
+/// with `Done`; a fault there changes nothing else. All memory but that of the script's own creations is taken before the first byte
+/// is put.
 pub fn play<R: Threads + Wait + Sync, I: Source, O: Sink, N: Sink, G: Gate>(
     _rt: &R,
     alloc: Global,
@@ -242,8 +245,10 @@ pub fn play<R: Threads + Wait + Sync, I: Source, O: Sink, N: Sink, G: Gate>(
 
     // What went out.
     ensures film { SaysOfFilm O.took film.old film.new result.order result.status }
-    ensures notes { ¬ (IsSame words.now result.status) → PutsOrFront N.took notes.old notes.new (N.faults notes.old) (N.faults notes.new) (note_of result.status) }
-    ensures same { IsSame words.now result.status → PutsOrFront N.took notes.old notes.new (N.faults notes.old) (N.faults notes.new) (codes "same\n") }
+    ensures notes { ¬ (IsSame words.now result.status)
+        → PutsOrFront N.took notes.old notes.new (N.faults notes.old) (N.faults notes.new) (note_of result.status) }
+    ensures same { IsSame words.now result.status
+        → PutsOrFront N.took notes.old notes.new (N.faults notes.old) (N.faults notes.new) (codes "same\n") }
 
     // No count of faults falls.
     ensures input_count { I.faults input.old ≤ I.faults input.new }
