@@ -9,14 +9,14 @@ PROGRAM = Path(os.environ.get("WFPLAY") or TOP / "crates/wfplay/out/wfplay")
 SECONDS = 120
 
 
-def play(text, form=2):
-    """The exit status of a play, its film in a form, and its notes."""
-    return play_bytes(text.encode("utf-8"), form)
+def play(text, form=2, *more):
+    """The exit status of a play, its film in a form, and its notes. Further words are given to the program as they are."""
+    return play_bytes(text.encode("utf-8"), form, *more)
 
 
-def play_bytes(data, form=2):
+def play_bytes(data, form=2, *more):
     """The same of a script that may be any bytes."""
-    words = [str(PROGRAM), "film", "--film", str(form)]
+    words = [str(PROGRAM), "film", "--film", str(form), *more]
     played = subprocess.run(words, input=data, capture_output=True, timeout=SECONDS, check=False)
     return played.returncode, played.stdout, played.stderr.decode("utf-8", "replace")
 
