@@ -3,10 +3,13 @@
    WF_REFUSE says which of them is refused, 0 for none; into the file of WF_TOLD goes at the end how many calls there were, how many
    were refused, and the most bytes that were held at once. */
 
+#define _GNU_SOURCE
 #include <errno.h>
 #include <malloc.h>
 #include <stdio.h>
 #include <stdlib.h>
+#include <sys/syscall.h>
+#include <unistd.h>
 
 extern void *__libc_malloc(size_t size);
 extern void *__libc_calloc(size_t count, size_t size);
@@ -97,15 +100,32 @@ __attribute__((constructor)) static void begin(void)
     __atomic_store_n(&counts, 1, __ATOMIC_SEQ_CST);
 }
 
-__attribute__((destructor)) static void end(void)
+/* Tells what was counted, once. */
+static void tell(void)
 {
+    static int done;
     const char *path = getenv("WF_TOLD");
     long most = held_most;
     FILE *told;
     __atomic_store_n(&counts, 0, __ATOMIC_SEQ_CST);
+    if (__atomic_exchange_n(&done, 1, __ATOMIC_SEQ_CST))
+        return;
     told = path ? fopen(path, "w") : NULL;
     if (told) {
         fprintf(told, "%lu %lu %ld\n", calls, refused, most);
         fclose(told);
     }
+}
+
+__attribute__((destructor)) static void end(void)
+{
+    tell();
+}
+
+/* A program that may start threads ends by this call, which runs no destructor. */
+void _exit(int status)
+{
+    tell();
+    syscall(SYS_exit_group, status);
+    __builtin_unreachable();
 }

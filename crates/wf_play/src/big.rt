@@ -64,6 +64,7 @@ fn tell<O: Sink>(sink: &mut O, form: FilmForm, size: u16, order: Order, tally: &
 }
 
 /// Makes the script of so many rounds, 1 to 1000, plays it, counts its film in a form, and puts a line that tells what it counted.
+#[inline(never)]
 pub(crate) fn play_big<O: Sink>(alloc: Global, form: FilmForm, size: u16, sink: &mut O) -> Report
     requires some { 1 ≤ size }
     requires most { size ≤ 1000 }

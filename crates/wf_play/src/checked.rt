@@ -53,7 +53,8 @@ fn check_parts(alloc: Global, bytes: &[u8]) -> Status
     check_film(alloc, script, film)
 }
 
-/// Reads a script and the film behind it, and checks the film.
+/// Reads a script and the film behind it, and checks the film. Serial play has nothing of it on the stack.
+#[inline(never)]
 pub(crate) fn play_check<I: Source>(alloc: Global, input: &mut I) -> Status
     ensures mode { result ≢ Status.Usage }
     ensures input { IfSome (I.left input.old) (λ bytes. SaysOfCheck bytes result) }

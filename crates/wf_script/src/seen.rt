@@ -1,7 +1,7 @@
 //! The names that are bound so far, and who sees them.
 
-ghost use Rattle.std.specs.Prelude.{◌≡◌, ◌<◌, ◌++◌, ◌∷◌, ◌==◌, ◌||◌, ◌&&◌, [], ℕ, List, false, length, slice_index_or, IfOk, IfSome, OnOk, map};
-ghost use Rattle.std.specs.Prelude.{option_map, option_to_list};
+ghost use Rattle.std.specs.Prelude.{◌≡◌, ◌<◌, ◌++◌, ◌∷◌, ◌==◌, ◌||◌, ◌&&◌, [], ℕ, List, false, length, slice_index_or, IfOk, IfSome};
+ghost use Rattle.std.specs.Prelude.{OnOk, map, option_map, option_to_list};
 ghost use Rattle.std.specs.List.{list_all, list_any};
 ghost use Rattle.wf_script.specs.declared.line.Line.{Line};
 ghost use Rattle.wf_script.specs.Given.{names_among};
@@ -108,9 +108,10 @@ impl<'a> Seen<'a> {
     /// Takes the line of a client in, with the name that it binds. Says whether the client saw that name already.
     pub(crate) fn take_line(&mut self, client: u8, name: Option<&'a [u8]>) -> Result<bool, NoMemory>
         requires { client < CLIENTS }
-        ensures taken { IfOk result (λ taken. taken ≡ list_any (sees self.old client) (option_to_list (option_map (λ w. w.now) name.entry))) }
-        ensures right { OnOk result ((lines : List Line) (line : Line) → line.client ≡ client → line.name ≡ option_map (λ w. w.now) name.entry
-            → SeesAll self.old lines → SeesAll self.new (lines ++ line ∷ [])) }
+        ensures taken { IfOk result (λ taken. taken
+            ≡ list_any (sees self.old client) (option_to_list (option_map (λ w. w.now) name.entry))) }
+        ensures right { OnOk result ((lines : List Line) (line : Line) → line.client ≡ client
+            → line.name ≡ option_map (λ w. w.now) name.entry → SeesAll self.old lines → SeesAll self.new (lines ++ line ∷ [])) }
     {
         let in_setup = stays_setup(self.in_setup, client);
         let taken = self.bind(client, in_setup, name)?;
@@ -121,7 +122,8 @@ impl<'a> Seen<'a> {
     /// Binds the name of a client's line, in the setup or behind it, if there is one. Says whether the client saw it already.
     fn bind(&mut self, client: u8, in_setup: bool, name: Option<&'a [u8]>) -> Result<bool, NoMemory>
         requires { client < CLIENTS }
-        ensures taken { IfOk result (λ taken. taken ≡ list_any (sees self.old client) (option_to_list (option_map (λ w. w.now) name.entry))) }
+        ensures taken { IfOk result (λ taken. taken
+            ≡ list_any (sees self.old client) (option_to_list (option_map (λ w. w.now) name.entry))) }
         ensures more { OnOk result ((other : ℕ) (word : List ℕ) → other < CLIENTS
             → sees self.new other word ≡ (sees self.old other word
             || (is_name_in word (option_map (λ w. w.now) name.entry) && (in_setup || (client == other))))) }

@@ -94,7 +94,9 @@ fn play_all<R: Threads + Wait + Sync, K: Sink, G: Gate>(
 /// Client 0 plays its setup first. Then each of the clients 1 to 7 plays on a thread of its own where one can be had, and else they play
 /// one after another; the calling thread plays the rest of client 0, paints its frames in bands for up to `rows` workers, 1 to 16, and
 /// alone writes. All memory but that of the script's own creations is taken before the first byte is put. Where the sink fails at a
-/// frame, that frame ends, client 0 plays no further line, and the others go through theirs. It may wait.
+/// frame, that frame ends, client 0 plays no further line, and the others go through theirs. It may wait. What it moves is off the stack
+/// when it returns.
+#[inline(never)]
 pub fn threaded<R: Threads + Wait + Sync, K: Sink, G: Gate>(
     rt: &R,
     alloc: Global,
