@@ -222,16 +222,31 @@ fn plays<R: Threads + Wait + Sync + AllocGlobal>(rt: &R, row: &Row) -> Result<bo
     )
 }
 
-#[test]
-fn each_play_ends_as_it_should(rt: HostRuntime) -> Result<(), Fail> {
-    let long = Row {
-        spaces: 1_048_577,
-        status: Status::TooLong,
-        exit: 4,
-        note: "input too long\n",
-        ..NO_PLAY
-    };
-    let rows = [
+/// An input that is longer than a script may be.
+const TOO_LONG: Row = Row {
+    spaces: 1_048_577,
+    status: Status::TooLong,
+    exit: 4,
+    note: "input too long\n",
+    ..NO_PLAY
+};
+
+/// The place of the first row that ends otherwise than it should.
+fn first_wrong<R: Threads + Wait + Sync + AllocGlobal>(
+    rt: &R,
+    rows: &[Row],
+) -> Result<Option<usize>, Fail> {
+    for (place, row) in rows.iter().enumerate() {
+        if !plays(rt, row)? {
+            return Ok(Some(place));
+        }
+    }
+    Ok(None)
+}
+
+/// Films, line by line and with clients on threads.
+fn films() -> [Row; 18] {
+    [
         DONE,
         Row {
             words: "film --film 2",
@@ -253,7 +268,36 @@ fn each_play_ends_as_it_should(rt: HostRuntime) -> Result<(), Fail> {
             "film --film 1",
             write_fault(8, 69, 3, "write fault after 69 bytes\n"),
         ),
-        long,
+        TOO_LONG,
+        Row { take: 6, ..DONE },
+        Row { put: 9, ..DONE },
+        Row {
+            words: "film --size 7",
+            ..DONE
+        },
+        Row {
+            words: "film --threads",
+            ..DONE
+        },
+        Row {
+            words: "--rows 7 film --threads",
+            ..DONE
+        },
+        of_one("film --threads --film=1 --rows=2", DONE),
+        Row {
+            words: "film --threads",
+            ..write_fault(3, 18, 3, "write fault after 18 bytes\n")
+        },
+        Row {
+            words: "film --rows 3",
+            ..DONE
+        },
+    ]
+}
+
+/// Words that are no command.
+fn words_refused() -> [Row; 29] {
+    [
         usage(""),
         usage("film film"),
         usage("check film"),
@@ -272,13 +316,27 @@ fn each_play_ends_as_it_should(rt: HostRuntime) -> Result<(), Fail> {
         usage("-h"),
         usage("help"),
         usage("film --form 1"),
-        usage("film --threads"),
         usage("Film"),
+        usage("big --size 0"),
+        usage("big --size 1001"),
+        usage("big 1"),
+        usage("print print"),
+        usage("print film"),
+        usage("prints"),
+        usage("film --threads --threads"),
+        usage("film --threads=true"),
+        usage("film --rows 0"),
+        usage("film --rows 17"),
+    ]
+}
+
+/// Sources and sinks that fail, and scripts that are refused.
+fn stops() -> [Row; 18] {
+    [
         // 25 bytes, seven at a time: the sixth take is not asked for.
         read_fault(1),
         read_fault(4),
         read_fault(5),
-        Row { take: 6, ..DONE },
         refused("", 1, 0, "line 1: rule 0\n"),
         refused("WFS1\nport 4x2\n0 tick\n", 4, 8, "line 4: rule 8\n"),
         refused("WFS1\nport 4x2\n0 tock\nend\n", 3, 3, "line 3: rule 3\n"),
@@ -299,7 +357,12 @@ fn each_play_ends_as_it_should(rt: HostRuntime) -> Result<(), Fail> {
         write_fault(6, 61, 3, "write fault after 61 bytes\n"),
         write_fault(7, 67, 3, "write fault after 67 bytes\n"),
         write_fault(8, 73, 3, "write fault after 73 bytes\n"),
-        Row { put: 9, ..DONE },
+    ]
+}
+
+/// Scripts that are printed.
+fn prints() -> [Row; 6] {
+    [
         PRINTED,
         Row {
             script: ONE_TICK,
@@ -322,6 +385,12 @@ fn each_play_ends_as_it_should(rt: HostRuntime) -> Result<(), Fail> {
             words: "print --film 1",
             ..PRINTED
         },
+    ]
+}
+
+/// Films that are checked.
+fn checks() -> [Row; 12] {
+    [
         SAME,
         Row {
             film: &FILM,
@@ -384,8 +453,14 @@ fn each_play_ends_as_it_should(rt: HostRuntime) -> Result<(), Fail> {
         Row {
             words: "check",
             script: "WFS1\n",
-            ..long
+            ..TOO_LONG
         },
+    ]
+}
+
+/// Scripts that are made.
+fn made() -> [Row; 5] {
+    [
         MADE,
         Row {
             words: "big --size 1",
@@ -409,19 +484,47 @@ fn each_play_ends_as_it_should(rt: HostRuntime) -> Result<(), Fail> {
             note: "write fault after 0 bytes\n",
             ..MADE
         },
-        Row {
-            words: "film --size 7",
-            ..DONE
-        },
-        usage("big --size 0"),
-        usage("big --size 1001"),
-        usage("big 1"),
-        usage("print print"),
-        usage("print film"),
-        usage("prints"),
-    ];
-    for (place, row) in rows.iter().enumerate() {
-        assert!(rt; plays(&rt, row)?, "row {place}, of {:?}", row.words);
-    }
+    ]
+}
+
+#[test]
+fn films_are_played(rt: HostRuntime) -> Result<(), Fail> {
+    let wrong = first_wrong(&rt, &films())?;
+    assert!(rt; wrong.is_none(), "row {:?}", wrong);
+    Ok(())
+}
+
+#[test]
+fn words_that_are_no_command_are_usage(rt: HostRuntime) -> Result<(), Fail> {
+    let wrong = first_wrong(&rt, &words_refused())?;
+    assert!(rt; wrong.is_none(), "row {:?}", wrong);
+    Ok(())
+}
+
+#[test]
+fn stops_are_told(rt: HostRuntime) -> Result<(), Fail> {
+    let wrong = first_wrong(&rt, &stops())?;
+    assert!(rt; wrong.is_none(), "row {:?}", wrong);
+    Ok(())
+}
+
+#[test]
+fn scripts_are_printed(rt: HostRuntime) -> Result<(), Fail> {
+    let wrong = first_wrong(&rt, &prints())?;
+    assert!(rt; wrong.is_none(), "row {:?}", wrong);
+    Ok(())
+}
+
+#[test]
+fn films_are_checked(rt: HostRuntime) -> Result<(), Fail> {
+    let wrong = first_wrong(&rt, &checks())?;
+    assert!(rt; wrong.is_none(), "row {:?}", wrong);
+    Ok(())
+}
+
+#[test]
+fn scripts_are_made(rt: HostRuntime) -> Result<(), Fail> {
+    let wrong = first_wrong(&rt, &made())?;
+    assert!(rt; wrong.is_none(), "row {:?}", wrong);
     Ok(())
 }

@@ -16,15 +16,15 @@ pub(crate) struct Hold {
 /// A gate with its holds. A hold lasts for so many turns at most. Once that many were taken the gate holds nothing any more, and says
 /// that it was late.
 #[derive(Drop)]
-pub(crate) struct Holding<'a> {
-    holds: &'a [Hold],
+pub(crate) struct Holding {
+    holds: Vec<Hold>,
     most: u64,
     answered: [AtomicU64; 8],
     late: AtomicU64,
 }
 
-impl<'a> Holding<'a> {
-    pub(crate) fn new(holds: &'a [Hold], most: u64) -> Holding<'a> {
+impl Holding {
+    pub(crate) fn new(holds: Vec<Hold>, most: u64) -> Holding {
         Holding {
             holds,
             most,
@@ -63,9 +63,9 @@ impl<'a> Holding<'a> {
     }
 }
 
-impl<'a> Gate for Holding<'a> {
+impl Gate for Holding {
     fn before(&self, client: u8, event: u32) {
-        for hold in self.holds {
+        for hold in &self.holds {
             if hold.client == client && hold.event == event {
                 self.wait(hold.behind, hold.answered);
             }

@@ -83,14 +83,13 @@ fn entries_of(alloc: Global, order: &Order) -> io::Result<String> {
 
 /// The place of a client's first entry in an order, or how many entries there are.
 fn first_of(order: &Order, client: u8) -> usize {
-    let mut place = 0;
-    for turn in order.turns() {
+    let turns = order.turns();
+    for (place, turn) in turns.iter().enumerate() {
         if turn.client == client {
             return place;
         }
-        place += 1;
     }
-    place
+    turns.len()
 }
 
 /// Plays a script whose client 1 is held behind client 2, and tells whether client 2 came first, and what `check` says of the film.
@@ -100,7 +99,7 @@ pub(crate) fn tell_second_first<R: Threads + Wait + Sync + AllocGlobal + Print>(
     holds: &[Hold],
     most: u64,
 ) -> io::Result<()> {
-    let gate = Holding::new(holds, most);
+    let gate = Holding::new(Vec::from_slice(rt.alloc(), holds)?, most);
     let bytes = Vec::from_slice(rt.alloc(), script.as_bytes())?;
     let played = play_by(rt, bytes, &["film", "--threads"], &gate)?;
     let late = if gate.was_late() {
@@ -122,7 +121,7 @@ pub(crate) fn tell_held<R: Threads + Wait + Sync + AllocGlobal + Print>(
     holds: &[Hold],
     most: u64,
 ) -> io::Result<()> {
-    let gate = Holding::new(holds, most);
+    let gate = Holding::new(Vec::from_slice(rt.alloc(), holds)?, most);
     let bytes = Vec::from_slice(rt.alloc(), script.as_bytes())?;
     let played = play_by(rt, bytes, &["film", "--threads", "--film", "1"], &gate)?;
     let late = if gate.was_late() {
