@@ -17,7 +17,7 @@ use Rattle.wf_objects.specs.Does.{Does, Step, as_other, changed, in_owned, in_pl
 use Rattle.wf_objects.specs.Fits.{ContextFits, Fits}
 use Rattle.wf_objects.specs.Owners.{StandsAt, owned_context}
 use Rattle.wf_model.specs.Outcome.{at_place}
-use Rattle.wf_objects.specs.Sides.{side_of}
+use Rattle.wf_objects.specs.Sides.{core_side_of}
 use Rattle.wf_objects.specs.Sights.{sight_in, sights}
 use Rattle.wf_core.proofs.Layering.{consistent_fits}
 
@@ -30,9 +30,9 @@ module _ (core : CoreState) (store : StoreView) (fits : Fits core store) (place 
     (stands : slice_get core.contexts place ≡ Some c) (scene : CachedScene) (same : c.cached ≡ scene) where
   -- what is told of the scene is told of that of the context
   told : (m : Result Scene Refusal) → m ≡ fault_as_refusal (consistent (sight_in store) scene)
-      → fault_as_refusal (consistent (sight_of (side_of core store)) c.cached) ≡ m
+      → fault_as_refusal (consistent (sight_of (core_side_of core store)) c.cached) ≡ m
   told m is =
-      ap (λ s. fault_as_refusal (consistent (sight_of (side_of core store)) s)) same
+      ap (λ s. fault_as_refusal (consistent (sight_of (core_side_of core store)) s)) same
       ∙ sym (ap (λ sight. fault_as_refusal (consistent sight scene)) (sights core store fits.handles)) ∙ sym is
 
   -- the context with the scene that is taken fits
@@ -40,7 +40,7 @@ module _ (core : CoreState) (store : StoreView) (fits : Fits core store) (place 
       → IsTrue (list_all is_placed_layer s.layers.items)
       → ContextFits store.streams (with_committed s c)
   scene_fits s is placed =
-      let sound = consistent_fits core store fits c.cached s (without_code (consistent (sight_of (side_of core store)) c.cached)
+      let sound = consistent_fits core store fits c.cached s (without_code (consistent (sight_of (core_side_of core store)) c.cached)
       (told (Ok s) is)) placed in
       let fit = each_at (ContextFits store.streams) core.contexts place c fits.streams.contexts stands in
       record { target = fit.target; size = sound.0; layers = sound.1 }
@@ -49,7 +49,8 @@ module _ (core : CoreState) (store : StoreView) (fits : Fits core store) (place 
       without_code (Ok t) at = (let same : t ≡ s = cc in ap (λ x. Ok x) same)
       without_code (Err f) at = absurd cc
 
-  module _ (d h : ℕ) (at : at_place (Ok place) core.contexts ≡ owned_context d h (side_of core store)) (here : StandsAt h place core) where
+  module _ (d h : ℕ) (at : at_place (Ok place) core.contexts ≡ owned_context d h (core_side_of core store))
+      (here : StandsAt h place core) where
     pub commit_refused : (r : Refusal) → Err r ≡ fault_as_refusal (consistent (sight_in store) scene)
         → Does (λ _. commit d h) core core store store (Err r)
     commit_refused r is =

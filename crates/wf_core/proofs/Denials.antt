@@ -12,7 +12,7 @@ use Rattle.wf_model.specs.Composition.{CoreSide}
 use Rattle.wf_model.specs.Core.{contexts_full, device_new, room, sources_full}
 use Rattle.wf_objects.specs.Does.{Does, context_made, element_made, link_made, refuses}
 use Rattle.wf_objects.specs.Fits.{Fits}
-use Rattle.wf_objects.specs.Sides.{side_of}
+use Rattle.wf_objects.specs.Sides.{core_side_of}
 use Rattle.wf_core.specs.Steps.{Asks}
 
 -- what is refused is refused whatever was to follow
@@ -22,14 +22,14 @@ refused_first o f r is = ap (λ x. x >>= f) is
 module _ {A : Type 0} (plain : Bool → CoreSide → Outcome CoreSide) (made : A → Bool → CoreSide → Outcome CoreSide) (core : CoreState)
     (store : StoreView) (r : Refusal) (fits : Fits core store) where
   -- it is refused before anything is made
-  pub refused_asking : Asks plain made (side_of core store) (Err r) → Does plain core core store store (Err r)
+  pub refused_asking : Asks plain made (core_side_of core store) (Err r) → Does plain core core store store (Err r)
   refused_asking asks = refuses plain core store r fits (asks (is_out_of_memory r.code))
 
-  pub denied_asking : Asks plain made (side_of core store) (Err r) → Does (λ _. plain true) core core store store (Err r)
+  pub denied_asking : Asks plain made (core_side_of core store) (Err r) → Does (λ _. plain true) core core store store (Err r)
   denied_asking asks = refuses (λ _. plain true) core store r fits (asks true)
 
   -- for want of memory
-  pub denied_making : (x : A) → Asks plain made (side_of core store) (Ok x) → made x true (side_of core store) ≡ Err r
+  pub denied_making : (x : A) → Asks plain made (core_side_of core store) (Ok x) → made x true (core_side_of core store) ≡ Err r
       → Does (λ _. plain true) core core store store (Err r)
   denied_making x asks is = refuses (λ _. plain true) core store r fits (asks true ∙ is)
 

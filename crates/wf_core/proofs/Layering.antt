@@ -20,7 +20,7 @@ use Rattle.wf_model.specs.Objects.{CoreState, Source}
 use Rattle.wf_model.specs.Composition.{seen, seen_source, sight_of}
 use Rattle.wf_objects.specs.Fits.{Fits, Shows}
 use Rattle.wf_model.specs.Fitting.{LayerFits}
-use Rattle.wf_objects.specs.Sides.{side_of}
+use Rattle.wf_objects.specs.Sides.{core_side_of}
 use Rattle.wf_core.proofs.Faults.{Keeps, faultless, no_fault}
 use Rattle.wf_words.specs.Each.{each_found}
 use Rattle.wf_core.proofs.Seeing.{behind}
@@ -50,7 +50,7 @@ same_sides s t is =
 
 module _ (core : CoreState) (store : StoreView) (fits : Fits core store) where
   abbrev sight : Sight
-  sight = sight_of (side_of core store)
+  sight = sight_of (core_side_of core store)
 
   -- the source of an element that keeps all rules
   source_fits : (e : Element) (o : Option Seen) → sight.source e.source ≡ o → is_some o ≡ true

@@ -12,7 +12,7 @@ use Rattle.wf_model.specs.Outcome.{found}
 use Rattle.wf_model.specs.Composition.{device, seen_stream}
 use Rattle.wf_model.specs.Core.{has_port, screen_context}
 use Rattle.wf_objects.specs.Owners.{live_device, passed}
-use Rattle.wf_objects.specs.Sides.{side_of}
+use Rattle.wf_objects.specs.Sides.{core_side_of}
 use Rattle.wf_core.specs.Screens.{screen_seen}
 use Rattle.wf_model.specs.Fitting.{IsOfPixels}
 
@@ -47,7 +47,7 @@ screen_kept screen streams seen s pixels =
 
 -- of a port that has a context already
 module _ (d : ℕ) (port : ℤ) (screen : Option ℕ) (core : CoreState) (store : StoreView) (seen : Seen)
-    (live : Ok tt ≡ live_device d (side_of core store)) (s : Screen screen store.streams seen)
-    (used : has_port (count_of port) (side_of core store) ≡ true) where
-  pub port_used : (m : Bool) → screen_context d port screen m (side_of core store) ≡ Err (refusal code.InUse)
-  port_used m = passed (device d (side_of core store)) _ live ∙ rw (s.given, s.kept, used) refl
+    (live : Ok tt ≡ live_device d (core_side_of core store)) (s : Screen screen store.streams seen)
+    (used : has_port (count_of port) (core_side_of core store) ≡ true) where
+  pub port_used : (m : Bool) → screen_context d port screen m (core_side_of core store) ≡ Err (refusal code.InUse)
+  port_used m = passed (device d (core_side_of core store)) _ live ∙ rw (s.given, s.kept, used) refl

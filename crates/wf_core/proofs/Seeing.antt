@@ -19,7 +19,7 @@ use Rattle.wf_model.specs.Core.{has_target, is_drawable, stream_context}
 use Rattle.wf_objects.specs.Does.{context_made, link_made}
 use Rattle.wf_objects.specs.Owners.{live_device, owned_context, passed, past_context}
 use Rattle.wf_model.specs.Outcome.{at_place}
-use Rattle.wf_objects.specs.Sides.{side_of}
+use Rattle.wf_objects.specs.Sides.{core_side_of}
 
 -- the stream of a number shows what its buffers are for
 pub seen_number : (n : ℕ) (streams : List KeptStream) (b : Buffers) (size : Size) (format : Format) → Some b ≡ buffers_at n streams
@@ -55,11 +55,11 @@ seen_again n streams (Some seen) is =
 
 -- a new link to the stream that is seen
 module _ (mask : Bool) (d h n place : ℕ) (core : CoreState) (store : StoreView) (seen : Seen)
-    (at : at_place (Ok place) core.contexts ≡ owned_context d h (side_of core store)) (less : place < length core.contexts)
+    (at : at_place (Ok place) core.contexts ≡ owned_context d h (core_side_of core store)) (less : place < length core.contexts)
     (sees : Some seen ≡ seen_stream (stream_of n store.streams)) (fit : is_unfit mask seen.format ≡ false) where
-  pub link_is : (m : Bool) → link_new mask d h n m (side_of core store) ≡ link_made mask h seen.stream m (side_of core store)
+  pub link_is : (m : Bool) → link_new mask d h n m (core_side_of core store) ≡ link_made mask h seen.stream m (core_side_of core store)
   link_is m =
-      let w = side_of core store in
+      let w = core_side_of core store in
       let s = behind (stream_of n store.streams) seen (sym sees) in
       let unfit : is_unfit mask s.0.buffers.format ≡ false = ap (λ y. is_unfit mask y.format) (sym s.2) ∙ fit in
       past_context d h place core store _ at less
@@ -82,24 +82,24 @@ drawable_kept streams seen is drawable =
     rw s.1 (ap (λ y. y.size) (sym s.2), pixels)
 
 -- a new context that draws into the stream that is seen
-module _ (d n : ℕ) (core : CoreState) (store : StoreView) (seen : Seen) (live : Ok tt ≡ live_device d (side_of core store))
+module _ (d n : ℕ) (core : CoreState) (store : StoreView) (seen : Seen) (live : Ok tt ≡ live_device d (core_side_of core store))
     (sees : Some seen ≡ seen_stream (stream_of n store.streams)) (fit : is_drawable seen.format ≡ true)
-    (unused : has_target seen.stream (side_of core store) ≡ false) where
-  pub context_is : (m : Bool) → stream_context d n m (side_of core store) ≡ context_made d 0 seen m (side_of core store)
+    (unused : has_target seen.stream (core_side_of core store) ≡ false) where
+  pub context_is : (m : Bool) → stream_context d n m (core_side_of core store) ≡ context_made d 0 seen m (core_side_of core store)
   context_is m =
-      let w = side_of core store in
+      let w = core_side_of core store in
       let s = behind (stream_of n store.streams) seen (sym sees) in
       let drawable : is_drawable s.0.buffers.format ≡ true = ap (λ y. is_drawable y.format) (sym s.2) ∙ fit in
       let free : has_target s.0.number w ≡ false = ap (λ y. has_target y.stream w) (sym s.2) ∙ unused in
       passed (device d w) _ live ∙ rw (s.1, drawable, free) (ap (λ y. context_made d 0 y m w) (sym s.2))
 
 -- into which a context draws already
-module _ (d n : ℕ) (core : CoreState) (store : StoreView) (seen : Seen) (live : Ok tt ≡ live_device d (side_of core store))
+module _ (d n : ℕ) (core : CoreState) (store : StoreView) (seen : Seen) (live : Ok tt ≡ live_device d (core_side_of core store))
     (sees : Some seen ≡ seen_stream (stream_of n store.streams)) (fit : is_drawable seen.format ≡ true)
-    (used : has_target seen.stream (side_of core store) ≡ true) where
-  pub target_used : (m : Bool) → stream_context d n m (side_of core store) ≡ Err (refusal code.InUse)
+    (used : has_target seen.stream (core_side_of core store) ≡ true) where
+  pub target_used : (m : Bool) → stream_context d n m (core_side_of core store) ≡ Err (refusal code.InUse)
   target_used m =
-      let w = side_of core store in
+      let w = core_side_of core store in
       let s = behind (stream_of n store.streams) seen (sym sees) in
       let drawable : is_drawable s.0.buffers.format ≡ true = ap (λ y. is_drawable y.format) (sym s.2) ∙ fit in
       let taken : has_target s.0.number w ≡ true = ap (λ y. has_target y.stream w) (sym s.2) ∙ used in

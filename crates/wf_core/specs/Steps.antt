@@ -14,7 +14,7 @@ use Rattle.wf_model.specs.Objects.{CoreState}
 use Rattle.wf_model.specs.Outcome.{Outcome}
 use Rattle.wf_objects.specs.Fits.{Fits}
 use Rattle.wf_model.specs.Fitting.{IsOfPixels}
-use Rattle.wf_objects.specs.Sides.{side_of}
+use Rattle.wf_objects.specs.Sides.{core_side_of}
 
 -- nothing of the store changed
 abbrev pub KeepsAll : StoreView → StoreView → Type 0
@@ -29,8 +29,8 @@ Asks plain made w found = (m : Bool) → plain m w ≡ (found >>= (λ x. made x 
 -- so much of the store is kept; objects and store fit again; and nothing comes with the reply
 pub record Steps (device : ℕ) (plain : Bool → CoreSide → Outcome CoreSide) (Keeps : StoreView → StoreView
     → Type 0) (core left : CoreState) (store now : StoreView) (reply : Reply) : Type 0 where
-  pub step : core_answer device (side_of core store) (plain (is_out_of_memory reply.code) (side_of core store))
-      ≡ (side_of left now, told reply)
+  pub step : core_answer device (core_side_of core store) (plain (is_out_of_memory reply.code) (core_side_of core store))
+      ≡ (core_side_of left now, told reply)
   pub kept : Keeps store now
   pub fits : Fits left now
   pub bare : reply ≡ bare (told reply)

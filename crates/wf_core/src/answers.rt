@@ -4,7 +4,7 @@ ghost use Rattle.std.specs.Prelude.{◌≡◌};
 ghost use Rattle.wf_calls.specs.Codes.{is_out_of_memory};
 ghost use Rattle.wf_model.specs.Composition.{core_answer};
 ghost use Rattle.wf_objects.specs.Fits.{Fits};
-ghost use Rattle.wf_objects.specs.Sides.{side_of};
+ghost use Rattle.wf_objects.specs.Sides.{core_side_of};
 ghost use Rattle.wf_model.specs.Outcome.{done_by, lacks_memory};
 
 use wf_calls::{Answer, Refusal};
@@ -19,8 +19,8 @@ pub(crate) fn answer(
     done: Result<u32, Refusal>,
 ) -> Answer
     requires { Fits objects.old store.now }
-    ensures answered { core_answer device (side_of objects.old store.now) (done_by done (side_of objects.old store.now))
-        ≡ (side_of objects.new store.now, result) }
+    ensures answered { core_answer device (core_side_of objects.old store.now) (done_by done (core_side_of objects.old store.now))
+        ≡ (core_side_of objects.new store.now, result) }
     ensures memory { is_out_of_memory result.code ≡ lacks_memory done }
     ensures fits { Fits objects.new store.now }
 {

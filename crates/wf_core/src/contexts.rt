@@ -9,7 +9,7 @@ ghost use Rattle.wf_core.specs.Steps.{Asks, KeepsAll, Steps};
 ghost use Rattle.wf_objects.specs.Does.{Does, context_made};
 ghost use Rattle.wf_objects.specs.Fits.{Fits};
 ghost use Rattle.wf_model.specs.Fitting.{IsOfPixels};
-ghost use Rattle.wf_objects.specs.Sides.{KeepsRest, side_of};
+ghost use Rattle.wf_objects.specs.Sides.{KeepsRest, core_side_of};
 
 use crate::answers::answer;
 use crate::composition::Core;
@@ -55,7 +55,7 @@ pub(crate) fn screen_target(
     requires declared { IsSome screen → IsTrue (is_between (pos 1) (pos 4) port) }
     requires pixels { IfSome screen (IsOfPixels store.now.streams) }
     ensures asks { Asks (λ m. screen_context device port screen m) (λ x. context_made device x.0 x.1)
-        (side_of objects.now store.now) result }
+        (core_side_of objects.now store.now) result }
     ensures kept { IfOk result (λ x. IsTarget x.1 store.now.streams) }
 {
     objects.check_device(store, device)?;
@@ -100,7 +100,7 @@ pub(crate) fn stream_target(
     stream: u32,
 ) -> Result<Seen, Refusal>
     requires { Fits objects.now store.now }
-    ensures asks { Asks (stream_context device stream) (context_made device 0) (side_of objects.now store.now) result }
+    ensures asks { Asks (stream_context device stream) (context_made device 0) (core_side_of objects.now store.now) result }
     ensures kept { IfOk result (λ seen. IsTarget seen store.now.streams) }
 {
     objects.check_device(store, device)?;

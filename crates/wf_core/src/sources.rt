@@ -8,7 +8,7 @@ ghost use Rattle.wf_core.specs.Links.{is_unfit, link_destroy, link_new};
 ghost use Rattle.wf_core.specs.Steps.{Asks, Steps};
 ghost use Rattle.wf_objects.specs.Does.{Does, link_made};
 ghost use Rattle.wf_objects.specs.Fits.{Fits};
-ghost use Rattle.wf_objects.specs.Sides.{KeepsRest, side_of};
+ghost use Rattle.wf_objects.specs.Sides.{KeepsRest, core_side_of};
 
 use crate::answers::answer;
 use crate::composition::Core;
@@ -39,7 +39,7 @@ pub(crate) fn linked_stream(
     stream: u32,
 ) -> Result<u32, Refusal>
     requires { Fits objects.now store.now }
-    ensures asks { Asks (link_new mask device context stream) (link_made mask context) (side_of objects.now store.now) result }
+    ensures asks { Asks (link_new mask device context stream) (link_made mask context) (core_side_of objects.now store.now) result }
     ensures kept { IfOk result (λ n. IsSomeAnd (buffers_at n store.now.streams) (λ b. is_a8 b.format ≡ mask)) }
 {
     objects.context_place(store, device, context)?;

@@ -23,7 +23,7 @@ use Rattle.wf_model.specs.Pipelines.{all_sources, display_source, display_source
 use Rattle.wf_model.specs.State.{DisplayState}
 use Rattle.wf_display.specs.Does.{Does}
 use Rattle.wf_display.specs.Fits.{Fits, ShowsPixels, source_live}
-use Rattle.wf_display.specs.Sides.{side_of}
+use Rattle.wf_display.specs.Sides.{display_side_of}
 
 -- the stream of a live handle, by its number
 module _ (handle n high : ℕ) (streams : List KeptStream) (rising : IsNumbered 0 streams high) (is : Some n ≡ number_of handle streams) where
@@ -62,7 +62,7 @@ passes_handle made given = of_test (is_full made) given
 module _ (d : DisplayState) (store : StoreView) (fits : Fits d store) (l : ℤ) (handle n : ℕ)
     (pipeline_found : (x : _) × (pipeline l d ≡ Ok x)) (stream : pixel_stream handle store.streams ≡ Ok n)
     (pixels : IsSomeAnd (buffers_at n store.streams) (λ b. is_a8 b.format ≡ false))
-    (room : all_sources (side_of d store) ≡ false) (given : Ok tt ≡ refused_handle store.made false) where
+    (room : all_sources (display_side_of d store) ≡ false) (given : Ok tt ≡ refused_handle store.made false) where
   abbrev pub new : DisplaySource
   new = record { handle = store.made + 1; pipeline = count_of l; stream = n }
 

@@ -21,7 +21,7 @@ use Rattle.wf_model.specs.State.{DisplayState, mode_size}
 use Rattle.wf_display.specs.Does.{Does}
 use Rattle.wf_display.specs.Fits.{Fits, PipelineFits, ScreensFit}
 use Rattle.wf_display.specs.Places.{IsPlaceOf}
-use Rattle.wf_display.specs.Sides.{side_of}
+use Rattle.wf_display.specs.Sides.{display_side_of}
 
 -- what was read at a place stands there
 pub read_at : {A : Type 0} (xs ys : List A) (place : ℕ) (x : A) → xs ≡ ys → place < length ys → x ≡ slice_index_or xs place x
@@ -67,7 +67,7 @@ pub alone : (plain : DisplayState → Outcome DisplayState) (d left : DisplaySta
     → plain d ≡ Ok (left, value) → Fits left store → Does (λ _. on_display plain) d left store store (Ok value)
 alone plain d left store value is fits =
     record {
-      case = ap (λ (o : Outcome DisplayState). o >>= (λ x. Ok (record (side_of d store) { display = x.0 }, x.1))) is;
+      case = ap (λ (o : Outcome DisplayState). o >>= (λ x. Ok (record (display_side_of d store) { display = x.0 }, x.1))) is;
       refused = tt;
       untouched = tt;
       kept = record { streams = refl; numbered = refl; others = refl };
@@ -78,7 +78,7 @@ pub refuses : (plain : DisplayState → Outcome DisplayState) (d : DisplayState)
     → plain d ≡ Err r → Fits d store → Does (λ _. on_display plain) d d store store (Err r)
 refuses plain d store r is fits =
     record {
-      case = ap (λ (o : Outcome DisplayState). o >>= (λ x. Ok (record (side_of d store) { display = x.0 }, x.1))) is;
+      case = ap (λ (o : Outcome DisplayState). o >>= (λ x. Ok (record (display_side_of d store) { display = x.0 }, x.1))) is;
       refused = refl;
       untouched = refl;
       kept = record { streams = refl; numbered = refl; others = refl };

@@ -10,14 +10,14 @@ use Rattle.wf_model.specs.Outcome.{Outcome}
 use Rattle.wf_model.specs.State.{DisplayState}
 use Rattle.wf_model.specs.Outcome.{lacks_memory}
 use Rattle.wf_display.specs.Fits.{Fits}
-use Rattle.wf_display.specs.Sides.{KeepsRest, side_of}
+use Rattle.wf_display.specs.Sides.{KeepsRest, display_side_of}
 use Rattle.wf_model.specs.Outcome.{done_by}
 
 -- it leaves and answers what the plain call does, where want of memory is told by the answer; a refused one changes
 -- nothing; of the store it makes or takes a handle at most; and objects and store fit again
 pub record Does (plain : Bool → DisplaySide → Outcome DisplaySide) (d left : DisplayState) (store now : StoreView)
     (result : Result ℕ Refusal) : Type 0 where
-  pub case : plain (lacks_memory result) (side_of d store) ≡ done_by result (side_of left now)
+  pub case : plain (lacks_memory result) (display_side_of d store) ≡ done_by result (display_side_of left now)
   pub refused : OnErr result (left ≡ d)
   pub untouched : OnErr result (now ≡ store)
   pub kept : KeepsRest store now
@@ -31,7 +31,8 @@ KeepsAll old new = new ≡ old
 -- of the store is kept; objects and store fit again; and nothing comes with the reply
 pub record Steps (plain : Bool → DisplaySide → Outcome DisplaySide) (Keeps : StoreView → StoreView → Type 0) (d left : DisplayState)
     (store now : StoreView) (reply : Reply) : Type 0 where
-  pub step : display_answer (side_of d store) (plain (is_out_of_memory reply.code) (side_of d store)) ≡ (side_of left now, told reply)
+  pub step : display_answer (display_side_of d store) (plain (is_out_of_memory reply.code) (display_side_of d store))
+      ≡ (display_side_of left now, told reply)
   pub kept : Keeps store now
   pub fits : Fits left now
   pub bare : reply ≡ bare (told reply)

@@ -7,8 +7,8 @@ use Rattle.wf_model.specs.DisplaySides.{DisplaySide}
 use Rattle.wf_model.specs.State.{DisplayState}
 
 -- what a call sees of these objects and this store
-abbrev pub side_of : DisplayState → StoreView → DisplaySide
-side_of d store =
+abbrev pub display_side_of : DisplayState → StoreView → DisplaySide
+display_side_of d store =
     record {
       made = store.made;
       streams = store.streams;

@@ -6,7 +6,7 @@ ghost use Rattle.wf_model.specs.Composition.{recorded};
 ghost use Rattle.wf_model.specs.DisplaySides.{display_answer};
 ghost use Rattle.wf_model.specs.Outcome.{lacks_memory};
 ghost use Rattle.wf_display.specs.Fits.{Fits};
-ghost use Rattle.wf_display.specs.Sides.{side_of};
+ghost use Rattle.wf_display.specs.Sides.{display_side_of};
 ghost use Rattle.wf_model.specs.Outcome.{done_by};
 
 use crate::display::Display;
@@ -27,8 +27,8 @@ impl Display {
     /// The answer of a call that was carried out or refused.
     pub(crate) fn answer(&mut self, store: &Store, done: Result<u32, Refusal>) -> Answer
         requires { Fits self.old store.now }
-        ensures answered { display_answer (side_of self.old store.now) (done_by done (side_of self.old store.now))
-            ≡ (side_of self.new store.now, result) }
+        ensures answered { display_answer (display_side_of self.old store.now) (done_by done (display_side_of self.old store.now))
+            ≡ (display_side_of self.new store.now, result) }
         ensures memory { is_out_of_memory result.code ≡ lacks_memory done }
         ensures fits { Fits self.new store.now }
     {

@@ -9,7 +9,7 @@ ghost use Rattle.wf_model.specs.Pipelines.{all_sources, display_source, display_
 ghost use Rattle.wf_model.specs.Outcome.{lacks_memory, refused_handle, without_value};
 ghost use Rattle.wf_display.specs.Does.{Does, Steps};
 ghost use Rattle.wf_display.specs.Fits.{Fits};
-ghost use Rattle.wf_display.specs.Sides.{KeepsRest, side_of};
+ghost use Rattle.wf_display.specs.Sides.{KeepsRest, display_side_of};
 
 use crate::display::Display;
 use crate::finding::source_at;
@@ -62,7 +62,7 @@ fn leave_out(sources: &mut Vec<DisplaySource>, handle: u32)
 impl Display {
     /// As many sources and masks live as may, those of composition included.
     pub(crate) fn all_sources(&self, store: &Store) -> bool
-        ensures { result ≡ all_sources (side_of self.now store.now) }
+        ensures { result ≡ all_sources (display_side_of self.now store.now) }
     {
         let here = self.sources.len();
         let there = store.live(Kind::Source) as usize + store.live(Kind::Mask) as usize;

@@ -29,7 +29,7 @@ use Rattle.wf_model.specs.DisplayCalls.{display_call}
 use Rattle.wf_model.specs.DisplaySides.{display_answer}
 use Rattle.wf_model.specs.Kept.{modes_in, modes_stay}
 use Rattle.wf_objects.specs.Fits.{HasElements, elements_of, has_owner, mask_live, source_live}
-use Rattle.wf_objects.specs.Sides.{KeepsRest, beside, side_of}
+use Rattle.wf_objects.specs.Sides.{KeepsRest, beside, core_side_of}
 use Rattle.wf_display.specs.Does as does
 use Rattle.wf_display.specs.Fits.{Fits as Shows, source_live as shown_live}
 use Rattle.wf_display.specs.Sides as displays
@@ -214,11 +214,11 @@ composed_shown core d store now rest shows fits =
 
 -- what calls see of the machine is what they see of its state
 
-core_side_is : (m : Inside) → IsSound m → side_of m.core m.store ≡ core_side (state_of m)
+core_side_is : (m : Inside) → IsSound m → core_side_of m.core m.store ≡ core_side (state_of m)
 core_side_is m sound = ap (λ n. record { made = m.store.made; streams = m.store.streams; core = m.core; display_sources = n })
     (counted lives.DisplaySource shown_live m.display.sources m.store.others sound.shows.handles.sources)
 
-display_side_is : (m : Inside) → IsSound m → displays.side_of m.display m.store ≡ display_side (state_of m)
+display_side_is : (m : Inside) → IsSound m → displays.display_side_of m.display m.store ≡ display_side (state_of m)
 display_side_is m sound = ap (λ n. record { made = m.store.made; streams = m.store.streams; display = m.display; composition_sources = n })
     (ap (λ n. n + live_count lives.Mask m.store.others)
     (counted lives.Source source_live m.core.sources m.store.others sound.fits.handles.sources)
@@ -248,8 +248,8 @@ module _ (inside : Inside) (h : State) (seen : state_of inside ≡ h) (sound : I
   -- a call of composition did and answered as the plain call, where memory is refused or not
   pub as_marked_composed : (m : Bool) (c : Call) (screen : Option ℕ) (a : Answer) → is_of_core (part_of c) ≡ true
       → screen ≡ screen_of c h
-      → core_answer (device_of c) (side_of inside.core inside.store) (core_call screen m c (side_of inside.core inside.store))
-      ≡ (side_of core store, a)
+      → core_answer (device_of c) (core_side_of inside.core inside.store) (core_call screen m c (core_side_of inside.core inside.store))
+      ≡ (core_side_of core store, a)
       → IsMarkedAct m h c (state_of (record inside { core = core; store = store })) (bare a)
   unfolding act
   as_marked_composed m c screen a ours asked step =
@@ -262,19 +262,19 @@ module _ (inside : Inside) (h : State) (seen : state_of inside ≡ h) (sound : I
       acts : act h c m ≡ composed (device_of c) (core_call (screen_of c h) m c) h
       acts = rw (of_core (part_of c) ours) refl
 
-      side : side_of inside.core inside.store ≡ core_side h
+      side : core_side_of inside.core inside.store ≡ core_side h
       side = core_side_is inside sound ∙ ap core_side seen
 
-      there : core_answer (device_of c) (core_side h) (core_call (screen_of c h) m c (core_side h)) ≡ (side_of core store, a)
+      there : core_answer (device_of c) (core_side h) (core_call (screen_of c h) m c (core_side h)) ≡ (core_side_of core store, a)
       there =
           ap (λ w. core_answer (device_of c) w (core_call (screen_of c h) m c w)) (sym side)
-          ∙ ap (λ s. core_answer (device_of c) (side_of inside.core inside.store)
-          (core_call s m c (side_of inside.core inside.store))) (sym asked)
+          ∙ ap (λ s. core_answer (device_of c) (core_side_of inside.core inside.store)
+          (core_call s m c (core_side_of inside.core inside.store))) (sym asked)
           ∙ step
 
-      left_is : with_side (side_of core store) h ≡ left
+      left_is : with_side (core_side_of core store) h ≡ left
       left_is =
-          ap (λ s. with_side (side_of core store) s) (sym seen)
+          ap (λ s. with_side (core_side_of core store) s) (sym seen)
           ∙ ap (λ n. record (state_of inside) { made = store.made; numbered = n; streams = store.streams; core = core })
           (sym rest.numbered)
 
@@ -288,12 +288,12 @@ module _ (inside : Inside) (h : State) (seen : state_of inside ≡ h) (sound : I
 
 module _ (m : Bool) (inside : Inside) (h : State) (seen : state_of inside ≡ h) (sound : IsSound inside) (d : DisplayState)
     (store : StoreView) (c : Call) (a : Answer) (rest : displays.KeepsRest inside.store store) (fits : Shows d store)
-    (step : display_answer (displays.side_of inside.display inside.store)
-    (display_call m c (displays.side_of inside.display inside.store)) ≡ (displays.side_of d store, a)) where
+    (step : display_answer (displays.display_side_of inside.display inside.store)
+    (display_call m c (displays.display_side_of inside.display inside.store)) ≡ (displays.display_side_of d store, a)) where
   -- what holds of the machine holds after a call of the display, which changes no modes
   pub sound_marked_displayed : IsSound (record inside { display = d; store = store })
   sound_marked_displayed =
-      let side = displays.side_of inside.display inside.store in
+      let side = displays.display_side_of inside.display inside.store in
       let same : modes_of d ≡ modes_of inside.display =
       sym (ap (λ x. modes_in x.0) step) ∙ modes_stay m c side in
       record {
@@ -324,15 +324,15 @@ module _ (m : Bool) (inside : Inside) (h : State) (seen : state_of inside ≡ h)
       acts : act h c m ≡ displayed (display_call m c) h
       acts = rw ours refl
 
-      side : displays.side_of inside.display inside.store ≡ display_side h
+      side : displays.display_side_of inside.display inside.store ≡ display_side h
       side = display_side_is inside sound ∙ ap display_side seen
 
-      there : display_answer (display_side h) (display_call m c (display_side h)) ≡ (displays.side_of d store, a)
+      there : display_answer (display_side h) (display_call m c (display_side h)) ≡ (displays.display_side_of d store, a)
       there = ap (λ w. display_answer w (display_call m c w)) (sym side) ∙ step
 
-      left_is : with_display_side (displays.side_of d store) h ≡ left
+      left_is : with_display_side (displays.display_side_of d store) h ≡ left
       left_is =
-          ap (λ s. with_display_side (displays.side_of d store) s) (sym seen)
+          ap (λ s. with_display_side (displays.display_side_of d store) s) (sym seen)
           ∙ ap (λ n. record (state_of inside) { made = store.made; numbered = n; streams = store.streams; display = d })
           (sym rest.numbered)
 

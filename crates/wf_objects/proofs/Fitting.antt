@@ -12,7 +12,7 @@ use Rattle.wf_model.specs.Outcome.{Outcome}
 use Rattle.wf_model.specs.Composition.{CoreSide, change_register}
 use Rattle.wf_model.specs.Core.{get_error, register_number}
 use Rattle.wf_objects.specs.Does.{Does}
-use Rattle.wf_objects.specs.Sides.{side_of}
+use Rattle.wf_objects.specs.Sides.{core_side_of}
 use Rattle.wf_objects.specs.Fits.{ContextFits, Fits, HandlesFit, HasElements, Shows, StreamsFit, context_live, device_live, has_owner}
 use Rattle.wf_life.specs.Living.{of_kind}
 use Rattle.wf_objects.specs.Links.{link_kind, link_live, links, with_links}
@@ -42,7 +42,7 @@ pub takes_error : (d : ℕ) (core new : CoreState) (store : StoreView) (x : Devi
     → at_key (λ x. x.handle) d core.devices ≡ Some x → new ≡ change_register d (λ _. None) core → n ≡ register_number x.register
     → Does (λ _. get_error d) core new store store (Ok n)
 takes_error d core new store x n fits at is number =
-    let done : CoreState → ℕ → Outcome CoreSide = λ k m. (let both : CoreSide × ℕ = (side_of k store, m) in Ok both) in
+    let done : CoreState → ℕ → Outcome CoreSide = λ k m. (let both : CoreSide × ℕ = (core_side_of k store, m) in Ok both) in
     record {
       case = rw at (ap (λ k. done k (register_number x.register)) (sym is) ∙ ap (done new) (sym number));
       refused = tt;

@@ -13,7 +13,7 @@ use Rattle.wf_calls.specs.declared.code.Code.TheVariants as code
 use Rattle.wf_model.specs.Objects.{Context, CoreState, Device}
 use Rattle.wf_calls.specs.Replies.{refusal}
 use Rattle.wf_model.specs.Outcome.{found}
-use Rattle.wf_objects.specs.Sides.{side_of}
+use Rattle.wf_objects.specs.Sides.{core_side_of}
 use Rattle.wf_model.specs.Outcome.{without_value}
 use Rattle.wf_objects.specs.Fits.{HandlesFit, HasElements, elements_of, device_live, context_live, element_live}
 use Rattle.wf_life.specs.Living.{keyed, of_kind}
@@ -152,14 +152,15 @@ module _ (core : CoreState) (store : StoreView) (fits : HandlesFit core store) w
 
   -- a device lives just where the store has its handle
 
-  pub dead_device : (d : ℕ) → key_of d kind.Device store.others ≡ None → live_device d (side_of core store) ≡ Err (refusal code.BadDevice)
+  pub dead_device : (d : ℕ) → key_of d kind.Device store.others ≡ None
+      → live_device d (core_side_of core store) ≡ Err (refusal code.BadDevice)
   dead_device d none = rw (no_device d none) refl
 
-  pub some_device : (d key : ℕ) → key_of d kind.Device store.others ≡ Some key → live_device d (side_of core store) ≡ Ok tt
+  pub some_device : (d key : ℕ) → key_of d kind.Device store.others ≡ Some key → live_device d (core_side_of core store) ≡ Ok tt
   some_device d key some = let x = a_device d key some in rw x.1 refl
 
 -- a live device is one of the devices
-pub device_lives : (d : ℕ) (core : CoreState) (store : StoreView) → live_device d (side_of core store) ≡ Ok tt
+pub device_lives : (d : ℕ) (core : CoreState) (store : StoreView) → live_device d (core_side_of core store) ≡ Ok tt
     → list_any (λ x. x.handle == d) core.devices ≡ true
 device_lives d core store lives =
     any_found (λ x. x.handle == d) core.devices ∙ of_found (at_key (λ x. x.handle) d core.devices) lives

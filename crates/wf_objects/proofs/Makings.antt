@@ -22,7 +22,7 @@ use Rattle.std.specs.Prelude.{nat_le}
 use Rattle.wf_objects.specs.Does.{Does, element_made, in_place}
 use Rattle.wf_objects.proofs.Scenes.{placed_is}
 use Rattle.wf_objects.specs.Links.{link_kind, link_live, links, with_links}
-use Rattle.wf_objects.specs.Sides.{is_of_composition, side_of}
+use Rattle.wf_objects.specs.Sides.{is_of_composition, core_side_of}
 use Rattle.wf_model.specs.Outcome.{refused_handle}
 use Rattle.wf_objects.proofs.Fitting.{Housed, KindChanged, contexts_fit, devices_fit, links_fit, links_live, links_show}
 use Rattle.wf_objects.specs.Fits.{ContextFits, Fits, HasElements, Shows, context_live, device_live, element_live, elements_of, has_owner}
@@ -45,19 +45,19 @@ link_is_ours true = (refl, refl)
 module _ (core : CoreState) (store : StoreView) (fits : Fits core store) where
   -- a creation, by its limit and what it leaves of the objects
   module _ (plain : Bool → CoreSide → Outcome CoreSide) (at_limit : Bool) (grown : CoreState)
-      (is : (m : Bool) → plain m (side_of core store)
-      ≡ (room at_limit m (side_of core store) >>= (λ _. Ok (created grown (side_of core store))))) where
+      (is : (m : Bool) → plain m (core_side_of core store)
+      ≡ (room at_limit m (core_side_of core store) >>= (λ _. Ok (created grown (core_side_of core store))))) where
     pub creates : (k : Kind) (key : ℕ) → same_kind k kind.DisplaySource ≡ false → is_of_composition k ≡ true → at_limit ≡ false
         → Ok tt ≡ refused_handle store.made false → Fits grown (with_other k key store)
         → Does plain core grown store (with_other k key store) (Ok (store.made + 1))
     creates k key other ours below given fit =
         let new = live k (store.made + 1) key in
-        let after : Unit {0} → Outcome CoreSide = λ _. Ok (created grown (side_of core store)) in
+        let after : Unit {0} → Outcome CoreSide = λ _. Ok (created grown (core_side_of core store)) in
         let done : ℕ → Outcome CoreSide = λ count. (let left : CoreSide
         × ℕ = (record { made = store.made + 1; streams = store.streams; core = grown; display_sources = count }, store.made + 1) in
         Ok left) in
         record {
-          case = is false ∙ ap (λ b. room b false (side_of core store) >>= after) below
+          case = is false ∙ ap (λ b. room b false (core_side_of core store) >>= after) below
               ∙ ap (λ x. x >>= after) (sym given)
               ∙ ap done (sym (count_left (λ l. same_kind l.kind kind.DisplaySource) store.others new other));
           refused = tt;

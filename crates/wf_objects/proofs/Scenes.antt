@@ -23,7 +23,7 @@ use Rattle.wf_model.specs.Composition.{CoreSide, change_context, with_cached}
 use Rattle.wf_model.specs.Core.{linked, with_active, with_committed}
 use Rattle.wf_objects.specs.Does.{Does, changed, edited_by, element_set, in_place, refuses, scene_set}
 use Rattle.wf_objects.specs.Fits.{ContextFits, Fits, HasElements, context_live}
-use Rattle.wf_objects.specs.Sides.{side_of}
+use Rattle.wf_objects.specs.Sides.{core_side_of}
 use Rattle.wf_objects.proofs.Fitting.{contexts_fit}
 use Rattle.wf_objects.proofs.Keeping.{Keeps}
 use Rattle.wf_objects.proofs.Lookups.{rises_contexts}
@@ -65,7 +65,7 @@ module _ (core : CoreState) (store : StoreView) (fits : Fits core store) (place 
       (change_at (λ y. y.handle) f 0 core.contexts place c (rises_contexts core store fits.handles) at)
 
   done : CoreState → Outcome CoreSide
-  done k = Ok (record (side_of core store) { core = k }, 0)
+  done k = Ok (record (core_side_of core store) { core = k }, 0)
 
   -- the context alone changes
   changes : (f : Context → Context) → Fits (placed (f c)) store
@@ -121,7 +121,8 @@ module _ (core : CoreState) (store : StoreView) (fits : Fits core store) (place 
 
   module _ (d element : ℕ) (attr : ElementAttr) (value : List ℤ) where
     -- an attribute of an element is set, whose value may be linked to it
-    pub linked_first : (s : CachedScene) (r : Result ℕ Refusal) → linked attr d c.handle (component value 0) (side_of core store) ≡ Ok tt
+    pub linked_first : (s : CachedScene) (r : Result ℕ Refusal) → linked attr d c.handle (component value 0) (core_side_of core store)
+        ≡ Ok tt
         → Does (in_place place (scene_set (cached.set element attr value))) core (placed (record c { cached = s })) store store r
         → Does (in_place place (element_set d element attr value)) core (placed (record c { cached = s })) store store r
     linked_first s r is does =

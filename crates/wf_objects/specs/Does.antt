@@ -22,14 +22,14 @@ use Rattle.wf_objects.specs.Fits.{Fits}
 use Rattle.wf_objects.specs.Links.{links, with_links}
 use Rattle.wf_objects.specs.Owners.{StandsAt, joined, owned_context, owning_context}
 use Rattle.wf_model.specs.Outcome.{at_place}
-use Rattle.wf_objects.specs.Sides.{KeepsRest, side_of}
+use Rattle.wf_objects.specs.Sides.{KeepsRest, core_side_of}
 use Rattle.wf_model.specs.Outcome.{done_by, lacks_memory}
 
 -- it leaves and answers what the plain call does, where want of memory is told by the answer; a refused one changes
 -- nothing; of the store it makes or takes a handle at most; and objects and store fit again
 pub record Does (plain : Bool → CoreSide → Outcome CoreSide) (core left : CoreState) (store now : StoreView)
     (result : Result ℕ Refusal) : Type 0 where
-  pub case : plain (lacks_memory result) (side_of core store) ≡ done_by result (side_of left now)
+  pub case : plain (lacks_memory result) (core_side_of core store) ≡ done_by result (core_side_of left now)
   pub refused : OnErr result (left ≡ core)
   pub untouched : OnErr result (now ≡ store)
   pub kept : KeepsRest store now
@@ -95,14 +95,14 @@ edited_by (Err r) = Err (refusal (refusal_code r))
 
 -- what is refused changes nothing
 pub refuses : (plain : Bool → CoreSide → Outcome CoreSide) (core : CoreState) (store : StoreView) (r : Refusal) → Fits core store
-    → plain (is_out_of_memory r.code) (side_of core store) ≡ Err r → Does plain core core store store (Err r)
+    → plain (is_out_of_memory r.code) (core_side_of core store) ≡ Err r → Does plain core core store store (Err r)
 refuses plain core store r fits is =
     record { case = is; refused = refl; untouched = refl; kept = record { streams = refl; numbered = refl; others = refl }; fits = fits }
 
 -- what does as another call does what that one does
 pub as_other : (plain other : Bool → CoreSide → Outcome CoreSide) (core left : CoreState) (store now : StoreView)
     (result : Result ℕ Refusal)
-    → ((m : Bool) → plain m (side_of core store) ≡ other m (side_of core store)) → Does other core left store now result
+    → ((m : Bool) → plain m (core_side_of core store) ≡ other m (core_side_of core store)) → Does other core left store now result
     → Does plain core left store now result
 as_other plain other core left store now result same does =
     record {
@@ -116,26 +116,26 @@ as_other plain other core left store now result same does =
 module _ (place : ℕ) (after : Step) (core left : CoreState) (store now : StoreView) (result : Result ℕ Refusal)
     (does : Does (in_place place after) core left store now result) where
   -- in the context that a call names
-  pub in_owned : (d h : ℕ) → at_place (Ok place) core.contexts ≡ owned_context d h (side_of core store) → StandsAt h place core
+  pub in_owned : (d h : ℕ) → at_place (Ok place) core.contexts ≡ owned_context d h (core_side_of core store) → StandsAt h place core
       → Does (λ m w. device d w >>= (λ _. context d h w >>= (λ c. after h m c w))) core left store now result
   in_owned d h at here =
-      let w = side_of core store in
+      let w = core_side_of core store in
       as_other (λ m w. device d w >>= (λ _. context d h w >>= (λ c. after h m c w))) (in_place place after) core left store now result
       (λ m. (let go : Context → Outcome CoreSide = λ c. after h m c w in
       joined (device d w) (λ _. context d h w) go ∙ ap (λ (r : Result Context Refusal). r >>= go) (sym at)
       ∙ by_handle m (slice_get core.contexts place) here)) does
     where
       by_handle : (m : Bool) (o : Option Context) → IfSome o (λ c. c.handle ≡ h)
-          → (found code.BadHandle o >>= (λ c. after h m c (side_of core store)))
-          ≡ (found code.BadHandle o >>= (λ c. after c.handle m c (side_of core store)))
+          → (found code.BadHandle o >>= (λ c. after h m c (core_side_of core store)))
+          ≡ (found code.BadHandle o >>= (λ c. after c.handle m c (core_side_of core store)))
       by_handle m None is = refl
-      by_handle m (Some c) is = ap (λ n. after n m c (side_of core store)) (sym is)
+      by_handle m (Some c) is = ap (λ n. after n m c (core_side_of core store)) (sym is)
 
   -- in the context of an element that a call names
-  pub in_owner : (d e : ℕ) → at_place (Ok place) core.contexts ≡ owning_context d e (side_of core store)
+  pub in_owner : (d e : ℕ) → at_place (Ok place) core.contexts ≡ owning_context d e (core_side_of core store)
       → Does (λ m w. device d w >>= (λ _. element_context d e w >>= (λ c. after c.handle m c w))) core left store now result
   in_owner d e at =
-      let w = side_of core store in
+      let w = core_side_of core store in
       as_other (λ m w. device d w >>= (λ _. element_context d e w >>= (λ c. after c.handle m c w))) (in_place place after) core left store
       now
       result
@@ -150,10 +150,10 @@ pub reads : (place : ℕ) (core : CoreState) (store : StoreView) (call : CachedS
 reads place core store call scene r fits c at same is = rw is (of_answer (call scene) refl)
   where
     told : ℕ → Outcome CoreSide
-    told n = Ok (side_of core store, n)
+    told n = Ok (core_side_of core store, n)
 
     here : (m : Result ℕ Refused) → call scene ≡ m → (b : Bool)
-        → in_place place (scene_read call) b (side_of core store) ≡ (by_scene m >>= told)
+        → in_place place (scene_read call) b (core_side_of core store) ≡ (by_scene m >>= told)
     here m answered b = rw (at, same, answered) refl
 
     of_answer : (m : Result ℕ Refused) → call scene ≡ m → Does (in_place place (scene_read call)) core core store store (by_scene m)

@@ -12,7 +12,7 @@ use Rattle.wf_model.specs.Outcome.{at_place, found}
 use Rattle.wf_model.specs.Composition.{CoreSide, device, context, element_context}
 use Rattle.wf_model.specs.Core.{owned_source}
 use Rattle.wf_objects.specs.Links.{links}
-use Rattle.wf_objects.specs.Sides.{side_of}
+use Rattle.wf_objects.specs.Sides.{core_side_of}
 use Rattle.wf_model.specs.Outcome.{without_value}
 
 -- the context of a device with a handle, if there is one
@@ -63,10 +63,10 @@ LivesAt element place core = IfSome (slice_get core.contexts place) (λ c. IsTru
 
 -- what follows the context that a call names, where its place was found
 pub past_context : {B : Type 0} (d h place : ℕ) (core : CoreState) (store : StoreView) (next : Result B Refusal)
-    → at_place (Ok place) core.contexts ≡ owned_context d h (side_of core store) → place < length core.contexts
-    → (device d (side_of core store) >>= (λ _. context d h (side_of core store) >>= (λ _. next))) ≡ next
+    → at_place (Ok place) core.contexts ≡ owned_context d h (core_side_of core store) → place < length core.contexts
+    → (device d (core_side_of core store) >>= (λ _. context d h (core_side_of core store) >>= (λ _. next))) ≡ next
 past_context d h place core store next at less =
-    let w = side_of core store in
+    let w = core_side_of core store in
     let x = within core.contexts place less in
     joined (device d w) (λ _. context d h w) (λ _. next)
     ∙ passed (owned_context d h w) next (ap without_value (sym (ap (found code.BadHandle) x.1) ∙ at))

@@ -8,8 +8,8 @@ use Rattle.wf_model.specs.Composition.{CoreSide}
 use Rattle.wf_model.specs.Objects.{CoreState}
 
 -- what a call sees of these objects and this store
-abbrev pub side_of : CoreState → StoreView → CoreSide
-side_of core store =
+abbrev pub core_side_of : CoreState → StoreView → CoreSide
+core_side_of core store =
     record {
       made = store.made;
       streams = store.streams;

@@ -19,7 +19,7 @@ use Rattle.wf_model.specs.Objects.{Context, CoreState, Source}
 use Rattle.wf_model.specs.Composition.{seen, seen_source, seen_stream, sight_of}
 use Rattle.wf_objects.specs.Fits.{HandlesFit, mask_live, source_live}
 use Rattle.wf_life.specs.Living.{keyed, of_kind}
-use Rattle.wf_objects.specs.Sides.{side_of}
+use Rattle.wf_objects.specs.Sides.{core_side_of}
 
 -- what is seen behind a key, which is the number of a stream
 abbrev pub seen_key : List KeptStream → Option ℕ → Option Seen
@@ -59,7 +59,7 @@ seen_same k g sources store handle is told found h =
     ∙ told (at_key (λ s. s.handle) h sources)
 
 -- the store tells what the objects show
-pub sights : (core : CoreState) (store : StoreView) → HandlesFit core store → sight_in store ≡ sight_of (side_of core store)
+pub sights : (core : CoreState) (store : StoreView) → HandlesFit core store → sight_in store ≡ sight_of (core_side_of core store)
 sights core store fits =
     let both : (ℕ → Option Seen) → (ℕ → Option Seen) → Sight = λ source mask. record { source = source; mask = mask } in
     ap (λ (f : ℕ → Option Seen). both f (λ h. seen_key store.streams (key_of h kind.Mask store.others)))

@@ -3,7 +3,7 @@
 ghost use Rattle.std.specs.Prelude.{◌≡◌, ◌<◌, Err, IfSome, length, nat_le, slice_get, true};
 ghost use Rattle.wf_model.specs.Core.{contexts_full, room, sources_full};
 ghost use Rattle.wf_model.specs.Objects.{CoreState};
-ghost use Rattle.wf_objects.specs.Sides.{side_of};
+ghost use Rattle.wf_objects.specs.Sides.{core_side_of};
 
 use crate::objects::{MOST_CONTEXTS, MOST_DEVICES, MOST_ELEMENTS, Objects};
 use wf_calls::{Code, Refusal};
@@ -11,7 +11,7 @@ use wf_stream::Store;
 
 /// The last refusals of a creation for which there is no memory: Limit, or OutOfMemory.
 fn deny(store: &Store, at_limit: bool) -> Refusal
-    ensures { (core : CoreState) → room at_limit true (side_of core store.now) ≡ Err result }
+    ensures { (core : CoreState) → room at_limit true (core_side_of core store.now) ≡ Err result }
 {
     if at_limit || store.full() {
         Refusal::of(Code::Limit)
@@ -23,14 +23,14 @@ fn deny(store: &Store, at_limit: bool) -> Refusal
 impl Objects {
     /// Why a device is not made where there is no memory: a ninth device or no handle is Limit, and else it is OutOfMemory.
     pub fn deny_device(&self, store: &Store) -> Refusal
-        ensures { room (nat_le 8 (length self.now.devices)) true (side_of self.now store.now) ≡ Err result }
+        ensures { room (nat_le 8 (length self.now.devices)) true (core_side_of self.now store.now) ≡ Err result }
     {
         deny(store, self.devices.len() >= MOST_DEVICES)
     }
 
     /// Why a context is not made where there is no memory: a 17th context or no handle is Limit, and else it is OutOfMemory.
     pub fn deny_context(&self, store: &Store) -> Refusal
-        ensures { room (contexts_full (side_of self.now store.now)) true (side_of self.now store.now) ≡ Err result }
+        ensures { room (contexts_full (core_side_of self.now store.now)) true (core_side_of self.now store.now) ≡ Err result }
     {
         deny(store, self.contexts.len() >= MOST_CONTEXTS)
     }
@@ -38,7 +38,7 @@ impl Objects {
     /// Why a source or a mask is not made where there is no memory: a 257th of both or no handle is Limit, and else it is
     /// OutOfMemory.
     pub fn deny_link(&self, store: &Store) -> Refusal
-        ensures { room (sources_full (side_of self.now store.now)) true (side_of self.now store.now) ≡ Err result }
+        ensures { room (sources_full (core_side_of self.now store.now)) true (core_side_of self.now store.now) ≡ Err result }
     {
         deny(store, self.sources_full(store))
     }
@@ -48,7 +48,7 @@ impl Objects {
     pub fn deny_element(&self, store: &Store, place: usize) -> Refusal
         requires { place < length self.now.contexts }
         ensures { IfSome (slice_get self.now.contexts place) (λ c. room (nat_le 64 (length c.cached.elements)) true
-            (side_of self.now store.now) ≡ Err result) }
+            (core_side_of self.now store.now) ≡ Err result) }
     {
         deny(store, self.contexts[place].cached.count() >= MOST_ELEMENTS)
     }

@@ -11,7 +11,7 @@ ghost use Rattle.wf_objects.specs.Fits.{Fits};
 ghost use Rattle.wf_objects.specs.Links.{links, with_links};
 ghost use Rattle.wf_objects.specs.Losses.{Loses};
 ghost use Rattle.wf_objects.specs.Owners.{LivesAt, live_device};
-ghost use Rattle.wf_objects.specs.Sides.{side_of};
+ghost use Rattle.wf_objects.specs.Sides.{core_side_of};
 
 use crate::objects::Objects;
 use crate::rows::{Device, Link};
@@ -94,7 +94,7 @@ impl Objects {
     /// Takes out a device with its contexts and all that is theirs, and their handles.
     pub fn drop_device(&mut self, store: &mut Store, device: u32)
         requires fits { Fits self.old store.old }
-        requires live { live_device device (side_of self.old store.old) ≡ Ok tt }
+        requires live { live_device device (core_side_of self.old store.old) ≡ Ok tt }
         ensures dropped { self.new ≡ without_device device self.old }
         ensures loses { Loses store.old store.new }
         ensures fits { Fits self.new store.new }

@@ -11,7 +11,7 @@ ghost use Rattle.wf_objects.specs.Links.{links};
 ghost use Rattle.wf_objects.specs.Owners.{of_device, of_element, live_device, owned_context, owned_link, owning_context, LivesAt};
 ghost use Rattle.wf_model.specs.Outcome.{at_place};
 ghost use Rattle.wf_objects.specs.Owners.{StandsAt};
-ghost use Rattle.wf_objects.specs.Sides.{side_of};
+ghost use Rattle.wf_objects.specs.Sides.{core_side_of};
 
 use crate::links::is_of_device;
 use crate::objects::Objects;
@@ -48,7 +48,7 @@ impl Objects {
     /// A device lives, or the refusal BadDevice.
     pub fn check_device(&self, store: &Store, device: u32) -> Result<(), Refusal>
         requires { Fits self.now store.now }
-        ensures { result ≡ live_device device (side_of self.now store.now) }
+        ensures { result ≡ live_device device (core_side_of self.now store.now) }
     {
         match key_of(store, device, Kind::Device) {
             Some(_) => Ok(()),
@@ -65,7 +65,7 @@ impl Objects {
         link: u32,
     ) -> Result<(), Refusal>
         requires { Fits self.now store.now }
-        ensures owned { result ≡ owned_link mask device link (side_of self.now store.now) }
+        ensures owned { result ≡ owned_link mask device link (core_side_of self.now store.now) }
         ensures live { OnOk result (IsTrue (list_any (λ s. s.handle == link) (links mask self.now))) }
     {
         self.check_device(store, device)?;
@@ -91,7 +91,7 @@ impl Objects {
     /// The place of a context, or the refusal: BadDevice, or BadHandle.
     pub fn context_place(&self, store: &Store, device: u32, context: u32) -> Result<usize, Refusal>
         requires { Fits self.now store.now }
-        ensures found { at_place result self.now.contexts ≡ owned_context device context (side_of self.now store.now) }
+        ensures found { at_place result self.now.contexts ≡ owned_context device context (core_side_of self.now store.now) }
         ensures within { IfOk result (λ place. place < length self.now.contexts) }
         ensures here { IfOk result (λ place. StandsAt context place self.now) }
     {
@@ -116,7 +116,7 @@ impl Objects {
     /// The place of the context in which an element lives, or the refusal: BadDevice, or BadHandle.
     pub fn element_place(&self, store: &Store, device: u32, element: u32) -> Result<usize, Refusal>
         requires { Fits self.now store.now }
-        ensures found { at_place result self.now.contexts ≡ owning_context device element (side_of self.now store.now) }
+        ensures found { at_place result self.now.contexts ≡ owning_context device element (core_side_of self.now store.now) }
         ensures within { IfOk result (λ place. place < length self.now.contexts) }
         ensures lives { IfOk result (λ place. LivesAt element place self.now) }
     {
@@ -128,7 +128,7 @@ impl Objects {
     /// A handle is 0 or that of a live element of the device.
     pub fn is_element_or_0(&self, store: &Store, device: u32, handle: u32) -> bool
         requires { Fits self.now store.now }
-        ensures { result ≡ is_element_or_0 device handle (side_of self.now store.now) }
+        ensures { result ≡ is_element_or_0 device handle (core_side_of self.now store.now) }
     {
         handle == 0 || self.element_in_device(store, device, handle).is_some()
     }

@@ -5,7 +5,7 @@ ghost use Rattle.std.specs.List.{list_any};
 ghost use Rattle.wf_scene.specs.Elements.{may_take};
 ghost use Rattle.wf_scene.specs.Values.{component, is_count, is_handle};
 ghost use Rattle.wf_model.specs.Core.{linked};
-ghost use Rattle.wf_objects.specs.Sides.{side_of};
+ghost use Rattle.wf_objects.specs.Sides.{core_side_of};
 ghost use Rattle.wf_objects.specs.Sights.{may_name, named_source};
 
 use crate::objects::Objects;
@@ -92,7 +92,7 @@ impl Objects {
         attr: ElementAttr,
         value: [i64; 4],
     ) -> Result<(), Refusal>
-        ensures checked { result ≡ linked attr device owner (component value 0) (side_of self.now store.now) }
+        ensures checked { result ≡ linked attr device owner (component value 0) (core_side_of self.now store.now) }
         ensures takes { OnOk result (IsTrue (may_take attr value)) }
     {
         let number = first(value);

@@ -7,7 +7,7 @@ ghost use Rattle.wf_model.specs.Core.{blank_scene, device_new, sources_full};
 ghost use Rattle.wf_objects.specs.Does.{Does, context_made, element_made, in_place, link_made};
 ghost use Rattle.wf_objects.specs.Fits.{Fits};
 ghost use Rattle.wf_objects.specs.Links.{link_kind, links, with_links};
-ghost use Rattle.wf_objects.specs.Sides.{side_of};
+ghost use Rattle.wf_objects.specs.Sides.{core_side_of};
 ghost use Rattle.wf_model.specs.Outcome.{lacks_memory, refused_handle, without_value};
 
 use crate::objects::{MOST_CONTEXTS, MOST_DEVICES, MOST_ELEMENTS, MOST_SOURCES, Objects};
@@ -55,7 +55,7 @@ fn blank_scene(size: Size) -> Scene
 impl Objects {
     /// As many sources and masks live as may, those of the display included.
     pub(crate) fn sources_full(&self, store: &Store) -> bool
-        ensures { result ≡ sources_full (side_of self.now store.now) }
+        ensures { result ≡ sources_full (core_side_of self.now store.now) }
     {
         let here = self.sources.len() + self.masks.len();
         let there = store.live(Kind::DisplaySource) as usize;

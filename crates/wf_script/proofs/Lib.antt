@@ -14,7 +14,7 @@ pub mod TableRow
 pub mod Additions
 pub mod Tokens
 pub mod Clean
-pub mod Joined
+pub mod Splitting
 pub mod Keys
 pub mod Numerals
 pub mod WordBack

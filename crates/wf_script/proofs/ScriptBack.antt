@@ -22,7 +22,7 @@ use Rattle.wf_script.specs.Grammar.{read_lines, read_script, script_of, sizes}
 use Rattle.wf_script.specs.Script.{PlainScript}
 use Rattle.wf_script.specs.Words.{Word, client_of, count_in, is_allowed, is_word, lines_of, without_comment, without_return, words_in}
 use Rattle.wf_script.proofs.Clean.{all_both, clean_is_plain, is_plain}
-use Rattle.wf_script.proofs.Joined.{allowed_line, are_plain, in_line, joined, no_comment_left, no_return_left, text_again, words_again}
+use Rattle.wf_script.proofs.Splitting.{allowed_line, are_plain, in_line, joined, no_comment_left, no_return_left, text_again, words_again}
 use Rattle.wf_script.proofs.LineBack.{clean_are_plain, client_word, client_word_clean, event_back, go, go_on, sizes_back}
 use Rattle.wf_script.proofs.Numerals.{count_back}
 use Rattle.wf_script.proofs.Sound.{at_line_ok}

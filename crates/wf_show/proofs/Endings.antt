@@ -11,8 +11,8 @@ use Rattle.wf_script.specs.declared.line.Line.{Line}
 use Rattle.wf_script.specs.declared.line.Verb.{Verb}
 use Rattle.wf_script.specs.declared.line.Verb.TheVariants as verb
 use Rattle.wf_script.specs.Script.{PlainScript}
-use Rattle.wf_turn.specs.declared.stage.Leg.{Leg}
-use Rattle.wf_turn.specs.declared.stage.Leg.TheVariants as leg
+use Rattle.wf_turn.specs.declared.stage.Phase.{Phase}
+use Rattle.wf_turn.specs.declared.stage.Phase.TheVariants as phase
 use Rattle.wf_turn.specs.declared.stage.Stage.{Stage}
 use Rattle.wf_turn.specs.declared.stage.Stage.TheVariants as stage
 use Rattle.wf_turn.specs.Program.{Program, answered, first_line, given_canvas, go_on, in_setup, is_work, line_done, painted_job, place_of}
@@ -42,7 +42,7 @@ Works ls q = q.unpainted ≡ true → IsToEnd ls q
 never : (ls : Rows) (q : Program) → q.unpainted ≡ false → Works ls q
 never ls q painted unpainted = absurd (let no : true ≡ false = sym unpainted ∙ painted in cc)
 
-job_works : (p : Program) (given : Payload) (l : Option Leg) → p.unpainted ≡ false → Works p.lines (took_job p given l)
+job_works : (p : Program) (given : Payload) (l : Option Phase) → p.unpainted ≡ false → Works p.lines (took_job p given l)
 job_works p (payload.Job job) l painted = λ unpainted. record { lines = refl; stage = refl }
 job_works p payload.Nothing l painted = never p.lines (go_on p l) (on_painted p painted l)
 job_works p (payload.Canvas canvas) l painted = never p.lines (go_on p l) (on_painted p painted l)
@@ -59,7 +59,7 @@ first_works p l (verb.Acquire s) reply painted = canvas_works p reply painted
 first_works p l verb.Post reply painted = canvas_works p reply painted
 first_works p l verb.Discard reply painted = canvas_works p reply painted
 first_works p l (verb.Frame s paint) reply painted = frame_works p paint (given_canvas reply.payload) painted
-first_works p l verb.Tick reply painted = job_works (ticking p) reply.payload (Some (leg.Contexts 1 reply.value)) painted
+first_works p l verb.Tick reply painted = job_works (ticking p) reply.payload (Some (phase.Contexts 1 reply.value)) painted
 first_works p l (verb.Compose d c) reply painted = job_works p reply.payload None painted
 first_works p l (verb.TryCompose d c) reply painted = job_works p reply.payload None painted
 first_works p l _ reply painted = never p.lines (line_done p reply.value) (done_painted p painted reply.value)

@@ -1,7 +1,7 @@
 -- The next call of a program, answered as the machine may answer it, is its client's turn.
 use Rattle.wf_turn.proofs.Common.{◌≡◌, ◌∙◌, ℕ, ◌+◌, Bool, false, ◌&&◌, List, [], ◌∷◌, ◌++◌, Option, Some, None, refl, sym, ap, Call, Code}
 use Rattle.wf_turn.proofs.Common.{Reply, Turn, Frame, entry, is_out_of_memory, is_running, State, step, is_marked, replay_from}
-use Rattle.wf_turn.proofs.Common.{replay_turn, Program, next, took, Show, answered, handed_on, program_at, set, turn}
+use Rattle.wf_turn.proofs.Common.{replay_turn, Program, next, took, Show, answered, inherited, program_at, set, turn}
 use Rattle.wf_turn.specs.declared.stage.Wanted.{Wanted}
 use Rattle.wf_calls.specs.Codes.{code_number}
 use Rattle.wf_machine.specs.Object.{MayAnswer, after}
@@ -14,7 +14,7 @@ abbrev built : Show → ℕ → State → Program × (ℕ → List Frame) → Tu
 built s client h o t = (
   record {
     state = h;
-    programs = handed_on s.programs (set s.programs client o.0);
+    programs = inherited s.programs (set s.programs client o.0);
     frames = s.frames ++ o.1 s.turns;
     turns = s.turns + 1;
   },

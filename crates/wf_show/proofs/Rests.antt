@@ -8,13 +8,13 @@ use Rattle.wf_turn.proofs.Common.{before, bound, first_line, given_canvas, go_on
 use Rattle.wf_turn.proofs.Common.{port_count, program, setup_lines, silent, skipped, ticking, took, took_at, took_first, took_frame}
 use Rattle.wf_turn.proofs.Common.{took_job}
 use Rattle.wf_turn.proofs.Common.{worked}
-use Rattle.wf_turn.specs.declared.stage.Leg.{Leg}
+use Rattle.wf_turn.specs.declared.stage.Phase.{Phase}
 use Rattle.wf_turn.specs.declared.stage.Stage.{Stage}
 use Rattle.std.proofs.lemmas.Bool.{and_from, leb-true, ltb-false}
 use Rattle.wf_calls.specs.declared.reply.Payload.TheVariants as payload
 use Rattle.wf_script.specs.declared.line.Verb.TheVariants as verb
 use Rattle.wf_turn.specs.Program.{answered}
-use Rattle.wf_turn.specs.declared.stage.Leg.TheVariants as leg
+use Rattle.wf_turn.specs.declared.stage.Phase.TheVariants as phase
 use Rattle.wf_turn.specs.declared.stage.Stage.TheVariants as stage
 
 abbrev pub Rows : Type 0
@@ -45,22 +45,22 @@ module _ (Q : Rows → Type 0) (tail : (l : ℕ × Line) (ls : Rows) → Q (l �
   port_keep : (p : Program) (port : ℕ) → Q p.lines → Q (at_port p port).lines
   port_keep p port q =
       elim (nat_lt (port_count p) port)
-      as (λ b. Q (cond b (line_done p 0) (record p { stage = stage.Ticking (leg.Ports port) })).lines) [
+      as (λ b. Q (cond b (line_done p 0) (record p { stage = stage.Ticking (phase.Ports port) })).lines) [
         | true ↦ done_keep p 0 q
         | false ↦ q
       ]
 
-  on_keep : (p : Program) (l : Option Leg) → Q p.lines → Q (go_on p l).lines
+  on_keep : (p : Program) (l : Option Phase) → Q p.lines → Q (go_on p l).lines
   on_keep p None q = done_keep p 0 q
-  on_keep p (Some (leg.Contexts asked last)) q =
+  on_keep p (Some (phase.Contexts asked last)) q =
       elim ((last == 0) || not (nat_lt asked 16))
-      as (λ b. Q (cond b (at_port p 1) (record p { stage = stage.Ticking (leg.Contexts asked last) })).lines) [
+      as (λ b. Q (cond b (at_port p 1) (record p { stage = stage.Ticking (phase.Contexts asked last) })).lines) [
         | true ↦ port_keep p 1 q
         | false ↦ q
       ]
-  on_keep p (Some (leg.Ports port)) q = port_keep p port q
+  on_keep p (Some (phase.Ports port)) q = port_keep p port q
 
-  job_keep : (p : Program) (given : Payload) (l : Option Leg) → Q p.lines → Q (took_job p given l).lines
+  job_keep : (p : Program) (given : Payload) (l : Option Phase) → Q p.lines → Q (took_job p given l).lines
   job_keep p (payload.Job job) l q = q
   job_keep p payload.Nothing l q = on_keep p l q
   job_keep p (payload.Canvas canvas) l q = on_keep p l q
@@ -74,7 +74,7 @@ module _ (Q : Rows → Type 0) (tail : (l : ℕ × Line) (ls : Rows) → Q (l �
   first_keep p l verb.Post reply q = done_keep (record p { canvas = given_canvas reply.payload }) 0 q
   first_keep p l verb.Discard reply q = done_keep (record p { canvas = given_canvas reply.payload }) 0 q
   first_keep p l (verb.Frame s paint) reply q = frame_keep p paint (given_canvas reply.payload) q
-  first_keep p l verb.Tick reply q = job_keep (ticking p) reply.payload (Some (leg.Contexts 1 reply.value)) q
+  first_keep p l verb.Tick reply q = job_keep (ticking p) reply.payload (Some (phase.Contexts 1 reply.value)) q
   first_keep p l (verb.Compose d c) reply q = job_keep p reply.payload None q
   first_keep p l (verb.TryCompose d c) reply q = job_keep p reply.payload None q
   first_keep p l _ reply q = done_keep p reply.value q

@@ -14,9 +14,9 @@ use Rattle.wf_turn.specs.declared.player.PlayStop.TheVariants as stop
 use Rattle.wf_turn.specs.Films.{CutsFrame, CutsJournal, CutsMagic, PlaysFilm}
 use Rattle.wf_turn.specs.Play.{IsLegal}
 use Rattle.wf_turn.specs.Program.{Program, place_of}
-use Rattle.wf_show.specs.declared.casting.Cast.{Cast}
+use Rattle.wf_show.specs.declared.players.Players.{Players}
 use Rattle.wf_show.specs.declared.player.Player.{Player}
-use Rattle.wf_show.specs.Casting.{IsCast}
+use Rattle.wf_show.specs.Opened.{ArePlayers}
 use Rattle.wf_show.specs.Clocks.{IsClock}
 use Rattle.wf_show.specs.Ends.{AllPlay, AreEnded, IsCut, IsFilmed, IsHistory, OthersThrough}
 use Rattle.wf_show.specs.Played.{Happening}
@@ -90,22 +90,23 @@ module _ (desk : TableId) (script : PlainScript) (ticks : list_all may_tick scri
 abbrev pub Closed : Player → List Player → List Turn → Type 0
 Closed clock others order = (h : List Happening) × (IsHistory clock.program.script clock others h × (order ≡ order_of h))
 
--- the same of a cast whose desk was closed
-module _ (script : PlainScript) (cast : Cast) (is_cast : IsCast script cast) (clock : Player) (is_clock : IsClock cast.desk.id clock)
-    (same : clock.program.script ≡ cast.clock.program.script) (old new : List Player) (old_is : old ≡ cast.others.items)
+-- the same of players whose desk was closed
+module _ (script : PlainScript) (opened : Players) (are_players : ArePlayers script opened) (clock : Player)
+    (is_clock : IsClock opened.desk.id clock)
+    (same : clock.program.script ≡ opened.clock.program.script) (old new : List Player) (old_is : old ≡ opened.others.items)
     (as_many : length new ≡ length old)
     (order : List Turn) (closed : Closed clock new order) where
   abbrev desk : TableId
-  desk = cast.desk.id
+  desk = opened.desk.id
 
   fresh_old : AreFresh desk script 1 old
-  fresh_old = subst (AreFresh desk script 1) (sym old_is) is_cast.others
+  fresh_old = subst (AreFresh desk script 1) (sym old_is) are_players.others
 
   seven_old : length old ≡ 7
-  seven_old = ap length old_is ∙ is_cast.seven
+  seven_old = ap length old_is ∙ are_players.seven
 
   of_script : clock.program.script ≡ script
-  of_script = same ∙ ap (λ (q : Program). q.script) is_cast.clock.program
+  of_script = same ∙ ap (λ (q : Program). q.script) are_players.clock.program
 
   seven_new : length new ≡ 7
   seven_new = as_many ∙ seven_old
@@ -128,7 +129,7 @@ module _ (script : PlainScript) (cast : Cast) (is_cast : IsCast script cast) (cl
   ends_well took form a b c writer all through filmed tail =
       let put : Puts took b c (tail_bytes (order_of closed.0)) = subst (λ o. Puts took b c (tail_bytes o)) closed.1.1 tail in
       subst (λ o. PlaysFilm took a c form script (Ok o)) (sym closed.1.1)
-      (whole_film desk script is_cast.ticks clock old new closed.0 is_clock of_script fresh_old seven_old seven_new behind took form
+      (whole_film desk script are_players.ticks clock old new closed.0 is_clock of_script fresh_old seven_old seven_new behind took form
       a b c writer all through filmed put)
 
   pub ends_in_tail : {K : Type 0} (took : K → List ℕ → Type 0) (form : FilmForm) (a b c : K) (writer : Writing) (written : ℕ)
@@ -140,22 +141,22 @@ module _ (script : PlainScript) (cast : Cast) (is_cast : IsCast script cast) (cl
       subst (λ o. PutsPart took b c writer.written (tail_bytes o) written) closed.1.1 part in
       subst (λ x. PlaysFilm took a c form script (Err x)) (sym is)
       (subst (λ o. PlaysFilm took a c form script (Err (stop.WriteFault written o))) (sym closed.1.1)
-      (cut_tail desk script is_cast.ticks clock old new closed.0 is_clock of_script fresh_old seven_old seven_new behind took form
+      (cut_tail desk script are_players.ticks clock old new closed.0 is_clock of_script fresh_old seven_old seven_new behind took form
       a b c writer written all through filmed put))
 
   pub ends_in_head : {K : Type 0} (took : K → List ℕ → Type 0) (form : FilmForm) (a b : K) (written : ℕ)
-      → AreEnded desk clock old new → IsCut took a b form written cast.clock clock → (r : PlayStop) → r ≡ stop.WriteFault written order
+      → AreEnded desk clock old new → IsCut took a b form written opened.clock clock → (r : PlayStop) → r ≡ stop.WriteFault written order
       → PlaysFilm took a b form script (Err r)
   ends_in_head took form a b written ended cut r is =
       subst (λ x. PlaysFilm took a b form script (Err x)) (sym is)
       (subst (λ o. PlaysFilm took a b form script (Err (stop.WriteFault written o))) (sym closed.1.1)
-      (cut_head desk script is_cast.ticks clock old new closed.0 is_clock of_script fresh_old seven_old seven_new behind took form
-      a b written cast.clock is_cast.clock ended cut))
+      (cut_head desk script are_players.ticks clock old new closed.0 is_clock of_script fresh_old seven_old seven_new behind took form
+      a b written opened.clock are_players.clock ended cut))
 
   pub ends_others : (written : ℕ) → AreEnded desk clock old new → (r : PlayStop) → r ≡ stop.WriteFault written order
       → OthersThrough script (Err r)
   ends_others written ended r is =
       subst (λ x. OthersThrough script (Err x)) (sym is)
       (subst (λ o. OthersThrough script (Err (stop.WriteFault written o))) (sym closed.1.1)
-      (others_through desk script is_cast.ticks clock old new closed.0 is_clock of_script fresh_old seven_old seven_new behind ended
+      (others_through desk script are_players.ticks clock old new closed.0 is_clock of_script fresh_old seven_old seven_new behind ended
       written))

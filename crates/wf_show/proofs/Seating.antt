@@ -10,7 +10,7 @@ use Rattle.wf_machine.specs.Object.{MayAnswer, after}
 use Rattle.wf_model.specs.State.{State, opening}
 use Rattle.wf_script.specs.Script.{PlainScript}
 use Rattle.wf_show.specs.declared.player.Player.{Player}
-use Rattle.wf_show.specs.Casting.{AreSeated, passes_of}
+use Rattle.wf_show.specs.Opened.{AreSeated, passes_of}
 use Rattle.wf_show.specs.Clocks.{IsClock}
 use Rattle.wf_show.specs.Ends.{AreEnded, IsHistory}
 use Rattle.wf_show.specs.Played.{Happening}

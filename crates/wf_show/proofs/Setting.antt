@@ -9,7 +9,7 @@ use Rattle.wf_film.specs.Film.{Frame}
 use Rattle.wf_machine.specs.Object.{MayAnswer, after}
 use Rattle.wf_turn.specs.Play.{replay_from}
 use Rattle.wf_turn.specs.Program.{Program, in_setup, took}
-use Rattle.wf_turn.specs.Turns.{Show, all_taught, answered, frames_of, handed_on, program_at}
+use Rattle.wf_turn.specs.Turns.{Show, all_taught, answered, frames_of, inherited, program_at}
 use Rattle.wf_turn.proofs.Serials.{nothing_replayed, replay_next}
 use Rattle.wf_show.proofs.NextTurns.{turn_is}
 use Rattle.wf_show.specs.Played.{Happening, IsPlayed, after_event, gone_on, program_after}
@@ -17,14 +17,14 @@ use Rattle.wf_show.specs.Shown.{frames_by, frames_in, order_of}
 use Rattle.wf_show.specs.Together.{IsSetup}
 use Rattle.wf_show.proofs.Merging.{and_false}
 
-pub nothing_handed : (clock : Program) (others : List Program) → handed_on (clock ∷ others) (clock ∷ others) ≡ clock ∷ others
-nothing_handed clock others =
+pub nothing_inherited : (clock : Program) (others : List Program) → inherited (clock ∷ others) (clock ∷ others) ≡ clock ∷ others
+nothing_inherited clock others =
     elim (in_setup clock) as (λ b. cond (b && not b) (all_taught (clock ∷ others)) (clock ∷ others) ≡ clock ∷ others) [
       | true ↦ refl
       | false ↦ refl
     ]
 
-still_setting : (clock q : Program) (others : List Program) → in_setup q ≡ true → handed_on (clock ∷ others) (q ∷ others) ≡ q ∷ others
+still_setting : (clock q : Program) (others : List Program) → in_setup q ≡ true → inherited (clock ∷ others) (q ∷ others) ≡ q ∷ others
 still_setting clock q others inside =
     ap (λ b. cond (in_setup clock && not b) (all_taught (q ∷ others)) (q ∷ others)) inside
     ∙ ap (λ b. cond b (all_taught (q ∷ others)) (q ∷ others)) (and_false (in_setup clock))
@@ -37,7 +37,7 @@ abbrev pub set_up : Show → Program → List Program → List Happening → Sho
 set_up s clock others es =
     record s {
       state = replay after s.state es;
-      programs = handed_on (clock ∷ others) (program_after 0 clock es ∷ others);
+      programs = inherited (clock ∷ others) (program_after 0 clock es ∷ others);
       frames = s.frames ++ frames_by s.turns 0 clock es;
       turns = s.turns + length es;
     }
@@ -55,7 +55,7 @@ module _ (s : Show) (clock : Program) (others : List Program) (e : Happening) (e
   stepped =
       record s {
         state = after s.state e.client e.call e.reply;
-        programs = handed_on (clock ∷ others) (q ∷ others);
+        programs = inherited (clock ∷ others) (q ∷ others);
         frames = s.frames ++ frames_of s.turns (took clock e.reply);
         turns = s.turns + 1;
       }
@@ -66,7 +66,7 @@ module _ (s : Show) (clock : Program) (others : List Program) (e : Happening) (e
       let s0 : Show = with_programs s (clock ∷ others) in
       let taken = turn_is s0 e.client clock e.call e.reply (ap (program_at s0) setup.0) (played.0 here) legal.0 in
       let is : (answered s0 e.client clock (after s.state e.client e.call e.reply, e.reply)).0 ≡ stepped =
-      ap (λ i. record stepped { programs = handed_on (clock ∷ others) (set (clock ∷ others) i q) }) setup.0 in
+      ap (λ i. record stepped { programs = inherited (clock ∷ others) (set (clock ∷ others) i q) }) setup.0 in
       replay_next s0 stepped t (order_of es) (taken ∙ ap (λ x. Some (x, t)) is)
 
   program : after_event 0 clock e ≡ q
@@ -80,11 +80,11 @@ pub setup_replayed : (es : List Happening) (s : Show) (clock : Program) (others 
     → replay_from (with_programs s (clock ∷ others)) (order_of es) ≡ Some (set_up s clock others es)
 setup_replayed [] s clock others setup played legal =
     nothing_replayed (with_programs s (clock ∷ others))
-    ∙ ap (λ ps. Some (with_programs s ps)) (sym (nothing_handed clock others))
-    ∙ ap (λ (fs : List Frame). Some (record s { programs = handed_on (clock ∷ others) (clock ∷ others); frames = fs }))
+    ∙ ap (λ ps. Some (with_programs s ps)) (sym (nothing_inherited clock others))
+    ∙ ap (λ (fs : List Frame). Some (record s { programs = inherited (clock ∷ others) (clock ∷ others); frames = fs }))
     (sym (append-nil s.frames))
     ∙ (let same : s.turns ≡ s.turns + 0 = omega arith in ap (λ n. Some (record s {
-      programs = handed_on (clock ∷ others) (clock ∷ others);
+      programs = inherited (clock ∷ others) (clock ∷ others);
       frames = s.frames ++ [];
       turns = n;
     })) same)
@@ -93,9 +93,9 @@ setup_replayed (e ∷ []) s clock others setup played legal =
     let p1 = program s clock others e [] setup played legal in
     let f1 = shown s clock others e [] setup played legal in
     steps s clock others e [] setup played legal ∙ nothing_replayed s1
-    ∙ ap (λ x. Some (record s1 { programs = handed_on (clock ∷ others) (x ∷ others) })) (sym p1)
+    ∙ ap (λ x. Some (record s1 { programs = inherited (clock ∷ others) (x ∷ others) })) (sym p1)
     ∙ ap (λ (fs : List Frame). Some (record s1 {
-      programs = handed_on (clock ∷ others) (after_event 0 clock e ∷ others);
+      programs = inherited (clock ∷ others) (after_event 0 clock e ∷ others);
       frames = s.frames ++ fs;
     })) (sym (append-nil (frames_in s.turns 0 clock e) ∙ f1))
 setup_replayed (e ∷ d ∷ ds) s clock others setup played legal =
@@ -111,7 +111,7 @@ setup_replayed (e ∷ d ∷ ds) s clock others setup played legal =
     } in
     let inside : in_setup r ≡ true = setup.2.1 in
     let last : Program = program_after 0 r es in
-    let both : handed_on (r ∷ others) (last ∷ others) ≡ handed_on (clock ∷ others) (last ∷ others) =
+    let both : inherited (r ∷ others) (last ∷ others) ≡ inherited (clock ∷ others) (last ∷ others) =
     ap (λ b. cond (b && not (in_setup last)) (all_taught (last ∷ others)) (last ∷ others)) (inside ∙ sym setup.1) in
     let end : Show = record s1 { state = replay after s1.state es; turns = s1.turns + length es } in
     let count : s.turns + 1 + length es ≡ s.turns + length (e ∷ es) = omega arith in
@@ -120,16 +120,16 @@ setup_replayed (e ∷ d ∷ ds) s clock others setup played legal =
     ∙ setup_replayed (d ∷ ds) s1 r others setup.2 (subst (λ x. IsPlayed 0 s1.state x es) p1 played.1) legal.1
     ∙ ap (λ ps. Some (record end { programs = ps; frames = s1.frames ++ frames_by s1.turns 0 r es })) both
     ∙ ap (λ x. Some (record end {
-      programs = handed_on (clock ∷ others) (program_after 0 x es ∷ others);
+      programs = inherited (clock ∷ others) (program_after 0 x es ∷ others);
       frames = s1.frames ++ frames_by s1.turns 0 x es;
     })) (sym p1)
     ∙ ap (λ (fs : List Frame). Some (record end {
-      programs = handed_on (clock ∷ others) (program_after 0 clock (e ∷ es) ∷ others);
+      programs = inherited (clock ∷ others) (program_after 0 clock (e ∷ es) ∷ others);
       frames = fs;
     })) (append_assoc s.frames (frames_of s.turns (took clock e.reply)) (frames_by s1.turns 0 (after_event 0 clock e) es)
     ∙ ap (λ (fs : List Frame). s.frames ++ (fs ++ frames_by s1.turns 0 (after_event 0 clock e) es)) (sym f1))
     ∙ ap (λ n. Some (record end {
-      programs = handed_on (clock ∷ others) (program_after 0 clock (e ∷ es) ∷ others);
+      programs = inherited (clock ∷ others) (program_after 0 clock (e ∷ es) ∷ others);
       frames = s.frames ++ frames_by s.turns 0 clock (e ∷ es);
       turns = n;
     })) count

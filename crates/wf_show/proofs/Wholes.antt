@@ -12,7 +12,7 @@ use Rattle.wf_model.specs.State.{State, opening}
 use Rattle.wf_script.specs.Script.{PlainScript}
 use Rattle.wf_turn.specs.Play.{frames_after, over_after, replay_from}
 use Rattle.wf_turn.specs.Program.{Program, in_setup, place_of, program, setup_lines, setup_names, taught}
-use Rattle.wf_turn.specs.Turns.{Show, all_taught, handed_on, is_over, opening_show}
+use Rattle.wf_turn.specs.Turns.{Show, all_taught, inherited, is_over, opening_show}
 use Rattle.wf_turn.proofs.Keeping.{same_script}
 use Rattle.wf_show.proofs.Rests.{IsRising, behind, opening_rise, past_setup, rise_on}
 use Rattle.wf_show.proofs.Stills.{opening_still}
@@ -23,7 +23,7 @@ use Rattle.wf_show.specs.Together.{AllBelow, IsOrderOf, IsSetup, IsTogether, pro
 use Rattle.wf_show.proofs.Histories.{program_after-append, untouched}
 use Rattle.wf_show.proofs.Parts.{frames_by-append, legal_parts, order_of-append, played_parts}
 use Rattle.wf_show.proofs.Merging.{AllGo, Goes, IsMerged, merged, one_is}
-use Rattle.wf_show.proofs.Setting.{no_events, nothing_handed, set_up, setup_replayed}
+use Rattle.wf_show.proofs.Setting.{no_events, nothing_inherited, set_up, setup_replayed}
 
 below_parts : (n : ℕ) (xs ys : List Happening) → AllBelow n (xs ++ ys) → AllBelow n ys
 below_parts n [] ys all = all
@@ -82,11 +82,11 @@ module _ (script : PlainScript) (first rest : List Happening) (whole : IsTogethe
   abbrev untaught : List Program
   untaught = map (program script) (range_with_len 1 7)
 
-  abbrev cast : List Program
-  cast = clock_now ∷ map (taught clock_now) untaught
+  abbrev opened : List Program
+  opened = clock_now ∷ map (taught clock_now) untaught
 
-  handed_is : handed_on (start ∷ untaught) (clock_now ∷ untaught) ≡ cast
-  handed_is = of_setup first refl
+  inherited_is : inherited (start ∷ untaught) (clock_now ∷ untaught) ≡ opened
+  inherited_is = of_setup first refl
     where
       same_all : (ps : List Program) → ((c : ℕ) (p : Program) → slice_get ps c ≡ Some p → taught start p ≡ p) → map (taught start) ps ≡ ps
       same_all [] each = refl
@@ -94,16 +94,16 @@ module _ (script : PlainScript) (first rest : List Happening) (whole : IsTogethe
           ap (λ x. x ∷ map (taught start) ps) (each 0 p refl) ∙ ap (λ xs. p ∷ xs) (same_all ps (λ c q at. each (suc c) q at))
 
       -- there was no setup
-      none : first ≡ [] → handed_on (start ∷ untaught) (clock_now ∷ untaught) ≡ cast
+      none : first ≡ [] → inherited (start ∷ untaught) (clock_now ∷ untaught) ≡ opened
       none empty =
           let now : clock_now ≡ start = ap (program_after 0 start) empty in
           let same : map (taught start) untaught ≡ untaught = same_all untaught (λ c p at. (
           let r = ranged (program script) 1 7 c p at in
           subst (λ x. taught start x ≡ x) r.1 (fresh_taught script (1 + c)))) in
-          subst (λ x. handed_on (start ∷ untaught) (x ∷ untaught) ≡ x ∷ map (taught x) untaught) (sym now)
-          (nothing_handed start untaught ∙ ap (λ xs. start ∷ xs) (sym same))
+          subst (λ x. inherited (start ∷ untaught) (x ∷ untaught) ≡ x ∷ map (taught x) untaught) (sym now)
+          (nothing_inherited start untaught ∙ ap (λ xs. start ∷ xs) (sym same))
 
-      of_setup : (es : List Happening) → first ≡ es → handed_on (start ∷ untaught) (clock_now ∷ untaught) ≡ cast
+      of_setup : (es : List Happening) → first ≡ es → inherited (start ∷ untaught) (clock_now ∷ untaught) ≡ opened
       of_setup [] is = none is
       of_setup (e ∷ es) is =
           let setup : IsSetup start (e ∷ es) = subst (IsSetup start) is whole.setting in
@@ -112,7 +112,7 @@ module _ (script : PlainScript) (first rest : List Happening) (whole : IsTogethe
           ∙ ap (λ b. cond (not b) taught_all (clock_now ∷ untaught)) whole.over
 
   abbrev middle : Show
-  middle = record (set_up (opening_show script) start untaught first) { programs = cast }
+  middle = record (set_up (opening_show script) start untaught first) { programs = opened }
 
   clock_of : (es : List Happening) (p : Program) → p.script ≡ script → IsRising p.lines
       → ((program_after 0 p es).script ≡ script) × IsRising (program_after 0 p es).lines
@@ -185,7 +185,7 @@ module _ (script : PlainScript) (first rest : List Happening) (whole : IsTogethe
       let played = played_parts 0 opens start first rest (whole.played 0 (omega arith)) in
       let reached : replay_from (opening_show script) (order_of first) ≡ Some middle =
       setup_replayed first (opening_show script) start untaught whole.setting played.0 legal.0
-      ∙ ap (λ ps. Some (record middle { programs = ps })) handed_is in
+      ∙ ap (λ ps. Some (record middle { programs = ps })) inherited_is in
       let on = merged script rest middle all_go (below_parts 8 first rest whole.eight) (omega arith) legal.1 in
       record {
         last = on.last;

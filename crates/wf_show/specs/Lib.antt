@@ -6,4 +6,4 @@ pub mod Together
 pub mod Players
 pub mod Clocks
 pub mod Ends
-pub mod Casting
+pub mod Opened

@@ -2,7 +2,7 @@
 
 ghost use Rattle.std.specs.Prelude.{◌≡◌, ◌≤◌, [], List, length, vec_capacity};
 ghost use Rattle.wf_model.specs.State.{opening};
-ghost use Rattle.wf_show.specs.Casting.{AreSeated, passes_of};
+ghost use Rattle.wf_show.specs.Opened.{AreSeated, passes_of};
 ghost use Rattle.wf_show.specs.Ends.{IsHistory};
 ghost use Rattle.wf_show.specs.Played.{Happening};
 ghost use Rattle.wf_show.specs.Shown.{order_of};

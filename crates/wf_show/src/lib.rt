@@ -1,7 +1,6 @@
 //! Clients on threads, which share one machine by a desk.
 #![tactic(auto)]
 
-mod casting;
 mod client;
 mod clock;
 mod closing;
@@ -9,6 +8,7 @@ mod gate;
 mod laws;
 mod painting;
 mod player;
+mod players;
 mod playing;
 mod teaching;
 mod together;

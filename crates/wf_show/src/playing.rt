@@ -9,11 +9,11 @@ ghost use Rattle.wf_show.specs.Ends.{AllPlay, AreEnded, IsCut, IsFilmed, OthersT
 ghost use Rattle.wf_show.specs.Players.{AreFresh, IsFresh};
 ghost use Rattle.wf_show.specs.Together.{IsSettingUp};
 
-use crate::casting::Cast;
 use crate::clock::set_up;
 use crate::closing::close;
 use crate::gate::Gate;
 use crate::player::{Player, run_all};
+use crate::players::Players;
 use crate::teaching::teach;
 use crate::together::play_together;
 use std::alloc::Global;
@@ -112,16 +112,16 @@ pub fn threaded<R: Threads + Wait + Sync, K: Sink, G: Gate>(
     ensures others { OthersThrough script.now result }
     ensures caused { IsCaused (K.faults k.old) (K.faults k.new) result }
 {
-    let cast = match Cast::open(alloc, script) {
-        Ok(cast) => cast,
+    let opened = match Players::open(alloc, script) {
+        Ok(opened) => opened,
         Err(_) => return Err(PlayStop::NoMemory),
     };
-    let Cast {
+    let Players {
         desk,
         mut clock,
         mut others,
         ended,
-    } = cast;
+    } = opened;
     let played = play_all(rt, &desk, gate, form, &mut clock, rows, k, &mut others);
     let order = close(desk, clock, others, ended);
     match played {

@@ -4,8 +4,8 @@ use Rattle.std.proofs.Common.{IsTrue, refl, ap, ◌∙◌, arith}
 use Rattle.std.proofs.lemmas.Bool.Decides.{nat_tests}
 use Rattle.wf_life.specs.Handles.{Live, IsRising, is_live, without}
 use Rattle.wf_stream.specs.Streams.{KeptStream, stream_of, number_of, unnamed}
-use Rattle.wf_stream.specs.Joined.{is_of_stream, stream_handles, others_of, live_streams}
-use Rattle.wf_stream.proofs.Joined.{live_above, rising_filter, live_entries, unnamed_none}
+use Rattle.wf_stream.specs.CrossReferences.{is_of_stream, stream_handles, others_of, live_streams}
+use Rattle.wf_stream.proofs.CrossReferences.{live_above, rising_filter, live_entries, unnamed_none}
 
 -- a handle among those of a kind is not among the others
 live_once : (low high h : ℕ) (p : Live → Bool) (live : List Live) → IsRising low live high → is_live h (filter p live) ≡ true

@@ -1,6 +1,6 @@
-pub mod Shelves
+pub mod StreamTables
 pub mod Sizes
-pub mod Joined
+pub mod CrossReferences
 pub mod Apart
 pub mod Marks
 pub mod Swept

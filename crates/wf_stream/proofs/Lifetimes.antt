@@ -10,8 +10,8 @@ use Rattle.wf_life.specs.Pool.{kept_at, count_at, count_of, IsKept, with_value, 
 use Rattle.wf_stream.specs.declared.streams.Place.{Place}
 use Rattle.wf_stream.specs.Buffers.{Buffers}
 use Rattle.wf_stream.specs.Placed.{placed}
-use Rattle.wf_stream.specs.Shelf.{HasNone, KeepsNoOther, AreSole}
-use Rattle.wf_stream.proofs.Shelves.{Slots, Places, at, AgreeBut, KeepsKey, set_agrees, kept_inside, lent_slot}
+use Rattle.wf_stream.specs.StreamTable.{HasNone, KeepsNoOther, AreSole}
+use Rattle.wf_stream.proofs.StreamTables.{Slots, Places, at, AgreeBut, KeepsKey, set_agrees, kept_inside, lent_slot}
 
 -- by whether two keys are one
 by_key : (P : Type 0) (k key : ℕ) → (k ≡ key → P) → (k ≢ key → P) → P

@@ -7,16 +7,17 @@ use Rattle.wf_words.specs.Keyed.{is_in}
 use Rattle.wf_stream.specs.declared.streams.Place.{Place}
 use Rattle.wf_stream.specs.Streams.{IsNumbered, stream_at, is_own, first_unmarked, names_of}
 use Rattle.wf_stream.specs.Placed.{placed, with_handle, with_mark, remarked}
-use Rattle.wf_stream.specs.Shelf.{kept_stream, is_marked_or_own, shelved, marks_of, AreKept, HasNone, KeepsNoOther, AreSole, AreApart}
-use Rattle.wf_stream.proofs.Shelves.{Slots, Places, at, numbered_room}
+use Rattle.wf_stream.specs.StreamTable.{kept_stream, is_marked_or_own, streams_in, marks_of, AreKept, HasNone, KeepsNoOther}
+use Rattle.wf_stream.specs.StreamTable.{AreSole, AreApart}
+use Rattle.wf_stream.proofs.StreamTables.{Slots, Places, at, numbered_room}
 
 -- an entry whose place is not marked
 abbrev pub is_bare : ℕ × Place → Bool
 is_bare e = not e.1.marked
 
--- what is left of the shelf where each place is marked by a test of it
+-- what is left of the table where each place is marked by a test of it
 
-pub remarked_view : (t : Place → Bool) (p : Slots) (es : Places) → shelved p (remarked t es) ≡ shelved p es
+pub remarked_view : (t : Place → Bool) (p : Slots) (es : Places) → streams_in p (remarked t es) ≡ streams_in p es
 remarked_view t p [] = refl
 remarked_view t p (e ∷ es) = ap (λ ss. kept_stream p e ∷ ss) (remarked_view t p es)
 
@@ -50,7 +51,7 @@ cleared_marks (e ∷ es) = cleared_marks es
 
 -- and the numbers of those that have names of their own are marks too, where those are marked
 pub marks_own : (n : ℕ) (p : Slots) (es : Places) → is_in n (marks_of (remarked (is_marked_or_own p) es))
-    ≡ (is_in n (marks_of es) || is_own n (shelved p es))
+    ≡ (is_in n (marks_of es) || is_own n (streams_in p es))
 marks_own n p [] = refl
 marks_own n p (e ∷ es) =
     let later = marks_own n p es in
@@ -59,14 +60,14 @@ marks_own n p (e ∷ es) =
 -- where one place is marked
 
 -- the streams stay as they were
-pub mark_view : (n : ℕ) (b : Bool) (p : Slots) (es : Places) → shelved p (placed n (with_mark b) es) ≡ shelved p es
+pub mark_view : (n : ℕ) (b : Bool) (p : Slots) (es : Places) → streams_in p (placed n (with_mark b) es) ≡ streams_in p es
 mark_view n b p [] = refl
 mark_view n b p (e ∷ es) =
-    elim (at n e.0) as (λ c. shelved p (cond c ((e.0, with_mark b e.1) ∷ es) (e ∷ placed n (with_mark b) es))
-    ≡ shelved p (e ∷ es)) [ true ↦ refl | false ↦ ap (λ ss. kept_stream p e ∷ ss) (mark_view n b p es) ]
+    elim (at n e.0) as (λ c. streams_in p (cond c ((e.0, with_mark b e.1) ∷ es) (e ∷ placed n (with_mark b) es))
+    ≡ streams_in p (e ∷ es)) [ true ↦ refl | false ↦ ap (λ ss. kept_stream p e ∷ ss) (mark_view n b p es) ]
 
 -- and that number is a mark too
-pub marks_marked : (m n : ℕ) (p : Slots) (es : Places) → IsSome (stream_at n (shelved p es))
+pub marks_marked : (m n : ℕ) (p : Slots) (es : Places) → IsSome (stream_at n (streams_in p es))
     → is_in m (marks_of (placed n (with_mark true) es)) ≡ (is_in m (marks_of es) || (n == m))
 marks_marked m n p [] kept = cc
 marks_marked m n p (e ∷ es) kept =
@@ -89,14 +90,15 @@ marks_push (x ∷ es) e new =
     grind (arith, later)
 
 -- a number above all others, or below them, is no mark
-pub marks_above : (low high n : ℕ) (p : Slots) (es : Places) → IsNumbered low (shelved p es) high → high < n → is_in n (marks_of es) ≡ false
+pub marks_above : (low high n : ℕ) (p : Slots) (es : Places) → IsNumbered low (streams_in p es) high → high < n
+    → is_in n (marks_of es) ≡ false
 marks_above low high n p [] rising above = refl
 marks_above low high n p (e ∷ es) rising above =
     let later = marks_above e.0 high n p es rising.1 above in
-    let room = numbered_room e.0 high (shelved p es) rising.1 in
+    let room = numbered_room e.0 high (streams_in p es) rising.1 in
     grind (arith, nat_tests, later, room)
 
-marks_below : (low high n : ℕ) (p : Slots) (es : Places) → IsNumbered low (shelved p es) high → n ≤ low → is_in n (marks_of es) ≡ false
+marks_below : (low high n : ℕ) (p : Slots) (es : Places) → IsNumbered low (streams_in p es) high → n ≤ low → is_in n (marks_of es) ≡ false
 marks_below low high n p [] rising under = refl
 marks_below low high n p (e ∷ es) rising under =
     let first = rising.0 in
@@ -117,14 +119,15 @@ AreMarks marks [] = Unit {0}
 AreMarks marks (e ∷ es) = (is_in e.0 marks ≡ e.1.marked) × AreMarks marks es
 
 first_of : (p : Slots) (marks : List ℕ) (es : Places) → AreMarks marks es
-    → first_unmarked marks (shelved p es) ≡ option_map (kept_stream p) (find is_bare es)
+    → first_unmarked marks (streams_in p es) ≡ option_map (kept_stream p) (find is_bare es)
 first_of p marks [] are = refl
 first_of p marks (e ∷ es) are =
     let here = are.0 in
     let later = first_of p marks es are.1 in
     grind (arith, here, later)
 
-marks_more : (low high n : ℕ) (p : Slots) (marks : List ℕ) (es : Places) → IsNumbered low (shelved p es) high → n ≤ low → AreMarks marks es
+marks_more : (low high n : ℕ) (p : Slots) (marks : List ℕ) (es : Places) → IsNumbered low (streams_in p es) high
+    → n ≤ low → AreMarks marks es
     → AreMarks (n ∷ marks) es
 marks_more low high n p marks [] rising under are = tt
 marks_more low high n p marks (e ∷ es) rising under are =
@@ -134,7 +137,7 @@ marks_more low high n p marks (e ∷ es) rising under are =
     let head : is_in e.0 (n ∷ marks) ≡ e.1.marked = grind (arith, other, here) in
     (head, marks_more e.0 high n p marks es rising.1 (omega (arith, first)) are.1)
 
-marks_are : (low high : ℕ) (p : Slots) (es : Places) → IsNumbered low (shelved p es) high → AreMarks (marks_of es) es
+marks_are : (low high : ℕ) (p : Slots) (es : Places) → IsNumbered low (streams_in p es) high → AreMarks (marks_of es) es
 marks_are low high p [] rising = tt
 marks_are low high p (e ∷ es) rising =
     let later = marks_are e.0 high p es rising.1 in
@@ -149,8 +152,8 @@ marks_are low high p (e ∷ es) rising =
     ]
 
 -- is that of the first stream that is not marked
-first_view : (low high : ℕ) (p : Slots) (es : Places) → IsNumbered low (shelved p es) high
-    → first_unmarked (marks_of es) (shelved p es) ≡ option_map (kept_stream p) (find is_bare es)
+first_view : (low high : ℕ) (p : Slots) (es : Places) → IsNumbered low (streams_in p es) high
+    → first_unmarked (marks_of es) (streams_in p es) ≡ option_map (kept_stream p) (find is_bare es)
 first_view low high p es rising = first_of p (marks_of es) es (marks_are low high p es rising)
 
 -- the number and the handle of an entry
@@ -162,6 +165,6 @@ named_once p None = refl
 named_once p (Some e) = refl
 
 -- and names the same
-pub first_names : (low high : ℕ) (p : Slots) (es : Places) → IsNumbered low (shelved p es) high
-    → option_map names_of (first_unmarked (marks_of es) (shelved p es)) ≡ option_map entry_names (find is_bare es)
+pub first_names : (low high : ℕ) (p : Slots) (es : Places) → IsNumbered low (streams_in p es) high
+    → option_map names_of (first_unmarked (marks_of es) (streams_in p es)) ≡ option_map entry_names (find is_bare es)
 first_names low high p es rising = ap (option_map names_of) (first_view low high p es rising) ∙ named_once p (find is_bare es)

@@ -6,9 +6,10 @@ use Rattle.wf_words.specs.Keyed.{is_in}
 use Rattle.wf_life.specs.Handles.{Live, IsRising, is_live, without}
 use Rattle.wf_stream.specs.Streams.{KeptStream, IsNumbered, stream_at, stream_of, number_of, handle_at, hand_over, under_handle}
 use Rattle.wf_stream.specs.Streams.{without_number, first_unmarked, names_of}
-use Rattle.wf_stream.specs.Joined.{stream_handles, live_streams}
-use Rattle.wf_stream.proofs.Shelves.{change_below}
-use Rattle.wf_stream.proofs.Joined.{handle_other, rest_of_streams, live_entries, rising_streams, unnamed_found, killed_tied, bare_same}
+use Rattle.wf_stream.specs.CrossReferences.{stream_handles, live_streams}
+use Rattle.wf_stream.proofs.StreamTables.{change_below}
+use Rattle.wf_stream.proofs.CrossReferences.{handle_other, rest_of_streams, live_entries, rising_streams, unnamed_found}
+use Rattle.wf_stream.proofs.CrossReferences.{killed_tied, bare_same}
 
 -- the stream of a number that has a handle is found by it
 pub found_live : (h n : ℕ) (streams : List KeptStream) → handle_at n streams ≡ Some h → 0 < h → IsSome (stream_of h streams)

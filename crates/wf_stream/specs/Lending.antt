@@ -2,7 +2,7 @@
 use Rattle.std.specs.Prelude.{ℕ, List, Option}
 use Rattle.std.specs.Borrow.{LendsIf, Fml, MutBor}
 use Rattle.wf_stream.specs.Buffers.{Buffers}
-use Rattle.wf_stream.specs.Streams.{KeptStream, Shelf, StoreView, change_stream}
+use Rattle.wf_stream.specs.Streams.{KeptStream, StreamTable, StoreView, change_stream}
 use Rattle.wf_stream.specs.contracts.store.Store as store
 use Rattle.wf_stream.specs.contracts.stream.Stream as stream
 use Rattle.wf_stream.specs.contracts.streams.Streams as streams
@@ -12,11 +12,11 @@ abbrev pub with_buffers : ℕ → List KeptStream → Buffers → List KeptStrea
 with_buffers number all buffers = change_stream number (λ _. buffers) all
 
 -- the same with the marks
-abbrev pub with_shelf_buffers : ℕ → Shelf → Buffers → Shelf
-with_shelf_buffers number shelf buffers = record shelf { streams = with_buffers number shelf.streams buffers }
+abbrev pub with_table_buffers : ℕ → StreamTable → Buffers → StreamTable
+with_table_buffers number table buffers = record table { streams = with_buffers number table.streams buffers }
 
-abbrev pub lends_one : MutBor Shelf → ℕ → Option (MutBor Buffers) → Fml
-lends_one all number r = LendsIf streams.the_row stream.the_row all r (with_shelf_buffers number all.now) all.now
+abbrev pub lends_one : MutBor StreamTable → ℕ → Option (MutBor Buffers) → Fml
+lends_one all number r = LendsIf streams.the_row stream.the_row all r (with_table_buffers number all.now) all.now
 
 abbrev pub with_stream_buffers : ℕ → StoreView → Buffers → StoreView
 with_stream_buffers number v buffers = record v { streams = with_buffers number v.streams buffers }

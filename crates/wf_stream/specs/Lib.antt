@@ -3,7 +3,7 @@ pub mod Buffers
 pub mod Inside
 pub mod Streams
 pub mod Placed
-pub mod Shelf
-pub mod Joined
+pub mod StreamTable
+pub mod CrossReferences
 pub mod Lending
 pub mod Marks

@@ -46,7 +46,7 @@ impl Model for Store {
 
     ghost Value = { StoreView };
 
-    ghost use Rattle.wf_stream.specs.Joined.{store_of, IsSound};
+    ghost use Rattle.wf_stream.specs.CrossReferences.{store_of, IsSound};
 
     ghost view = { store_of };
 

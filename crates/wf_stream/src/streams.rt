@@ -31,13 +31,13 @@ pub(crate) struct Streams {
 }
 
 impl Model for Streams {
-    ghost use Rattle.wf_stream.specs.Streams.{Shelf};
+    ghost use Rattle.wf_stream.specs.Streams.{StreamTable};
 
-    ghost Value = { Shelf };
+    ghost Value = { StreamTable };
 
-    ghost use Rattle.wf_stream.specs.Shelf.{shelf_of, IsSound};
+    ghost use Rattle.wf_stream.specs.StreamTable.{stream_table, IsSound};
 
-    ghost view = { shelf_of };
+    ghost view = { stream_table };
 
     ghost invariant = { IsSound };
 }
@@ -179,7 +179,7 @@ impl Streams {
 }
 
 ghost use Rattle.wf_stream.specs.Placed.{placed, with_handle, with_mark, remarked};
-ghost use Rattle.wf_stream.specs.Shelf.{pooled, is_marked_or_own};
+ghost use Rattle.wf_stream.specs.StreamTable.{pooled, is_marked_or_own};
 
 /// Puts the place of a number under this handle, where there is one.
 fn set_handle(places: &mut BTreeMap<u32, Place>, number: u32, handle: u32)

@@ -1,20 +1,20 @@
 -- The answer of the machine and that of the plain machine come to the same, once the Job is painted.
 use Rattle.wf_turn.proofs.Common.{◌≡◌, ◌∙◌, ℕ, ◌+◌, Bool, true, false, List, Option, Some, None, refl, ap, Format, Scene}
-use Rattle.wf_turn.proofs.Common.{Job, JobKind, Payload, Reply, is_ok_code, Frame, SamePayload, Images, Line, Verb, Leg, Stage, Program}
-use Rattle.wf_turn.proofs.Common.{first_line, given_canvas, handed, kept_first, painted_job, line_done, ticking, took, took_at, took_canvas}
-use Rattle.wf_turn.proofs.Common.{took_first, took_frame, took_job, took_leg, worked, frames_of, shown}
+use Rattle.wf_turn.proofs.Common.{Job, JobKind, Payload, Reply, is_ok_code, Frame, SamePayload, Images, Line, Verb, Phase, Stage, Program}
+use Rattle.wf_turn.proofs.Common.{first_line, given_canvas, issued, kept_first, painted_job, line_done, ticking, took, took_at, took_canvas}
+use Rattle.wf_turn.proofs.Common.{took_first, took_frame, took_job, took_phase, worked, frames_of, shown}
 use Rattle.wf_calls.specs.declared.call.JobKind.TheVariants as kind
 use Rattle.wf_calls.specs.declared.reply.Payload.TheVariants as payload
 use Rattle.wf_machine.specs.Object.{SameImage, SameJob}
 use Rattle.wf_model.specs.Picture.{picture}
 use Rattle.wf_script.specs.declared.line.Verb.TheVariants as verb
-use Rattle.wf_turn.specs.declared.stage.Leg.TheVariants as leg
+use Rattle.wf_turn.specs.declared.stage.Phase.TheVariants as phase
 use Rattle.wf_turn.specs.declared.stage.Stage.TheVariants as stage
 use Rattle.wf_turn.specs.Program.{kept_canvas, kept_job}
 
 -- what a call carried out is no longer asked for
-pub took_handed : (p : Program) (reply : Reply) → took (handed p) reply ≡ took p reply
-took_handed p reply = of_line (first_line p) refl
+pub took_issued : (p : Program) (reply : Reply) → took (issued p) reply ≡ took p reply
+took_issued p reply = of_line (first_line p) refl
   where
     of_verb : (l : Line) (v : Verb) → took_first (record p { canvas = kept_first v p.canvas }) (record l { verb = v }) reply
         ≡ took_first p (record l { verb = v }) reply
@@ -29,7 +29,7 @@ took_handed p reply = of_line (first_line p) refl
     of_stage l (stage.Ticking m) = refl
     of_stage l (stage.Ending m) = refl
 
-    of_line : (o : Option Line) → first_line p ≡ o → took (handed p) reply ≡ took p reply
+    of_line : (o : Option Line) → first_line p ≡ o → took (issued p) reply ≡ took p reply
     of_line None none = rw none refl
     of_line (Some l) is = rw is (of_stage l p.stage)
 
@@ -64,7 +64,7 @@ same_canvas is_new given (payload.Canvas canvas) same = ap given_canvas same
 abbrev pub outcome : Program → Program × (ℕ → List Frame)
 outcome p = (worked p, λ begin. frames_of begin p)
 
-same_job : (p : Program) (is_new : Bool) (given wanted : Payload) (l : Option Leg) → SamePayload is_new wanted given
+same_job : (p : Program) (is_new : Bool) (given wanted : Payload) (l : Option Phase) → SamePayload is_new wanted given
     → outcome (took_job p given l) ≡ outcome (took_job p wanted l)
 same_job p is_new (payload.Job job) (payload.Job wanted) l same =
     let of : JobKind → Job → Program
@@ -82,11 +82,12 @@ module _ (p : Program) (given wanted : Reply) (same : IsSame given wanted) where
   with_canvas : outcome (took_canvas p given.payload) ≡ outcome (took_canvas p wanted.payload)
   with_canvas = ap (λ c. outcome (line_done (record p { canvas = c }) 0)) canvas_is
 
-  same_leg : (l : Leg) → outcome (took_leg p given l) ≡ outcome (took_leg p wanted l)
-  same_leg (leg.Contexts asked last) =
-      ap (λ v. outcome (took_job p given.payload (Some (leg.Contexts (asked + 1) v)))) same.value
-      ∙ same_job p (is_ok_code given.code) given.payload wanted.payload (Some (leg.Contexts (asked + 1) wanted.value)) same.payload
-  same_leg (leg.Ports port) = same_job p (is_ok_code given.code) given.payload wanted.payload (Some (leg.Ports (port + 1))) same.payload
+  same_phase : (l : Phase) → outcome (took_phase p given l) ≡ outcome (took_phase p wanted l)
+  same_phase (phase.Contexts asked last) =
+      ap (λ v. outcome (took_job p given.payload (Some (phase.Contexts (asked + 1) v)))) same.value
+      ∙ same_job p (is_ok_code given.code) given.payload wanted.payload (Some (phase.Contexts (asked + 1) wanted.value)) same.payload
+  same_phase (phase.Ports port) =
+      same_job p (is_ok_code given.code) given.payload wanted.payload (Some (phase.Ports (port + 1))) same.payload
 
   same_verb : (l : Line) (v : Verb) → outcome (took_first p (record l { verb = v }) given)
       ≡ outcome (took_first p (record l { verb = v }) wanted)
@@ -95,8 +96,8 @@ module _ (p : Program) (given wanted : Reply) (same : IsSame given wanted) where
   same_verb l verb.Discard = with_canvas
   same_verb l (verb.Frame s paint) = ap (λ c. outcome (took_frame p paint c)) canvas_is
   same_verb l verb.Tick =
-      ap (λ v. outcome (took_job (ticking p) given.payload (Some (leg.Contexts 1 v)))) same.value
-      ∙ same_job (ticking p) (is_ok_code given.code) given.payload wanted.payload (Some (leg.Contexts 1 wanted.value)) same.payload
+      ap (λ v. outcome (took_job (ticking p) given.payload (Some (phase.Contexts 1 v)))) same.value
+      ∙ same_job (ticking p) (is_ok_code given.code) given.payload wanted.payload (Some (phase.Contexts 1 wanted.value)) same.payload
   same_verb l (verb.Compose d c) = same_job p (is_ok_code given.code) given.payload wanted.payload None same.payload
   same_verb l (verb.TryCompose d c) = same_job p (is_ok_code given.code) given.payload wanted.payload None same.payload
   same_verb l _ = ap (λ n. outcome (line_done p n)) same.value
@@ -104,7 +105,7 @@ module _ (p : Program) (given wanted : Reply) (same : IsSame given wanted) where
   same_at : (l : Line) (s : Stage) → outcome (took_at p l given s) ≡ outcome (took_at p l wanted s)
   same_at l stage.Fresh = same_verb l l.verb
   same_at l stage.Posting = with_canvas
-  same_at l (stage.Ticking m) = same_leg m
+  same_at l (stage.Ticking m) = same_phase m
   same_at l (stage.Ending m) = refl
 
   pub same_outcome : outcome (took p given) ≡ outcome (took p wanted)

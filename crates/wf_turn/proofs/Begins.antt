@@ -1,6 +1,6 @@
 -- A turn and the running frame: a frame that begins is held by the program that began it, to be ended next.
 use Rattle.wf_turn.proofs.Common.{◌≡◌, ◌∙◌, ℕ, Bool, true, false, [], Option, Some, None, refl, sym, ap, subst, IfSome, Call, Job, Reply}
-use Rattle.wf_turn.proofs.Common.{Running, State, act, step, Line, Leg, Stage, Wanted, Ends, Program, first_line, given_canvas, go_on}
+use Rattle.wf_turn.proofs.Common.{Running, State, act, step, Line, Phase, Stage, Wanted, Ends, Program, first_line, given_canvas, go_on}
 use Rattle.wf_turn.proofs.Common.{line_done, next, plain, took, took_canvas, took_frame, took_job, worked, frames_of}
 use Rattle.wf_turn.proofs.Common.{moves_frame, effect, is_begin, by_begin}
 use Rattle.wf_calls.specs.declared.call.Call.TheVariants as call
@@ -36,7 +36,7 @@ module _ (p : Program) (h : State) (client : ℕ) (m : Bool) (free : h.frame ≡
       no_frame p (now reply) (step h client c m).0.frame (frame_stays h c (act h c m) (effect h c m) still ∙ free) (clean reply)
 
   -- a question begins a frame, or none
-  at_question : (w : Wanted) → is_begin w.call ≡ true → (q : Program) (next_of : ℕ → Option Leg) → q.unpainted ≡ false
+  at_question : (w : Wanted) → is_begin w.call ≡ true → (q : Program) (next_of : ℕ → Option Phase) → q.unpainted ≡ false
       → q.lines ≡ p.lines → Left w (λ reply. took_job q reply.payload (next_of reply.value))
   unfolding step
   at_question w begin q next_of clean same =
@@ -45,7 +45,7 @@ module _ (p : Program) (h : State) (client : ℕ) (m : Bool) (free : h.frame ≡
       (on_painted q clean (next_of a.value)))
       (λ b is. record { ends = (own_job b h, same); shows = λ none begin. absurd cc })
 
-  at_end : (job : Job) (l : Option Leg) → Left (plain (call.End job)) (λ reply. go_on (record p { job = None; unpainted = false }) l)
+  at_end : (job : Job) (l : Option Phase) → Left (plain (call.End job)) (λ reply. go_on (record p { job = None; unpainted = false }) l)
   unfolding step act
   at_end job l =
       let q = record p { job = None; unpainted = false } in
@@ -76,27 +76,27 @@ module _ (p : Program) (h : State) (client : ℕ) (m : Bool) (w : Wanted) (f : R
     pub free : (step h client w.call m).0.frame ≡ None
     pub shows : (begin : ℕ) → frames_of begin (took p (step h client w.call m).1) ≡ []
 
-  at_job : (l : Line) (leg : Option Leg) (o : Option Job) → first_line p ≡ Some l → p.stage ≡ stage.Ending leg → p.job ≡ o
-      → EndsAt o f (stage.Ending leg) → Ended
+  at_job : (l : Line) (phase : Option Phase) (o : Option Job) → first_line p ≡ Some l → p.stage ≡ stage.Ending phase → p.job ≡ o
+      → EndsAt o f (stage.Ending phase) → Ended
   unfolding step act
-  at_job l leg None is at job own = absurd own
-  at_job l leg (Some j) is at job own =
+  at_job l phase None is at job own = absurd own
+  at_job l phase (Some j) is at job own =
       let wanted : Some (plain (call.End j)) ≡ Some w = rw (is, at, job) at asks in
       let is_end : plain (call.End j) ≡ w = cc in
       record {
         plain_is = ap (λ y. y.wait) (sym is_end);
         free = subst (λ y. (step h client y.call m).0.frame ≡ None) is_end (rw (runs, own) refl);
         shows = λ begin.
-            let q : Program = go_on (record p { job = None; unpainted = false }) leg in
+            let q : Program = go_on (record p { job = None; unpainted = false }) phase in
             let goes : took p (step h client w.call m).1 ≡ q = rw (is, at) refl in
-            ap (frames_of begin) goes ∙ nothing_shown begin q (on_painted (record p { job = None; unpainted = false }) refl leg);
+            ap (frames_of begin) goes ∙ nothing_shown begin q (on_painted (record p { job = None; unpainted = false }) refl phase);
       }
 
   at_stage : (l : Line) (s : Stage) → first_line p ≡ Some l → p.stage ≡ s → EndsAt p.job f s → Ended
   at_stage l stage.Fresh is at own = absurd own
   at_stage l stage.Posting is at own = absurd own
-  at_stage l (stage.Ticking leg) is at own = absurd own
-  at_stage l (stage.Ending leg) is at own = at_job l leg p.job is at refl own
+  at_stage l (stage.Ticking phase) is at own = absurd own
+  at_stage l (stage.Ending phase) is at own = at_job l phase p.job is at refl own
 
   pub ended : Ended
   ended = of_line (first_line p) refl

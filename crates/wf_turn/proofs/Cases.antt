@@ -1,11 +1,12 @@
 -- The next call of a program, and what takes its answer: what is true of each kind of them is true of a turn.
 use Rattle.wf_turn.proofs.Common.{◌≡◌, ℕ, ◌+◌, Bool, true, false, cond, Option, Some, None, refl, subst, pos, IfSome, is_some, option_map}
-use Rattle.wf_turn.proofs.Common.{Canvas, Paint, Call, Job, Reply, Line, Verb, Leg, Stage, Wanted, plain_call, Name, is_begin, moves_frame}
+use Rattle.wf_turn.proofs.Common.{Canvas, Paint, Call, Job, Reply, Line, Verb, Phase, Stage, Wanted, plain_call, Name, is_begin}
+use Rattle.wf_turn.proofs.Common.{moves_frame}
 use Rattle.wf_turn.proofs.Common.{Program, first_call, first_line, given_canvas, go_on, handle, line_done, next, plain, took}
 use Rattle.wf_turn.proofs.Common.{took_at, took_canvas, took_first, took_frame, took_job, waiting, wanted_at}
 use Rattle.wf_calls.specs.declared.call.Call.TheVariants as call
 use Rattle.wf_script.specs.declared.line.Verb.TheVariants as verb
-use Rattle.wf_turn.specs.declared.stage.Leg.TheVariants as leg
+use Rattle.wf_turn.specs.declared.stage.Phase.TheVariants as phase
 use Rattle.wf_turn.specs.declared.stage.Stage.TheVariants as stage
 
 -- a line that is one call, and waits for nothing, neither begins nor ends a frame
@@ -26,7 +27,7 @@ abbrev pub IsTick : Program → Wanted → ℕ → Type 0
 IsTick p w tick = of_call w.call
   where
     of_call : Call → Type 0
-    of_call (call.BeginPort port) = (n : ℕ) × (port ≡ pos n) × (w.wait ≡ true) × (p.tick ≡ tick) × (p.stage ≡ stage.Ticking (leg.Ports n))
+    of_call (call.BeginPort port) = (n : ℕ) × (port ≡ pos n) × (w.wait ≡ true) × (p.tick ≡ tick) × (p.stage ≡ stage.Ticking (phase.Ports n))
     of_call (call.BeginNext after) = w.wait ≡ true
     of_call _ = Unit {0}
 
@@ -38,9 +39,9 @@ module _ (p : Program) (T : Wanted → (Reply → Program) → Type 0) where
     pub canvas : (c : Call) → moves_frame c ≡ false → T (plain c) (λ reply. took_canvas p reply.payload)
     pub value : (c : Call) → moves_frame c ≡ false → T (plain c) (λ reply. line_done p reply.value)
     pub frame : (s : ℕ) (paint : Paint) → T (plain (call.Acquire s)) (λ reply. took_frame p paint (given_canvas reply.payload))
-    pub asks : (w : Wanted) → is_begin w.call ≡ true → (tick : ℕ) (s : Stage) (next_of : ℕ → Option Leg) → IsTick p w tick
+    pub asks : (w : Wanted) → is_begin w.call ≡ true → (tick : ℕ) (s : Stage) (next_of : ℕ → Option Phase) → IsTick p w tick
         → T w (λ reply. took_job (record p { tick = tick; stage = s }) reply.payload (next_of reply.value))
-    pub ended : (job : Job) → p.job ≡ Some job → (l : Option Leg)
+    pub ended : (job : Job) → p.job ≡ Some job → (l : Option Phase)
         → T (plain (call.End job)) (λ reply. go_on (record p { job = None; unpainted = false }) l)
 
   of_begin : (w x : Wanted) (now : Reply → Program) → Some x ≡ Some w → T x now → T w now
@@ -79,7 +80,7 @@ module _ (p : Program) (T : Wanted → (Reply → Program) → Type 0) where
       (cases.frame (handle p s) paint)
   first_case w cases l verb.Tick asks =
       of_begin w (waiting (call.BeginNext 0)) (took_first p (record l { verb = verb.Tick })) asks
-      (cases.asks (waiting (call.BeginNext 0)) refl (p.tick + 1) (stage.Ticking (leg.Contexts 0 0)) (λ v. Some (leg.Contexts 1 v))
+      (cases.asks (waiting (call.BeginNext 0)) refl (p.tick + 1) (stage.Ticking (phase.Contexts 0 0)) (λ v. Some (phase.Contexts 1 v))
       refl)
   first_case w cases l (verb.Compose d c) asks =
       let begins = waiting (call.BeginContext (handle p d) (handle p c)) in
@@ -95,12 +96,12 @@ module _ (p : Program) (T : Wanted → (Reply → Program) → Type 0) where
       → T w (λ reply. took_at p l reply s)
   stage_case w cases l stage.Fresh is asks = first_case w cases l l.verb asks
   stage_case w cases l stage.Posting is asks = canvas_goes w cases call.Post (λ c. refl) asks
-  stage_case w cases l (stage.Ticking (leg.Contexts asked last)) is asks =
-      of_begin w (waiting (call.BeginNext last)) (λ reply. took_job p reply.payload (Some (leg.Contexts (asked + 1) reply.value))) asks
-      (cases.asks (waiting (call.BeginNext last)) refl p.tick p.stage (λ v. Some (leg.Contexts (asked + 1) v)) refl)
-  stage_case w cases l (stage.Ticking (leg.Ports port)) is asks =
-      of_begin w (waiting (call.BeginPort (pos port))) (λ reply. took_job p reply.payload (Some (leg.Ports (port + 1)))) asks
-      (cases.asks (waiting (call.BeginPort (pos port))) refl p.tick p.stage (λ v. Some (leg.Ports (port + 1)))
+  stage_case w cases l (stage.Ticking (phase.Contexts asked last)) is asks =
+      of_begin w (waiting (call.BeginNext last)) (λ reply. took_job p reply.payload (Some (phase.Contexts (asked + 1) reply.value))) asks
+      (cases.asks (waiting (call.BeginNext last)) refl p.tick p.stage (λ v. Some (phase.Contexts (asked + 1) v)) refl)
+  stage_case w cases l (stage.Ticking (phase.Ports port)) is asks =
+      of_begin w (waiting (call.BeginPort (pos port))) (λ reply. took_job p reply.payload (Some (phase.Ports (port + 1)))) asks
+      (cases.asks (waiting (call.BeginPort (pos port))) refl p.tick p.stage (λ v. Some (phase.Ports (port + 1)))
       (port, refl, refl, refl, is))
   stage_case w cases l (stage.Ending m) is asks =
       of_held w p.job call.End (λ reply. go_on (record p { job = None; unpainted = false }) m) asks (λ job held. cases.ended job held m)

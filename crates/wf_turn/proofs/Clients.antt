@@ -7,7 +7,7 @@ use Rattle.std.proofs.Common.{add-one}
 use Rattle.std.specs.Prelude.{fold}
 use Rattle.std.specs.Option.{is_none}
 use Rattle.std.proofs.lemmas.Option.{slice_get_within}
-use Rattle.wf_turn.proofs.Casts.{at_client}
+use Rattle.wf_turn.proofs.Programs.{at_client}
 use Rattle.wf_words.specs.Places.{get_within}
 
 abbrev Best : Type 0

@@ -4,17 +4,17 @@ use Rattle.wf_turn.proofs.Common.{map, All, bound, bound_name, nat_tests, ◌<�
 use Rattle.wf_turn.proofs.Common.{Option, Some, None, refl, sym, ap, subst, set, pos, arith, filter, slice_get, is_some, enumerate_from}
 use Rattle.wf_turn.proofs.Common.{list_all, range_with_len, AllByRecursion, and_parts, eqb-true, each_at, each_mapped, Canvas, Job, Paint}
 use Rattle.wf_turn.proofs.Common.{Payload, Reply}
-use Rattle.wf_turn.proofs.Common.{Turn, Frame, step, moves_frame, is_begin, Call, Line, Verb, PlainScript, Leg, Stage, Wanted, Begins}
+use Rattle.wf_turn.proofs.Common.{Turn, Frame, step, moves_frame, is_begin, Call, Line, Verb, PlainScript, Phase, Stage, Wanted, Begins}
 use Rattle.wf_turn.proofs.Common.{is_marked, before, given_canvas, is_event, line_done, lines_from, next, plain, program, Program, silent}
 use Rattle.wf_turn.proofs.Common.{skipped, taught}
 use Rattle.wf_turn.proofs.Common.{took}
 use Rattle.wf_turn.proofs.Common.{took_at, took_canvas, took_first, took_frame, took_job, waiting, worked, IsNextTurn, IsRun, Show}
-use Rattle.wf_turn.proofs.Common.{all_taught, handed_on, is_setting_up, opening_show, turn, first_line, with_frames, TurnsTo}
+use Rattle.wf_turn.proofs.Common.{all_taught, inherited, is_setting_up, opening_show, turn, first_line, with_frames, TurnsTo}
 use Rattle.wf_calls.specs.declared.call.Call.TheVariants as call
 use Rattle.wf_calls.specs.declared.reply.Payload.TheVariants as payload
 use Rattle.wf_script.specs.declared.line.Verb.TheVariants as verb
 use Rattle.wf_script.specs.Script.{is_tick, may_tick}
-use Rattle.wf_turn.specs.declared.stage.Leg.TheVariants as leg
+use Rattle.wf_turn.specs.declared.stage.Phase.TheVariants as phase
 use Rattle.wf_turn.specs.declared.stage.Stage.TheVariants as stage
 use Rattle.wf_words.specs.Each.{each_set}
 use Rattle.wf_turn.proofs.Cases.{IsTick, turn_case}
@@ -117,9 +117,9 @@ worked_tickless p is = elim p.unpainted as (λ b. IsTickless (worked_if b p)) [
 -- such a program asks for no port's frame
 
 asks_at_ports : (p : Program) (w : Wanted) (port : ℕ) → next p ≡ Some w → w ≡ waiting (call.BeginPort (pos port))
-    → p.stage ≡ stage.Ticking (leg.Ports port)
+    → p.stage ≡ stage.Ticking (phase.Ports port)
 asks_at_ports p w port asks is =
-    turn_case p (λ x now. x ≡ waiting (call.BeginPort (pos port)) → p.stage ≡ stage.Ticking (leg.Ports port)) w
+    turn_case p (λ x now. x ≡ waiting (call.BeginPort (pos port)) → p.stage ≡ stage.Ticking (phase.Ports port)) w
     (record {
       canvas = λ c still is. absurd (no_wait c is);
       value = λ c still is. absurd (no_wait c is);
@@ -132,11 +132,11 @@ asks_at_ports p w port asks is =
     no_wait c is = (let apart : false ≡ true = ap (λ (y : Wanted). y.wait) is in cc)
 
     of_tick : (x : Wanted) (tick : ℕ) → IsTick p x tick → x ≡ waiting (call.BeginPort (pos port))
-        → p.stage ≡ stage.Ticking (leg.Ports port)
+        → p.stage ≡ stage.Ticking (phase.Ports port)
     of_tick x tick at is =
         let own : IsTick p (waiting (call.BeginPort (pos port))) tick = subst (λ y. IsTick p y tick) is at in
         let same : port ≡ own.0 = cc in
-        subst (λ n. p.stage ≡ stage.Ticking (leg.Ports n)) (sym same) own.4
+        subst (λ n. p.stage ≡ stage.Ticking (phase.Ports n)) (sym same) own.4
 
 asks_no_port : (p : Program) (port : ℕ) → IsTickless p → next p ≡ Some (waiting (call.BeginPort (pos port))) → ⊥
 asks_no_port p port is asks =
@@ -156,8 +156,8 @@ timed_set (clock ∷ others) zero p q found keeps are = are
 timed_set (clock ∷ others) (suc k) p q found keeps are =
     each_set IsTickless others k q are (keeps (each_at IsTickless others k p are found))
 
-timed_handed : (before now : List Program) → IsTimed now → IsTimed (handed_on before now)
-timed_handed before now are =
+timed_issued : (before now : List Program) → IsTimed now → IsTimed (inherited before now)
+timed_issued before now are =
     elim (is_setting_up before && not (is_setting_up now)) as (λ b. IsTimed (cond b (all_taught now) now)) [
       | true ↦ timed_taught now are
       | false ↦ are
@@ -183,7 +183,7 @@ still_clocked show after t next is =
       painted = adds.painted;
       timed =
           subst (λ (x : Show × Turn). IsTimed x.0.programs) own.is
-          (timed_handed show.programs placed
+          (timed_issued show.programs placed
           (timed_set show.programs t.client own.program (worked (took own.program reply)) own.own
           (λ tickless. worked_tickless (took own.program reply) (took_tickless own.program reply tickless)) is.timed));
     }

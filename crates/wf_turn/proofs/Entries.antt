@@ -11,7 +11,7 @@ use Rattle.wf_film.specs.Film.{Writing, head_bytes, magic}
 use Rattle.wf_turn.specs.declared.replaying.ReplayStop.{ReplayStop}
 use Rattle.wf_turn.specs.declared.replaying.ReplayStop.TheVariants as stop
 use Rattle.wf_turn.specs.Play.{IsComplete, frames_after, over_after}
-use Rattle.wf_turn.specs.Replayed.{EntersTo, IsNoTurn, IsTroupe, PlaysAgain, PlaysAll, PlaysEntries, PlaysEntry, StopsAt, StopsIn}
+use Rattle.wf_turn.specs.Replayed.{EntersTo, IsNoTurn, IsReplayer, PlaysAgain, PlaysAll, PlaysEntries, PlaysEntry, StopsAt, StopsIn}
 use Rattle.wf_turn.specs.Replayed.{entry_taken}
 use Rattle.wf_turn.specs.Turns.{is_over}
 use Rattle.wf_turn.proofs.Replays.{replay_ends, replay_more}
@@ -24,7 +24,7 @@ pub record ArePlayed {K : Type 0} (took : K → List ℕ → Type 0) (old new : 
   pub form_is : writer.form ≡ was.form
   pub small : writer.written ≤ was.written + place * 4194318
   pub turns : now.turns ≡ place
-  pub troupe : IsTroupe now
+  pub replayer : IsReplayer now
   pub later : before ≤ faults
 
 module _ {K : Type 0} (took : K → List ℕ → Type 0) where

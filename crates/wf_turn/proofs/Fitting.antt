@@ -1,14 +1,14 @@
 -- A program that took an answer can make its next call.
 use Rattle.wf_turn.proofs.Common.{◌≡◌, ℕ, ◌+◌, ◌≤◌, ◌==◌, Bool, true, false, not, cond, ◌||◌, List, [], ◌∷◌, Option, Some, None, refl, sym}
 use Rattle.wf_turn.proofs.Common.{ap, subst, arith, IsTrue, nat_lt, is_some, option_map, IfSome, IsSome, ltb-true, Canvas, Paint, Job}
-use Rattle.wf_turn.proofs.Common.{Payload, Reply, Line, Verb, Leg, Stage, Wanted, bound_name, Program, asked_next, at_port, before, bound}
+use Rattle.wf_turn.proofs.Common.{Payload, Reply, Line, Verb, Phase, Stage, Wanted, bound_name, Program, asked_next, at_port, before, bound}
 use Rattle.wf_turn.proofs.Common.{first_call, first_line, first_of, given_canvas, go_on, is_event, line_done, next, painted_job, port_count}
-use Rattle.wf_turn.proofs.Common.{silent, skipped, taught, ticking, took, took_at, took_first, took_frame, took_job, took_leg, wanted_at}
+use Rattle.wf_turn.proofs.Common.{silent, skipped, taught, ticking, took, took_at, took_first, took_frame, took_job, took_phase, wanted_at}
 use Rattle.wf_turn.proofs.Common.{worked, IsAsking, IsAt, IsFit}
 use Rattle.std.proofs.lemmas.Bool.{ltb-false, or_parts}
 use Rattle.wf_calls.specs.declared.reply.Payload.TheVariants as payload
 use Rattle.wf_script.specs.declared.line.Verb.TheVariants as verb
-use Rattle.wf_turn.specs.declared.stage.Leg.TheVariants as leg
+use Rattle.wf_turn.specs.declared.stage.Phase.TheVariants as phase
 use Rattle.wf_turn.specs.declared.stage.Stage.TheVariants as stage
 use Rattle.wf_turn.specs.Ready.{IsAnswered}
 
@@ -53,7 +53,7 @@ holds_done p v few = of_lines p.lines refl
 holds_ports : (p : Program) (port : ℕ) → port_count p ≤ 4 → Holds (at_port p port)
 holds_ports p port few =
     elim (nat_lt (port_count p) port) as (λ b. nat_lt (port_count p) port ≡ b
-    → Holds (cond b (line_done p 0) (record p { stage = stage.Ticking (leg.Ports port) }))) [
+    → Holds (cond b (line_done p 0) (record p { stage = stage.Ticking (phase.Ports port) }))) [
       | true ↦ λ over. holds_done p 0 few
       | false ↦ λ within. record { at = if_some (first_line p) (λ l. ltb-false (port_count p) port within); ports = few }
     ] refl
@@ -61,7 +61,7 @@ holds_ports p port few =
 holds_asked : (p : Program) (asked last : ℕ) → port_count p ≤ 4 → Holds (asked_next p asked last)
 holds_asked p asked last few =
     elim ((last == 0) || not (nat_lt asked 16)) as (λ b. ((last == 0) || not (nat_lt asked 16)) ≡ b
-    → Holds (cond b (at_port p 1) (record p { stage = stage.Ticking (leg.Contexts asked last) }))) [
+    → Holds (cond b (at_port p 1) (record p { stage = stage.Ticking (phase.Contexts asked last) }))) [
       | true ↦ λ over. holds_ports p 1 few
       | false ↦
           λ on. record {
@@ -75,12 +75,12 @@ holds_asked p asked last few =
     below true is = refl
     below false is = absurd cc
 
-holds_on : (p : Program) (l : Option Leg) → port_count p ≤ 4 → Holds (go_on p l)
+holds_on : (p : Program) (l : Option Phase) → port_count p ≤ 4 → Holds (go_on p l)
 holds_on p None few = holds_done p 0 few
-holds_on p (Some (leg.Contexts asked last)) few = holds_asked p asked last few
-holds_on p (Some (leg.Ports port)) few = holds_ports p port few
+holds_on p (Some (phase.Contexts asked last)) few = holds_asked p asked last few
+holds_on p (Some (phase.Ports port)) few = holds_ports p port few
 
-holds_job : (p : Program) (given : Payload) (l : Option Leg) → IsAnswered (port_count p) l → port_count p ≤ 4 → Holds (took_job p given l)
+holds_job : (p : Program) (given : Payload) (l : Option Phase) → IsAnswered (port_count p) l → port_count p ≤ 4 → Holds (took_job p given l)
 holds_job p (payload.Job job) l answered few = record { at = if_some (first_line p) (λ m. (refl, answered)); ports = few }
 holds_job p payload.Nothing l answered few = holds_on p l few
 holds_job p (payload.Canvas canvas) l answered few = holds_on p l few
@@ -100,20 +100,20 @@ holds_first p l reply few = of_all l.verb
     of_all verb.Post = holds_done (record p { canvas = given_canvas reply.payload }) 0 few
     of_all verb.Discard = holds_done (record p { canvas = given_canvas reply.payload }) 0 few
     of_all (verb.Frame s paint) = holds_frame p paint (given_canvas reply.payload) few
-    of_all verb.Tick = holds_job (ticking p) reply.payload (Some (leg.Contexts 1 reply.value)) (omega arith) few
+    of_all verb.Tick = holds_job (ticking p) reply.payload (Some (phase.Contexts 1 reply.value)) (omega arith) few
     of_all (verb.Compose d c) = holds_job p reply.payload None tt few
     of_all (verb.TryCompose d c) = holds_job p reply.payload None tt few
     of_all _ = holds_done p reply.value few
 
-holds_leg : (p : Program) (reply : Reply) (l : Leg) → IsAsking (port_count p) l → port_count p ≤ 4 → Holds (took_leg p reply l)
-holds_leg p reply (leg.Contexts asked last) asking few =
-    holds_job p reply.payload (Some (leg.Contexts (asked + 1) reply.value)) (omega (arith, asking)) few
-holds_leg p reply (leg.Ports port) asking few = holds_job p reply.payload (Some (leg.Ports (port + 1))) (omega (arith, asking)) few
+holds_phase : (p : Program) (reply : Reply) (l : Phase) → IsAsking (port_count p) l → port_count p ≤ 4 → Holds (took_phase p reply l)
+holds_phase p reply (phase.Contexts asked last) asking few =
+    holds_job p reply.payload (Some (phase.Contexts (asked + 1) reply.value)) (omega (arith, asking)) few
+holds_phase p reply (phase.Ports port) asking few = holds_job p reply.payload (Some (phase.Ports (port + 1))) (omega (arith, asking)) few
 
 holds_at : (p : Program) (l : Line) (reply : Reply) (s : Stage) → IsAt p l s → port_count p ≤ 4 → Holds (took_at p l reply s)
 holds_at p l reply stage.Fresh at few = holds_first p l reply few
 holds_at p l reply stage.Posting at few = holds_done (record p { canvas = given_canvas reply.payload }) 0 few
-holds_at p l reply (stage.Ticking m) at few = holds_leg p reply m at few
+holds_at p l reply (stage.Ticking m) at few = holds_phase p reply m at few
 holds_at p l reply (stage.Ending m) at few = holds_on (record p { job = None; unpainted = false }) m few
 
 holds_took : (p : Program) (reply : Reply) → IsFit p → Holds (took p reply)

@@ -1,10 +1,10 @@
 -- A program that makes its next call goes on after each answer, and one that makes none is through.
 use Rattle.wf_turn.proofs.Common.{◌≡◌, ℕ, true, false, List, [], ◌∷◌, Option, Some, None, refl, ap, is_some, Line, Wanted}
-use Rattle.wf_turn.proofs.Common.{◌<◌, arith, is_begin, Program, first_line, handed, left, next, place_of, IsFit}
+use Rattle.wf_turn.proofs.Common.{◌<◌, arith, is_begin, Program, first_line, issued, left, next, place_of, IsFit}
 use Rattle.wf_calls.specs.declared.code.Code.TheVariants as code
 use Rattle.wf_calls.specs.declared.reply.Payload.TheVariants as payload
 use Rattle.wf_turn.specs.Going.{GoesOnAfter}
-use Rattle.wf_turn.proofs.Answering.{took_handed}
+use Rattle.wf_turn.proofs.Answering.{took_issued}
 use Rattle.wf_turn.proofs.Cases.{turn_case}
 use Rattle.wf_turn.proofs.Fitting.{fit_took, wants}
 use Rattle.wf_turn.proofs.Lefts.{left_took}
@@ -41,7 +41,7 @@ pub goes_on : (p : Program) (w : Wanted) → IsFit p → next p ≡ Some w → G
 goes_on p w fit asks h client reply may =
     let line = asks_line p w asks in
     record {
-      took_is = took_handed p reply;
+      took_is = took_issued p reply;
       work = took_work p h client w reply fit.painted may asks;
       fit = fit_took p reply fit;
       fewer = left_took p line.0 reply fit line.1;
@@ -50,7 +50,7 @@ goes_on p w fit asks h client reply may =
 -- a program that wants nothing is through, and hands nothing out
 pub record IsThrough (p : Program) : Type 0 where
   pub through : place_of p ≡ None
-  pub same : handed p ≡ p
+  pub same : issued p ≡ p
 
 pub is_through : (p : Program) → IsFit p → next p ≡ None → IsThrough p
 is_through p fit none = of_line (first_line p) refl

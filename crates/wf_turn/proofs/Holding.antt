@@ -1,10 +1,10 @@
 -- The Job that a program holds, and whether that is not painted yet: what is true of both stays true through an answer.
 use Rattle.wf_turn.proofs.Common.{◌≡◌, ℕ, zero, suc, ◌+◌, Bool, true, false, not, cond, ◌==◌, ◌&&◌, ◌||◌, List, [], ◌∷◌, map, Option, Some}
-use Rattle.wf_turn.proofs.Common.{None, refl, set, nat_lt, Canvas, Paint, Job, Payload, Reply, is_begin, Line, PlainScript, Leg, Wanted}
+use Rattle.wf_turn.proofs.Common.{None, refl, set, nat_lt, Canvas, Paint, Job, Payload, Reply, is_begin, Line, PlainScript, Phase, Wanted}
 use Rattle.wf_turn.proofs.Common.{Program, at_port, given_canvas, go_on, line_done, next, port_count, program, taught, took, took_frame}
-use Rattle.wf_turn.proofs.Common.{took_job, all_taught, handed_on, is_setting_up, each_mapped, AllByRecursion, range_with_len}
+use Rattle.wf_turn.proofs.Common.{took_job, all_taught, inherited, is_setting_up, each_mapped, AllByRecursion, range_with_len}
 use Rattle.wf_calls.specs.declared.reply.Payload.TheVariants as payload
-use Rattle.wf_turn.specs.declared.stage.Leg.TheVariants as leg
+use Rattle.wf_turn.specs.declared.stage.Phase.TheVariants as phase
 use Rattle.wf_turn.specs.declared.stage.Stage.TheVariants as stage
 use Rattle.wf_words.specs.Each.{each_set}
 use Rattle.wf_turn.proofs.Cases.{turn_case}
@@ -22,28 +22,28 @@ module _ (Q : Option Job → Bool → Type 0) where
 
   port_holds : (p : Program) (port : ℕ) → Holds p → Holds (at_port p port)
   port_holds p port holds =
-      elim (nat_lt (port_count p) port) as (λ b. Holds (cond b (line_done p 0) (record p { stage = stage.Ticking (leg.Ports port) }))) [
+      elim (nat_lt (port_count p) port) as (λ b. Holds (cond b (line_done p 0) (record p { stage = stage.Ticking (phase.Ports port) }))) [
         | true ↦ done_holds p 0 holds
         | false ↦ holds
       ]
 
-  pub on_holds : (p : Program) (l : Option Leg) → Holds p → Holds (go_on p l)
+  pub on_holds : (p : Program) (l : Option Phase) → Holds p → Holds (go_on p l)
   on_holds p None holds = done_holds p 0 holds
-  on_holds p (Some (leg.Contexts asked last)) holds =
+  on_holds p (Some (phase.Contexts asked last)) holds =
       elim ((last == 0) || not (nat_lt asked 16)) as (λ b. Holds
-      (cond b (at_port p 1) (record p { stage = stage.Ticking (leg.Contexts asked last) }))) [
+      (cond b (at_port p 1) (record p { stage = stage.Ticking (phase.Contexts asked last) }))) [
         | true ↦ port_holds p 1 holds
         | false ↦
             holds
       ]
-  on_holds p (Some (leg.Ports port)) holds = port_holds p port holds
+  on_holds p (Some (phase.Ports port)) holds = port_holds p port holds
 
   frame_holds : (p : Program) (paint : Paint) (canvas : Option Canvas) → Holds p → Holds (took_frame p paint canvas)
   frame_holds p paint None holds = done_holds p 0 holds
   frame_holds p paint (Some canvas) holds = holds
 
   -- a Job that comes is held, and is not painted yet
-  job_holds : (p : Program) (given : Payload) (l : Option Leg) → Holds p → ((job : Job) → given ≡ payload.Job job → Q (Some job) true)
+  job_holds : (p : Program) (given : Payload) (l : Option Phase) → Holds p → ((job : Job) → given ≡ payload.Job job → Q (Some job) true)
       → Holds (took_job p given l)
   job_holds p (payload.Job job) l holds comes = comes job refl
   job_holds p payload.Nothing l holds comes = on_holds p l holds
@@ -77,8 +77,8 @@ module _ (Q : Option Job → Bool → Type 0) where
   taught_hold (clock ∷ others) all = (all.0, each_mapped Holds Holds (taught clock) (λ p holds. holds) others all.1)
 
   -- with one program changed, and the setup's names handed on
-  pub handed_hold : (ps : List Program) (i : ℕ) (q : Program) → Holds q → AllHold ps → AllHold (handed_on ps (set ps i q))
-  handed_hold ps i q holds all =
+  pub issued_hold : (ps : List Program) (i : ℕ) (q : Program) → Holds q → AllHold ps → AllHold (inherited ps (set ps i q))
+  issued_hold ps i q holds all =
       let now = each_set Holds ps i q all holds in
       elim (is_setting_up ps && not (is_setting_up (set ps i q))) as (λ b. AllHold (cond b (all_taught (set ps i q)) (set ps i q))) [
         | true ↦ taught_hold (set ps i q) now

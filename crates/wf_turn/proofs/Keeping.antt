@@ -1,11 +1,11 @@
 -- What an answer leaves of a program: all but its lines, its names, what it holds, its stage and its tick.
 use Rattle.wf_turn.proofs.Common.{◌≡◌, ℕ, ◌+◌, Bool, true, false, not, cond, ◌==◌, ◌||◌, List, [], ◌∷◌, Option, Some, None, refl, sym, ap}
-use Rattle.wf_turn.proofs.Common.{subst, nat_lt, option_map, Canvas, Paint, Job, Payload, Reply, Line, Verb, Name, Leg, Stage, bound_name}
+use Rattle.wf_turn.proofs.Common.{subst, nat_lt, option_map, Canvas, Paint, Job, Payload, Reply, Line, Verb, Name, Phase, Stage, bound_name}
 use Rattle.wf_turn.proofs.Common.{Program, at_port, before, bound, first_line, given_canvas, go_on, line_done, painted_job, port_count}
-use Rattle.wf_turn.proofs.Common.{skipped, ticking, took, took_at, took_first, took_frame, took_job, took_leg, worked}
+use Rattle.wf_turn.proofs.Common.{skipped, ticking, took, took_at, took_first, took_frame, took_job, took_phase, worked}
 use Rattle.wf_calls.specs.declared.reply.Payload.TheVariants as payload
 use Rattle.wf_script.specs.declared.line.Verb.TheVariants as verb
-use Rattle.wf_turn.specs.declared.stage.Leg.TheVariants as leg
+use Rattle.wf_turn.specs.declared.stage.Phase.TheVariants as phase
 use Rattle.wf_turn.specs.declared.stage.Stage.TheVariants as stage
 use Rattle.wf_turn.specs.Program.{painted_canvas}
 
@@ -36,23 +36,23 @@ module _ (P : Program
 
   keeps_port : (p : Program) (port : ℕ) → P p → P (at_port p port)
   keeps_port p port holds =
-      elim (nat_lt (port_count p) port) as (λ b. P (cond b (line_done p 0) (record p { stage = stage.Ticking (leg.Ports port) }))) [
+      elim (nat_lt (port_count p) port) as (λ b. P (cond b (line_done p 0) (record p { stage = stage.Ticking (phase.Ports port) }))) [
         | true ↦ keeps_done p 0 holds
         | false ↦ keeps_at p _ holds
       ]
 
-  keeps_on : (p : Program) (l : Option Leg) → P p → P (go_on p l)
+  keeps_on : (p : Program) (l : Option Phase) → P p → P (go_on p l)
   keeps_on p None holds = keeps_done p 0 holds
-  keeps_on p (Some (leg.Contexts asked last)) holds =
+  keeps_on p (Some (phase.Contexts asked last)) holds =
       elim ((last == 0) || not (nat_lt asked 16)) as (λ b. P
-      (cond b (at_port p 1) (record p { stage = stage.Ticking (leg.Contexts asked last) }))) [
+      (cond b (at_port p 1) (record p { stage = stage.Ticking (phase.Contexts asked last) }))) [
         | true ↦ keeps_port p 1 holds
         | false ↦
             keeps_at p _ holds
       ]
-  keeps_on p (Some (leg.Ports port)) holds = keeps_port p port holds
+  keeps_on p (Some (phase.Ports port)) holds = keeps_port p port holds
 
-  keeps_job : (p : Program) (given : Payload) (l : Option Leg) → P p → P (took_job p given l)
+  keeps_job : (p : Program) (given : Payload) (l : Option Phase) → P p → P (took_job p given l)
   keeps_job p (payload.Job job) l holds = keeps p p.lines p.own p.canvas (Some job) true (stage.Ending l) p.tick holds
   keeps_job p payload.Nothing l holds = keeps_on p l holds
   keeps_job p (payload.Canvas canvas) l holds = keeps_on p l holds
@@ -72,20 +72,20 @@ module _ (P : Program
   keeps_first p l verb.Discard reply holds = keeps_canvas p (given_canvas reply.payload) holds
   keeps_first p l (verb.Frame s paint) reply holds = keeps_frame p paint (given_canvas reply.payload) holds
   keeps_first p l verb.Tick reply holds =
-      keeps_job (ticking p) reply.payload (Some (leg.Contexts 1 reply.value))
-      (keeps p p.lines p.own p.canvas p.job p.unpainted (stage.Ticking (leg.Contexts 0 0)) (p.tick + 1) holds)
+      keeps_job (ticking p) reply.payload (Some (phase.Contexts 1 reply.value))
+      (keeps p p.lines p.own p.canvas p.job p.unpainted (stage.Ticking (phase.Contexts 0 0)) (p.tick + 1) holds)
   keeps_first p l (verb.Compose d c) reply holds = keeps_job p reply.payload None holds
   keeps_first p l (verb.TryCompose d c) reply holds = keeps_job p reply.payload None holds
   keeps_first p l _ reply holds = keeps_done p reply.value holds
 
-  keeps_leg : (p : Program) (reply : Reply) (l : Leg) → P p → P (took_leg p reply l)
-  keeps_leg p reply (leg.Contexts asked last) holds = keeps_job p reply.payload (Some (leg.Contexts (asked + 1) reply.value)) holds
-  keeps_leg p reply (leg.Ports port) holds = keeps_job p reply.payload (Some (leg.Ports (port + 1))) holds
+  keeps_phase : (p : Program) (reply : Reply) (l : Phase) → P p → P (took_phase p reply l)
+  keeps_phase p reply (phase.Contexts asked last) holds = keeps_job p reply.payload (Some (phase.Contexts (asked + 1) reply.value)) holds
+  keeps_phase p reply (phase.Ports port) holds = keeps_job p reply.payload (Some (phase.Ports (port + 1))) holds
 
   keeps_stage : (p : Program) (l : Line) (reply : Reply) (s : Stage) → P p → P (took_at p l reply s)
   keeps_stage p l reply stage.Fresh holds = keeps_first p l l.verb reply holds
   keeps_stage p l reply stage.Posting holds = keeps_canvas p (given_canvas reply.payload) holds
-  keeps_stage p l reply (stage.Ticking m) holds = keeps_leg p reply m holds
+  keeps_stage p l reply (stage.Ticking m) holds = keeps_phase p reply m holds
   keeps_stage p l reply (stage.Ending m) holds = keeps_on (record p { job = None; unpainted = false }) m
       (keeps p p.lines p.own p.canvas None false p.stage p.tick holds)
 

@@ -1,15 +1,16 @@
 -- Each answer leaves a program with fewer events to make.
 use Rattle.wf_turn.proofs.Common.{◌≡◌, ◌∙◌, ℕ, ◌+◌, ◌*◌, ◌-◌, ◌≤◌, ◌==◌, true, false, not, cond, ◌||◌, List, [], ◌∷◌, Option, Some, None}
 use Rattle.wf_turn.proofs.Common.{refl, sym, ap, subst, arith, IsTrue, nat_lt, is_some, option_map, IfSome, sum_by-cons, Canvas, Paint}
-use Rattle.wf_turn.proofs.Common.{Payload, Reply, Line, Verb, Leg, Stage, bound_name, Program, asked_next, at_port, before, bound}
+use Rattle.wf_turn.proofs.Common.{Payload, Reply, Line, Verb, Phase, Stage, bound_name, Program, asked_next, at_port, before, bound}
 use Rattle.wf_turn.proofs.Common.{first_line, first_of, given_canvas, go_on, is_event, line_done, painted_job, port_count, silent, skipped}
-use Rattle.wf_turn.proofs.Common.{ticking, took, took_at, took_first, took_frame, took_job, took_leg, worked, left, line_quota, lines_left}
+use Rattle.wf_turn.proofs.Common.{ticking, took, took_at, took_first, took_frame, took_job, took_phase, worked, left}
+use Rattle.wf_turn.proofs.Common.{line_quota, lines_left}
 use Rattle.wf_turn.proofs.Common.{IsAsking, IsAt, IsFit}
 use Rattle.wf_calls.specs.declared.reply.Payload.TheVariants as payload
 use Rattle.wf_script.specs.declared.line.Verb.TheVariants as verb
-use Rattle.wf_turn.specs.declared.stage.Leg.TheVariants as leg
+use Rattle.wf_turn.specs.declared.stage.Phase.TheVariants as phase
 use Rattle.wf_turn.specs.declared.stage.Stage.TheVariants as stage
-use Rattle.wf_turn.specs.Quota.{leg_left, next_left, stage_left}
+use Rattle.wf_turn.specs.Quota.{phase_left, next_left, stage_left}
 
 one_line : (l : ℕ × Line) (ls : List (ℕ × Line)) → lines_left (l ∷ ls) ≡ line_quota l.1.verb + lines_left ls
 one_line l ls = sum_by-cons (λ m. line_quota m.1.verb) l ls
@@ -41,7 +42,7 @@ module _ (p : Program) (l : ℕ × Line) (ls : List (ℕ × Line)) where
   left_ports : (port : ℕ) → left (at_port at_line port) ≤ 2 * (port_count p + 1 - port) + lines_left ls
   left_ports port =
       elim (nat_lt (port_count p) port)
-      as (λ b. left (cond b (line_done at_line 0) (record at_line { stage = stage.Ticking (leg.Ports port) })) ≤
+      as (λ b. left (cond b (line_done at_line 0) (record at_line { stage = stage.Ticking (phase.Ports port) })) ≤
       2 * (port_count p + 1 - port) + lines_left ls) [
         | true ↦ omega (arith, left_done 0)
         | false ↦ omega arith
@@ -50,18 +51,18 @@ module _ (p : Program) (l : ℕ × Line) (ls : List (ℕ × Line)) where
   left_asked : (asked last : ℕ) → left (asked_next at_line asked last) ≤ 2 * (16 - asked) + 2 * port_count p + lines_left ls
   left_asked asked last =
       elim ((last == 0) || not (nat_lt asked 16)) as (λ b. left
-      (cond b (at_port at_line 1) (record at_line { stage = stage.Ticking (leg.Contexts asked last) })) ≤
+      (cond b (at_port at_line 1) (record at_line { stage = stage.Ticking (phase.Contexts asked last) })) ≤
       2 * (16 - asked) + 2 * port_count p + lines_left ls) [
         | true ↦ omega (arith, left_ports 1)
         | false ↦ omega arith
       ]
 
-  left_on : (m : Option Leg) → left (go_on at_line m) ≤ next_left (port_count p) m + lines_left ls
+  left_on : (m : Option Phase) → left (go_on at_line m) ≤ next_left (port_count p) m + lines_left ls
   left_on None = omega (arith, left_done 0)
-  left_on (Some (leg.Contexts asked last)) = left_asked asked last
-  left_on (Some (leg.Ports port)) = left_ports port
+  left_on (Some (phase.Contexts asked last)) = left_asked asked last
+  left_on (Some (phase.Ports port)) = left_ports port
 
-  left_job : (given : Payload) (m : Option Leg) → left (took_job at_line given m) ≤ next_left (port_count p) m + 1 + lines_left ls
+  left_job : (given : Payload) (m : Option Phase) → left (took_job at_line given m) ≤ next_left (port_count p) m + 1 + lines_left ls
   left_job (payload.Job job) m = omega arith
   left_job payload.Nothing m = omega (arith, left_on m)
   left_job (payload.Canvas canvas) m = omega (arith, left_on m)
@@ -79,23 +80,23 @@ left_first p l ls verb.Discard reply event few = omega (arith, left_done (record
 left_first p l ls (verb.Paint paint) reply event few = absurd cc
 left_first p l ls (verb.Frame s paint) reply event few = omega (arith, left_frame p l ls paint (given_canvas reply.payload))
 left_first p l ls verb.Tick reply event few =
-    omega (arith, few, left_job (ticking p) l ls reply.payload (Some (leg.Contexts 1 reply.value)))
+    omega (arith, few, left_job (ticking p) l ls reply.payload (Some (phase.Contexts 1 reply.value)))
 left_first p l ls (verb.Compose d c) reply event few = omega (arith, left_job p l ls reply.payload None)
 left_first p l ls (verb.TryCompose d c) reply event few = omega (arith, left_job p l ls reply.payload None)
 left_first p l ls _ reply event few = omega (arith, left_done p l ls reply.value)
 
-left_leg : (p : Program) (l : ℕ × Line) (ls : List (ℕ × Line)) (m : Leg) (reply : Reply) → IsAsking (port_count p) m
-    → left (took_leg (record p { lines = l ∷ ls }) reply m) + 1 ≤ leg_left (port_count p) m + lines_left ls
-left_leg p l ls (leg.Contexts asked last) reply asking =
-    omega (arith, asking, left_job p l ls reply.payload (Some (leg.Contexts (asked + 1) reply.value)))
-left_leg p l ls (leg.Ports port) reply asking = omega (arith, asking, left_job p l ls reply.payload (Some (leg.Ports (port + 1))))
+left_phase : (p : Program) (l : ℕ × Line) (ls : List (ℕ × Line)) (m : Phase) (reply : Reply) → IsAsking (port_count p) m
+    → left (took_phase (record p { lines = l ∷ ls }) reply m) + 1 ≤ phase_left (port_count p) m + lines_left ls
+left_phase p l ls (phase.Contexts asked last) reply asking =
+    omega (arith, asking, left_job p l ls reply.payload (Some (phase.Contexts (asked + 1) reply.value)))
+left_phase p l ls (phase.Ports port) reply asking = omega (arith, asking, left_job p l ls reply.payload (Some (phase.Ports (port + 1))))
 
 left_at : (p : Program) (l : ℕ × Line) (ls : List (ℕ × Line)) (s : Stage) (reply : Reply) → IsAt (record p { lines = l ∷ ls }) l.1 s
     → port_count p ≤ 4
     → left (took_at (record p { lines = l ∷ ls }) l.1 reply s) + 1 ≤ stage_left (port_count p) l.1.verb s + lines_left ls
 left_at p l ls stage.Fresh reply at few = left_first p l ls l.1.verb reply at few
 left_at p l ls stage.Posting reply at few = omega (arith, left_done (record p { canvas = given_canvas reply.payload }) l ls 0)
-left_at p l ls (stage.Ticking m) reply at few = left_leg p l ls m reply at
+left_at p l ls (stage.Ticking m) reply at few = left_phase p l ls m reply at
 left_at p l ls (stage.Ending m) reply at few = omega (arith, left_on (record p { job = None; unpainted = false }) l ls m)
 
 left_worked : (p : Program) → left (worked p) ≡ left p

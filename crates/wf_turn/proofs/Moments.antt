@@ -1,7 +1,7 @@
 -- Each frame of an order is what a port shows at a moment of it.
 use Rattle.wf_turn.proofs.Common.{◌≡◌, ℕ, Bool, true, false, List, [], ◌++◌, Some, None, refl, sym, subst, get_or, Ok, ap, pos, All}
 use Rattle.wf_turn.proofs.Common.{All-cons, All-nil, Call, Reply, Turn, entry, Frame, frame_of, job_of, Beginning, begin_call, is_begin}
-use Rattle.wf_turn.proofs.Common.{start, State, step, PlainScript, Leg, Wanted, Begins, IsOfMoment, frames_after, is_marked, replay}
+use Rattle.wf_turn.proofs.Common.{start, State, step, PlainScript, Phase, Wanted, Begins, IsOfMoment, frames_after, is_marked, replay}
 use Rattle.wf_turn.proofs.Common.{given_canvas, go_on, line_done, next, painted_job, Program, took, took_canvas, took_frame, took_job}
 use Rattle.wf_turn.proofs.Common.{worked, plain, Show, frames_of, shown, turn, program_at, each_at, Stage, by_begin, next_is}
 use Rattle.wf_turn.proofs.Common.{port_is, bare, waiting, ◌∙◌, Option}
@@ -13,7 +13,7 @@ use Rattle.wf_turn.proofs.Begins.{nothing_shown}
 use Rattle.wf_model.specs.Beginnings.{IsOfContext, composed_is}
 use Rattle.wf_model.specs.Objects.{Context}
 use Rattle.wf_turn.proofs.Cases.{turn_case, IsTick}
-use Rattle.wf_turn.proofs.Holding.{Holds, AllHold, handed_hold, opening_hold}
+use Rattle.wf_turn.proofs.Holding.{Holds, AllHold, issued_hold, opening_hold}
 use Rattle.wf_turn.proofs.Works.{worked_painted}
 use Rattle.wf_turn.proofs.Painting.{canvas_painted, frame_painted, IsPainted, done_painted, on_painted}
 use Rattle.wf_turn.proofs.Replays.{Step, at_step, order_keeps, taken_turn, turn_of}
@@ -84,7 +84,7 @@ module _ (show : Show) (client : ℕ) (m : Bool) (p : Program) (stands : program
         of_port at.0 tick at.3 waits b (subst (λ x. begin_call (call.BeginPort x) h ≡ Ok (Some b)) at.1 is)
     begun _ wait tick at asks begins b is = absurd cc
 
-    at_question : (w : Wanted) → is_begin w.call ≡ true → (tick : ℕ) (s : Stage) (next_of : ℕ → Option Leg) → IsTick p w tick
+    at_question : (w : Wanted) → is_begin w.call ≡ true → (tick : ℕ) (s : Stage) (next_of : ℕ → Option Phase) → IsTick p w tick
         → Told w (λ reply. took_job (record p { tick = tick; stage = s }) reply.payload (next_of reply.value))
     unfolding step
     at_question w begins tick s next_of at asks =
@@ -123,7 +123,7 @@ turn_adds show client m done are taken =
     let own : t.program.unpainted ≡ false = each_at (Holds IsPainted) show.programs client t.program are t.own in
     subst (λ x. Adds show x.0 x.1) t.is
     (record {
-      painted = handed_hold IsPainted show.programs client (worked (took t.program reply)) (worked_painted (took t.program reply)) are;
+      painted = issued_hold IsPainted show.programs client (worked (took t.program reply)) (worked_painted (took t.program reply)) are;
       frames = frames_of show.turns (took t.program reply);
       behind = refl;
       begun = turn_told show client m t.program t.stands own t.wanted t.asks t.asks;

@@ -1,6 +1,7 @@
 -- The Job that a program takes can be painted.
 use Rattle.wf_turn.proofs.Common.{◌≡◌, ◌∙◌, ℕ, Bool, true, false, Option, None, Some, refl, ap, subst, IsTrue, IfSome, Call, Job, Payload}
-use Rattle.wf_turn.proofs.Common.{Reply, is_ok_code, is_out_of_memory, by_begin, IsPaintable, SamePayload, is_begin, State, act, step, Leg}
+use Rattle.wf_turn.proofs.Common.{Reply, is_ok_code, is_out_of_memory, by_begin, IsPaintable, SamePayload, is_begin, State, act}
+use Rattle.wf_turn.proofs.Common.{step, Phase}
 use Rattle.wf_turn.proofs.Common.{Wanted, Program, go_on, line_done, next, took, took_canvas, given_canvas, took_frame, IsWork, Paint}
 use Rattle.wf_turn.proofs.Common.{Canvas}
 use Rattle.wf_calls.specs.declared.reply.Payload.TheVariants as payload
@@ -44,7 +45,7 @@ IsPainted job unpainted = unpainted ≡ false
 pub done_painted : (p : Program) → p.unpainted ≡ false → (v : ℕ) → (line_done p v).unpainted ≡ false
 done_painted p painted v = done_holds IsPainted p v painted
 
-pub on_painted : (p : Program) → p.unpainted ≡ false → (l : Option Leg) → (go_on p l).unpainted ≡ false
+pub on_painted : (p : Program) → p.unpainted ≡ false → (l : Option Phase) → (go_on p l).unpainted ≡ false
 on_painted p painted l = on_holds IsPainted p l painted
 
 -- a Job that is not painted yet can be

@@ -2,11 +2,11 @@
 use Rattle.wf_turn.proofs.Common.{◌≡◌, ◌∙◌, ℕ, Bool, true, false, not, ◌&&◌, ◌==◌, List, [], ◌∷◌, Option, Some, None, refl, sym, ap, subst}
 use Rattle.wf_turn.proofs.Common.{arith, nat_tests, Call, IsPaintable, IsTrue, IfSome, IsSomeAnd, Turn, Reply, entry, is_begin}
 use Rattle.wf_turn.proofs.Common.{is_out_of_memory, is_running, State, step, Wanted}
-use Rattle.wf_turn.proofs.Common.{Answers, frames_if, frames_of, Program, handed, is_work, next, took, worked, IsFit, IsWork}
+use Rattle.wf_turn.proofs.Common.{Answers, frames_if, frames_of, Program, issued, is_work, next, took, worked, IsFit, IsWork}
 use Rattle.wf_calls.specs.Codes.{code_number}
 use Rattle.wf_machine.specs.Object.{is_ready}
 use Rattle.wf_turn.specs.Replayed.{MarkedAnswers, Retakes, wanted_now}
-use Rattle.wf_turn.proofs.Answering.{IsSame, same_outcome, took_handed}
+use Rattle.wf_turn.proofs.Answering.{IsSame, same_outcome, took_issued}
 use Rattle.wf_turn.proofs.Cases.{turn_case}
 use Rattle.wf_turn.proofs.Painting.{took_marked_work}
 use Rattle.wf_turn.proofs.Turnings.{marked_is, still_paintable, work_frames}
@@ -60,7 +60,7 @@ unmarked_answers m client h left c p now t is answers other =
 
 -- the turn that a program takes
 module _ (m : Bool) (client : ℕ) (h left : State) (p now : Program) (w : Wanted) (t : Turn) (fit : IsFit p) (asks : next p ≡ Some w)
-    (free : (w.wait && is_running h) ≡ false) (answers : MarkedAnswers m client h left w.call (handed p) now t) where
+    (free : (w.wait && is_running h) ≡ false) (answers : MarkedAnswers m client h left w.call (issued p) now t) where
   abbrev reply : Reply
   reply = answers.reply
 
@@ -68,7 +68,7 @@ module _ (m : Bool) (client : ℕ) (h left : State) (p now : Program) (w : Wante
   wanted = step h client w.call m
 
   now_q : now ≡ took p reply
-  now_q = answers.now_is ∙ took_handed p reply
+  now_q = answers.now_is ∙ took_issued p reply
 
   work : IsWork (took p reply)
   work = took_marked_work m p h client w reply fit.painted answers.may asks

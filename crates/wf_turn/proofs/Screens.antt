@@ -15,7 +15,7 @@ use Rattle.wf_model.specs.Objects.{Context}
 use Rattle.wf_turn.specs.Moments.{AsksContext, Composes, IsComposed, by_line, image_after, in_tick}
 use Rattle.wf_turn.specs.Program.{waiting}
 use Rattle.wf_turn.proofs.Cases.{IsTick, turn_case}
-use Rattle.wf_turn.proofs.Holding.{AllHold, handed_hold, opening_hold, took_holds, Holds}
+use Rattle.wf_turn.proofs.Holding.{AllHold, issued_hold, opening_hold, took_holds, Holds}
 use Rattle.wf_turn.proofs.Replays.{Step, at_step, order_keeps, taken_turn, turn_of}
 use Rattle.wf_turn.proofs.Screening.{AreFine, AreHome, BringsHome, newest_home, screen_composed}
 use Rattle.wf_turn.proofs.ScreenCalls.{AreScreens, Carries, step_keeps, carries_none, asks_carry}
@@ -160,7 +160,7 @@ module _ (n : ℕ) (Composed : ℕ → Bitmap → Type 0) where
       subst (λ x. AreComposed x.0) t.is
       (record {
         state = step_keeps n Composed show.state client t.wanted.call m (next_carries p t.wanted brings t.asks) are.state;
-        programs = handed_hold Brings show.programs client (worked (took p reply)) (worked_brings (took p reply) will) are.programs;
+        programs = issued_hold Brings show.programs client (worked (took p reply)) (worked_brings (took p reply) will) are.programs;
       })
 
   opening_fine : (modes : List Modes) (i : ℕ) → AreFine n Composed None (map screen (zip (range_with_len i (length modes)) modes))

@@ -4,16 +4,17 @@ use Rattle.wf_turn.proofs.Common.{length, Option, Some, None, refl, sym, ap, sub
 use Rattle.wf_turn.proofs.Common.{IsSomeAnd, Turn, Reply, entry, Frame, IsPaintable, Running, State, step, first_client}
 use Rattle.wf_turn.proofs.Common.{is_marked, ArePainted, Ends, IsCast, TakesTurn, Turned, TurnsTo, all_painted, has_work, may_turn}
 use Rattle.wf_turn.proofs.Common.{shown_by, with_frames, with_paint, Program, in_setup, is_work, place_of, taught, took, worked, all_left}
-use Rattle.wf_turn.proofs.Common.{left, length-map, AreOf, IsFit, IsWork, Show, answered, frames_of, handed_on, is_setting_up, turn}
+use Rattle.wf_turn.proofs.Common.{left, length-map, AreOf, IsFit, IsWork, Show, answered, frames_of, inherited, is_setting_up, turn}
 use Rattle.wf_turn.proofs.Common.{get_map, get_set}
 use Rattle.wf_turn.specs.Playing.{FirstEnds, HoldsPaintable, IsReady, TakesTurnAt}
-use Rattle.wf_turn.proofs.Holding.{handed_hold}
+use Rattle.wf_turn.proofs.Holding.{issued_hold}
 use Rattle.wf_turn.proofs.Painting.{IsPainted}
-use Rattle.wf_turn.proofs.Works.{all_are, cast_painted, handed_here, handed_worked, paint_all, worked_painted, worked_set}
+use Rattle.wf_turn.proofs.Works.{all_are, cast_painted, issued_here, issued_worked, paint_all, worked_painted, worked_set}
 use Rattle.wf_turn.specs.Serial.{IsFirst}
 use Rattle.wf_turn.proofs.Begins.{Leaves, ended, turn_leaves}
-use Rattle.wf_turn.proofs.Casts.{IsOf, are_handed, are_set, at_client, handed_get, handed_same, left_handed, left_set, not_handed, other_is}
-use Rattle.wf_turn.proofs.Casts.{other_set, setup_set, shown_handed}
+use Rattle.wf_turn.proofs.Programs.{IsOf, are_inherited, are_set, at_client, inherited_get, inherited_same, left_inherited}
+use Rattle.wf_turn.proofs.Programs.{left_set, not_inherited, other_is}
+use Rattle.wf_turn.proofs.Programs.{other_set, setup_set, shown_inherited}
 use Rattle.wf_words.specs.Places.{length_map, map_set}
 use Rattle.wf_turn.proofs.Clients.{first_place}
 use Rattle.wf_turn.proofs.Fitting.{fit_took}
@@ -74,13 +75,13 @@ module _ (s : Show) (client : ℕ) (p q : Program) (left_state : State) (t : Tur
   placed = set s.programs client q
 
   abbrev programs_now : List Program
-  programs_now = handed_on s.programs placed
+  programs_now = inherited s.programs placed
 
   abbrev pub show_now : Show
   show_now = record { state = left_state; programs = programs_now; frames = []; turns = s.turns + 1 }
 
   frames_are : frames_of s.turns (took p W.1) ≡ shown_by s.turns painted programs_now client
-  frames_are = takes.frames s.turns ∙ sym (shown_handed s.turns painted s.programs placed client q (get_set s.programs client p q found))
+  frames_are = takes.frames s.turns ∙ sym (shown_inherited s.turns painted s.programs placed client q (get_set s.programs client p q found))
 
   takes_turn : turn (with_frames [] s) client (is_marked t) ≡ Some (answered (with_frames [] s) client p W)
   unfolding turn
@@ -93,7 +94,7 @@ module _ (s : Show) (client : ℕ) (p q : Program) (left_state : State) (t : Tur
   turns =
       let show : State → Program → List Frame → Show = λ h r frames. record {
         state = h;
-        programs = handed_on s.programs (set s.programs client r);
+        programs = inherited s.programs (set s.programs client r);
         frames = frames;
         turns = s.turns + 1;
       } in
@@ -116,7 +117,7 @@ module _ (s : Show) (client : ℕ) (p q : Program) (left_state : State) (t : Tur
 
   programs_are : AreOf cast.script 0 programs_now
   programs_are =
-      are_handed cast.script s.programs placed
+      are_inherited cast.script s.programs placed
       (are_set cast.script 0 s.programs client p q cast.programs found (ap (λ x. x.script) takes.program ∙ same_script p W.1)
       (ap (λ x. x.client) takes.program ∙ same_client p W.1) fit_now)
 
@@ -146,17 +147,17 @@ module _ (s : Show) (client : ℕ) (p q : Program) (left_state : State) (t : Tur
         ap (λ ls. in_setup (record q { lines = ls })) q_lines
         ∙ ap (λ x. in_setup (record p { script = x })) (ap (λ x. x.script) takes.program ∙ same_script p W.1)
 
-    nothing_handed : programs_now ≡ placed
-    nothing_handed = not_handed s.programs placed (setup_set s.programs client p q found setup_is)
+    nothing_inherited : programs_now ≡ placed
+    nothing_inherited = not_inherited s.programs placed (setup_set s.programs client p q found setup_is)
 
     same_places : map place_of programs_now ≡ map place_of s.programs
-    same_places = ap (λ ps. map place_of ps) nothing_handed ∙ map_set place_of s.programs client p q found place_is
+    same_places = ap (λ ps. map place_of ps) nothing_inherited ∙ map_set place_of s.programs client p q found place_is
 
     same_setup : is_setting_up programs_now ≡ is_setting_up s.programs
-    same_setup = ap is_setting_up nothing_handed ∙ setup_set s.programs client p q found setup_is
+    same_setup = ap is_setting_up nothing_inherited ∙ setup_set s.programs client p q found setup_is
 
     here_now : slice_get programs_now client ≡ Some q
-    here_now = ap (λ ps. slice_get ps client) nothing_handed ∙ get_set s.programs client p q found
+    here_now = ap (λ ps. slice_get ps client) nothing_inherited ∙ get_set s.programs client p q found
 
   -- behind the turn a running frame is the first client's to end
   pub again : IsSome left_state.frame → IsFirst programs_now client × (may_turn programs_now client ≡ true)
@@ -210,7 +211,8 @@ module _ (s : Show) (client : ℕ) (p q : Program) (left_state : State) (t : Tur
       record {
         script = cast.script;
         programs = programs_are;
-        eight = length_map left programs_now placed (handed_same left (λ clock r. refl) s.programs placed) ∙ length_set s.programs client q
+        eight = length_map left programs_now placed (inherited_same left (λ clock r. refl) s.programs placed)
+            ∙ length_set s.programs client q
             ∙ cast.eight;
         alone = alone_now;
       }
@@ -224,10 +226,10 @@ module _ (s : Show) (client : ℕ) (p q : Program) (left_state : State) (t : Tur
   fewer =
       let line = has_line p (stands s client p cast first found) in
       let less = left_took p line.0 W.1 of_p.fit line.1 in
-      omega (arith, left_handed s.programs placed, left_set s.programs client p q found, less, ap left takes.program)
+      omega (arith, left_inherited s.programs placed, left_set s.programs client p q found, less, ap left takes.program)
 
   pub paintable : IsTrue painted → HoldsPaintable programs_now client
-  paintable is = handed_get (λ r. IsSomeAnd r.job IsPaintable) (λ clock r can. can) s.programs placed client q
+  paintable is = inherited_get (λ r. IsSomeAnd r.job IsPaintable) (λ clock r can. can) s.programs placed client q
       (get_set s.programs client p q found) (takes.paintable is)
 
   pub begun : left_state.frame ≡ None → shown_by s.turns painted programs_now client ≡ []
@@ -286,7 +288,7 @@ has_turn s seen client is cast are first allowed within =
 module _ (s : Show) (client : ℕ) (h : State) (placed : List Program) (t : Turn) (has : HasTurn s client)
     (takes : TakesTurnAt client s.state h s.programs placed t) where
   abbrev pub show_left : Show
-  show_left = record { state = h; programs = handed_on s.programs placed; frames = []; turns = s.turns + 1 }
+  show_left = record { state = h; programs = inherited s.programs placed; frames = []; turns = s.turns + 1 }
 
   -- the program whose turn it was
   record Taken : Type 0 where
@@ -308,18 +310,18 @@ module _ (s : Show) (client : ℕ) (h : State) (placed : List Program) (t : Turn
           record { before = p; now = took.0; found = found; placed_is = took.1.0; turn_is = took.1.1; work = took.1.2 }
 
   abbrev worked_programs : List Program
-  worked_programs = handed_on s.programs (set s.programs client (worked taken.now))
+  worked_programs = inherited s.programs (set s.programs client (worked taken.now))
 
   are_worked : ArePainted worked_programs
-  are_worked = handed_hold IsPainted s.programs client (worked taken.now) (worked_painted taken.now) has.are
+  are_worked = issued_hold IsPainted s.programs client (worked taken.now) (worked_painted taken.now) has.are
 
   here : slice_get show_left.programs client ≡ Some taken.now
-  here = ap (λ ps. slice_get (handed_on s.programs ps) client) taken.placed_is
-      ∙ handed_here s.programs client taken.before taken.now taken.found
+  here = ap (λ ps. slice_get (inherited s.programs ps) client) taken.placed_is
+      ∙ issued_here s.programs client taken.before taken.now taken.found
 
   painted_is : with_paint client show_left.programs ≡ worked_programs
-  painted_is = ap (λ ps. with_paint client (handed_on s.programs ps)) taken.placed_is
-      ∙ handed_worked s.programs client taken.before taken.now taken.found
+  painted_is = ap (λ ps. with_paint client (inherited s.programs ps)) taken.placed_is
+      ∙ issued_worked s.programs client taken.before taken.now taken.found
 
   pub are_after : ArePainted (with_paint client show_left.programs)
   are_after = subst ArePainted (sym painted_is) are_worked
@@ -380,9 +382,9 @@ module _ (s : Show) (client : ℕ) (h : State) (placed : List Program) (t : Turn
       (subst IsFit (sym one.program) (fit_took p reply (of s client p has.cast has.first taken.found).fit)))
 
 -- what is handed on, by the clock and the other programs
-pub handed_is : (clock now : Program) (others behind : List Program) (was : Bool) (items : List Program) → was ≡ in_setup clock
-    → items ≡ cond (was && not (in_setup now)) (map (taught now) behind) behind → now ∷ items ≡ handed_on (clock ∷ others) (now ∷ behind)
-handed_is clock now others behind was items was_is items_is =
+pub issued_is : (clock now : Program) (others behind : List Program) (was : Bool) (items : List Program) → was ≡ in_setup clock
+    → items ≡ cond (was && not (in_setup now)) (map (taught now) behind) behind → now ∷ items ≡ inherited (clock ∷ others) (now ∷ behind)
+issued_is clock now others behind was items was_is items_is =
     ap (λ ps. now ∷ ps) items_is
     ∙ ap (λ b. now ∷ cond (b && not (in_setup now)) (map (taught now) behind) behind) was_is
     ∙ by_bool (in_setup clock && not (in_setup now))

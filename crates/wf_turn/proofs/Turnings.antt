@@ -2,11 +2,11 @@
 use Rattle.wf_turn.proofs.Common.{◌≡◌, ◌∙◌, ℕ, Bool, true, false, ◌==◌, ◌&&◌, List, [], ◌∷◌, Option, Some, None, refl, sym, ap, subst}
 use Rattle.wf_turn.proofs.Common.{IsTrue, is_some, IfSome, IsSome, IsSomeAnd, drawn, Job, Turn, Reply, Code, entry, is_out_of_memory}
 use Rattle.wf_turn.proofs.Common.{IsPaintable, is_running, Running, State, step, Line, Wanted, is_marked, Answers, Ends, TakesTurn}
-use Rattle.wf_turn.proofs.Common.{frames_if, Program, first_line, handed, is_work, next, painted_job, place_of, took, worked, IsFit, IsWork}
+use Rattle.wf_turn.proofs.Common.{frames_if, Program, first_line, issued, is_work, next, painted_job, place_of, took, worked, IsFit, IsWork}
 use Rattle.wf_turn.proofs.Common.{frames_of}
 use Rattle.wf_calls.specs.declared.code.Code.TheVariants as code
 use Rattle.wf_calls.specs.Codes.{code_number}
-use Rattle.wf_turn.proofs.Answering.{IsSame, same_outcome, took_handed}
+use Rattle.wf_turn.proofs.Answering.{IsSame, same_outcome, took_issued}
 use Rattle.wf_turn.proofs.Begins.{ended}
 use Rattle.wf_turn.proofs.Painting.{took_work}
 
@@ -64,7 +64,7 @@ has_line p more = of_lines p.lines refl more
     of_lines (l ∷ ls) is more = (l.1, rw is refl)
 
 pub turn_taken : (client : ℕ) (h left : State) (p now : Program) (w : Wanted) (t : Turn) → IsFit p → IfSome h.frame (λ f. Ends f p)
-    → next p ≡ Some w → Answers client h left w.call (handed p) now t
+    → next p ≡ Some w → Answers client h left w.call (issued p) now t
     → TakesTurn client h left p (worked now) t (is_work now) × IsWork now
 turn_taken client h left p now w t fit alone asks answers = (takes, subst IsWork (sym now_q) work)
   where
@@ -75,7 +75,7 @@ turn_taken client h left p now w t fit alone asks answers = (takes, subst IsWork
     q = took p reply
 
     now_q : now ≡ q
-    now_q = answers.now_is ∙ took_handed p reply
+    now_q = answers.now_is ∙ took_issued p reply
 
     work : IsWork q
     work = took_work p h client w reply fit.painted answers.may asks

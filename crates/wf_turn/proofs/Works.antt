@@ -1,10 +1,10 @@
 -- The Job that a turn leaves, before it is painted and then.
 use Rattle.wf_turn.proofs.Common.{◌≡◌, ℕ, ◌+◌, zero, suc, Bool, true, false, ◌&&◌, not, cond, List, [], ◌∷◌, map, set, Option, Some, None}
 use Rattle.wf_turn.proofs.Common.{refl, sym, ap, subst, ◌∙◌, All-cons, All-nil, PlainScript, ArePainted, IsCast, all_painted, with_paint}
-use Rattle.wf_turn.proofs.Common.{Program, in_setup, painted_job, taught, worked, AreOf, Show, handed_on, get_set}
+use Rattle.wf_turn.proofs.Common.{Program, in_setup, painted_job, taught, worked, AreOf, Show, inherited, get_set}
 use Rattle.std.proofs.Common.{slice_get, option_map}
 use Rattle.std.specs.List.{All}
-use Rattle.wf_turn.proofs.Casts.{not_handed}
+use Rattle.wf_turn.proofs.Programs.{not_inherited}
 
 -- a program by whether its Job is to be painted
 abbrev pub worked_if : Bool → Program → Program
@@ -58,34 +58,34 @@ set_twice (p ∷ ps) zero q r = refl
 set_twice (p ∷ ps) (suc i) q r = ap (λ rs. p ∷ rs) (set_twice ps i q r)
 
 -- a program in its place, where the setup's names are handed on
-pub handed_here : (ps : List Program) (client : ℕ) (p q : Program) → slice_get ps client ≡ Some p
-    → slice_get (handed_on ps (set ps client q)) client ≡ Some q
-handed_here [] client p q found = absurd cc
-handed_here (clock ∷ others) zero p q found =
+pub issued_here : (ps : List Program) (client : ℕ) (p q : Program) → slice_get ps client ≡ Some p
+    → slice_get (inherited ps (set ps client q)) client ≡ Some q
+issued_here [] client p q found = absurd cc
+issued_here (clock ∷ others) zero p q found =
     elim (in_setup clock && not (in_setup q))
     as (λ b. slice_get (cond b (q ∷ map (taught q) others) (q ∷ others)) 0 ≡ Some q) [ true ↦ refl | false ↦ refl ]
-handed_here (clock ∷ others) (suc k) p q found =
-    ap (λ ps. slice_get ps (suc k)) (not_handed (clock ∷ others) (clock ∷ set others k q) refl)
+issued_here (clock ∷ others) (suc k) p q found =
+    ap (λ ps. slice_get ps (suc k)) (not_inherited (clock ∷ others) (clock ∷ set others k q) refl)
     ∙ get_set others k p q found
 
 -- names that are handed on before a Job is painted are the same behind it
-pub handed_worked : (ps : List Program) (client : ℕ) (p q : Program) → slice_get ps client ≡ Some p
-    → with_paint client (handed_on ps (set ps client q)) ≡ handed_on ps (set ps client (worked q))
-handed_worked ps client p q found = rw (handed_here ps client p q found) (of_list ps client found)
+pub issued_worked : (ps : List Program) (client : ℕ) (p q : Program) → slice_get ps client ≡ Some p
+    → with_paint client (inherited ps (set ps client q)) ≡ inherited ps (set ps client (worked q))
+issued_worked ps client p q found = rw (issued_here ps client p q found) (of_list ps client found)
   where
     of_list : (ps : List Program) (client : ℕ) → slice_get ps client ≡ Some p
-        → set (handed_on ps (set ps client q)) client (worked q) ≡ handed_on ps (set ps client (worked q))
+        → set (inherited ps (set ps client q)) client (worked q) ≡ inherited ps (set ps client (worked q))
     of_list [] client found = absurd cc
     of_list (clock ∷ others) zero found =
         elim q.unpainted
-        as (λ b. set (handed_on (clock ∷ others) (q ∷ others)) 0 (worked_if b q)
-        ≡ handed_on (clock ∷ others) (worked_if b q ∷ others)) [
+        as (λ b. set (inherited (clock ∷ others) (q ∷ others)) 0 (worked_if b q)
+        ≡ inherited (clock ∷ others) (worked_if b q ∷ others)) [
           | true ↦ of_setup (worked_if true q) refl (λ x. refl)
           | false ↦ of_setup q refl (λ x. refl)
         ]
       where
         of_setup : (r : Program) → in_setup r ≡ in_setup q → ((x : Program) → taught r x ≡ taught q x)
-            → set (handed_on (clock ∷ others) (q ∷ others)) 0 r ≡ handed_on (clock ∷ others) (r ∷ others)
+            → set (inherited (clock ∷ others) (q ∷ others)) 0 r ≡ inherited (clock ∷ others) (r ∷ others)
         of_setup r setup same =
             elim (in_setup clock && not (in_setup q))
             as (λ b. set (cond b (q ∷ map (taught q) others) (q ∷ others)) 0 r ≡ cond b (r ∷ map (taught r) others) (r ∷ others)) [
@@ -98,9 +98,9 @@ handed_worked ps client p q found = rw (handed_here ps client p q found) (of_lis
             taught_same (x ∷ xs) =
                 ap (λ y. y ∷ map (taught r) xs) (same x) ∙ ap (λ ys. taught q x ∷ ys) (taught_same xs)
     of_list (clock ∷ others) (suc k) found =
-        ap (λ ps. set ps (suc k) (worked q)) (not_handed (clock ∷ others) (clock ∷ set others k q) refl)
+        ap (λ ps. set ps (suc k) (worked q)) (not_inherited (clock ∷ others) (clock ∷ set others k q) refl)
         ∙ ap (λ ps. clock ∷ ps) (set_twice others k q (worked q))
-        ∙ sym (not_handed (clock ∷ others) (clock ∷ set others k (worked q)) refl)
+        ∙ sym (not_inherited (clock ∷ others) (clock ∷ set others k (worked q)) refl)
 
 -- programs that are of one script once they are painted are of it before
 pub all_of_one : (script own : PlainScript) (k : ℕ) (ps : List Program) → own ≡ script → AreOf script k (map worked ps)

@@ -6,7 +6,7 @@ use Rattle.wf_machine.specs.Object.{MayAnswer}
 use Rattle.wf_model.specs.Frames.{is_running}
 use Rattle.wf_model.specs.State.{State}
 use Rattle.wf_turn.specs.declared.stage.Wanted.{Wanted}
-use Rattle.wf_turn.specs.Program.{Program, handed, next, took, worked}
+use Rattle.wf_turn.specs.Program.{Program, issued, next, took, worked}
 use Rattle.wf_turn.specs.Quota.{left}
 use Rattle.wf_turn.specs.Ready.{IsFit, IsWork}
 
@@ -20,7 +20,7 @@ pub record IsNextCall (h : State) (p : Program) (c : Call) : Type 0 where
 -- The program that handed the call out takes the answer as the one before it does. The Job that comes can be painted. Once it is,
 -- the program can make its next call, and makes fewer than before.
 pub record GoesOn (p : Program) (reply : Reply) : Type 0 where
-  pub took_is : took (handed p) reply ≡ took p reply
+  pub took_is : took (issued p) reply ≡ took p reply
   pub work : IsWork (took p reply)
   pub fit : IsFit (worked (took p reply))
   pub fewer : left (worked (took p reply)) + 1 ≤ left p

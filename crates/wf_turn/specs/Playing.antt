@@ -67,7 +67,7 @@ has_work client programs = of_program (slice_get programs client)
 
 -- the Job that is held is that of the running frame, to be ended
 abbrev pub EndsAt : Option Job → Running → Stage → Type 0
-EndsAt job f (stage.Ending leg) = IsSomeAnd job (λ j. IsTrue (is_of_frame j f))
+EndsAt job f (stage.Ending phase) = IsSomeAnd job (λ j. IsTrue (is_of_frame j f))
 EndsAt job f _ = ⊥
 
 abbrev pub Ends : Running → Program → Type 0

@@ -18,8 +18,8 @@ use Rattle.wf_script.specs.declared.line.Verb.{Verb}
 use Rattle.wf_script.specs.declared.line.Verb.TheVariants as verb
 use Rattle.wf_script.specs.declared.name.Name.{Name}
 use Rattle.wf_script.specs.Script.{PlainScript}
-use Rattle.wf_turn.specs.declared.stage.Leg.{Leg}
-use Rattle.wf_turn.specs.declared.stage.Leg.TheVariants as leg
+use Rattle.wf_turn.specs.declared.stage.Phase.{Phase}
+use Rattle.wf_turn.specs.declared.stage.Phase.TheVariants as phase
 use Rattle.wf_turn.specs.declared.stage.Stage.{Stage}
 use Rattle.wf_turn.specs.declared.stage.Stage.TheVariants as stage
 use Rattle.wf_turn.specs.declared.stage.Wanted.{Wanted}
@@ -85,9 +85,9 @@ first_call p (verb.TryCompose d c) = Some (plain (call.BeginContext (handle p d)
 first_call p v = option_map plain (plain_call (handle p) v)
 
 -- what a tick asks for
-abbrev pub asked_for : Leg → Wanted
-asked_for (leg.Contexts asked last) = waiting (call.BeginNext last)
-asked_for (leg.Ports port) = waiting (call.BeginPort (pos port))
+abbrev pub asked_for : Phase → Wanted
+asked_for (phase.Contexts asked last) = waiting (call.BeginNext last)
+asked_for (phase.Ports port) = waiting (call.BeginPort (pos port))
 
 -- the next call at a stage
 abbrev pub wanted_at : Program → Verb → Stage → Option Wanted
@@ -121,8 +121,8 @@ kept_job (Some l) (stage.Ending m) job = None
 kept_job _ _ job = job
 
 -- the program after it handed its next call out: what the call carries is in it no more
-abbrev pub handed : Program → Program
-handed p = record p { canvas = kept_canvas (first_line p) p.stage p.canvas; job = kept_job (first_line p) p.stage p.job }
+abbrev pub issued : Program → Program
+issued p = record p { canvas = kept_canvas (first_line p) p.stage p.canvas; job = kept_job (first_line p) p.stage p.job }
 
 -- lines that are through
 
@@ -173,22 +173,22 @@ port_count p = length p.script.ports.modes.items
 
 -- the ports of a tick from one on
 abbrev pub at_port : Program → ℕ → Program
-at_port p port = if nat_lt (port_count p) port then line_done p 0 else at_stage p (stage.Ticking (leg.Ports port))
+at_port p port = if nat_lt (port_count p) port then line_done p 0 else at_stage p (stage.Ticking (phase.Ports port))
 
 -- after the answer of a BeginNext without a Job, or the end of its frame: contexts are asked for until the answer
 -- has no handle, or sixteen times
 abbrev pub asked_next : Program → ℕ → ℕ → Program
 asked_next p asked last =
-    if (last == 0) || not (nat_lt asked 16) then at_port p 1 else at_stage p (stage.Ticking (leg.Contexts asked last))
+    if (last == 0) || not (nat_lt asked 16) then at_port p 1 else at_stage p (stage.Ticking (phase.Contexts asked last))
 
 -- a tick goes on, or a line that is no tick is through
-abbrev pub go_on : Program → Option Leg → Program
+abbrev pub go_on : Program → Option Phase → Program
 go_on p None = line_done p 0
-go_on p (Some (leg.Contexts asked last)) = asked_next p asked last
-go_on p (Some (leg.Ports port)) = at_port p port
+go_on p (Some (phase.Contexts asked last)) = asked_next p asked last
+go_on p (Some (phase.Ports port)) = at_port p port
 
 -- a Job is to be painted and then ended; without one the line goes on
-abbrev pub took_job : Program → Payload → Option Leg → Program
+abbrev pub took_job : Program → Payload → Option Phase → Program
 took_job p (payload.Job job) l = record p { job = Some job; unpainted = true; stage = stage.Ending l }
 took_job p _ l = go_on p l
 
@@ -212,7 +212,7 @@ took_frame p paint (Some canvas) = record p { canvas = Some (painted_canvas pain
 
 -- a tick begins
 abbrev pub ticking : Program → Program
-ticking p = record p { tick = p.tick + 1; stage = stage.Ticking (leg.Contexts 0 0) }
+ticking p = record p { tick = p.tick + 1; stage = stage.Ticking (phase.Contexts 0 0) }
 
 -- the answer to the first call of a line
 abbrev pub took_first : Program → Line → Reply → Program
@@ -223,24 +223,24 @@ took_first p l reply = of_verb l.verb
     of_verb verb.Post = took_canvas p reply.payload
     of_verb verb.Discard = took_canvas p reply.payload
     of_verb (verb.Frame stream paint) = took_frame p paint (given_canvas reply.payload)
-    of_verb verb.Tick = took_job (ticking p) reply.payload (Some (leg.Contexts 1 reply.value))
+    of_verb verb.Tick = took_job (ticking p) reply.payload (Some (phase.Contexts 1 reply.value))
     of_verb (verb.Compose d c) = took_job p reply.payload None
     of_verb (verb.TryCompose d c) = took_job p reply.payload None
     of_verb _ = line_done p reply.value
 
 -- where a tick goes on after the answer to a question
-abbrev pub answered : Leg → ℕ → Leg
-answered (leg.Contexts asked last) value = leg.Contexts (asked + 1) value
-answered (leg.Ports port) value = leg.Ports (port + 1)
+abbrev pub answered : Phase → ℕ → Phase
+answered (phase.Contexts asked last) value = phase.Contexts (asked + 1) value
+answered (phase.Ports port) value = phase.Ports (port + 1)
 
 -- the answer to a tick's question
-abbrev pub took_leg : Program → Reply → Leg → Program
-took_leg p reply l = took_job p reply.payload (Some (answered l reply.value))
+abbrev pub took_phase : Program → Reply → Phase → Program
+took_phase p reply l = took_job p reply.payload (Some (answered l reply.value))
 
 abbrev pub took_at : Program → Line → Reply → Stage → Program
 took_at p l reply stage.Fresh = took_first p l reply
 took_at p l reply stage.Posting = took_canvas p reply.payload
-took_at p l reply (stage.Ticking m) = took_leg p reply m
+took_at p l reply (stage.Ticking m) = took_phase p reply m
 took_at p l reply (stage.Ending m) = go_on (record p { job = None; unpainted = false }) m
 
 -- a program after the answer to its next call

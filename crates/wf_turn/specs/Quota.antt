@@ -4,8 +4,8 @@ use Rattle.std.specs.List.{range_with_len}
 use Rattle.wf_script.specs.declared.line.Line.{Line}
 use Rattle.wf_script.specs.declared.line.Verb.{Verb}
 use Rattle.wf_script.specs.declared.line.Verb.TheVariants as verb
-use Rattle.wf_turn.specs.declared.stage.Leg.{Leg}
-use Rattle.wf_turn.specs.declared.stage.Leg.TheVariants as leg
+use Rattle.wf_turn.specs.declared.stage.Phase.{Phase}
+use Rattle.wf_turn.specs.declared.stage.Phase.TheVariants as phase
 use Rattle.wf_turn.specs.declared.stage.Stage.{Stage}
 use Rattle.wf_turn.specs.declared.stage.Stage.TheVariants as stage
 use Rattle.wf_turn.specs.Program.{Program, port_count}
@@ -32,20 +32,20 @@ abbrev pub most_turns : List Line → ℕ
 most_turns lines = sum_by (quota lines) (range_with_len 0 8)
 
 -- how many events a tick still makes at most
-abbrev pub leg_left : ℕ → Leg → ℕ
-leg_left ports (leg.Contexts asked last) = 2 * (16 - asked) + 2 * ports
-leg_left ports (leg.Ports port) = 2 * (ports + 1 - port)
+abbrev pub phase_left : ℕ → Phase → ℕ
+phase_left ports (phase.Contexts asked last) = 2 * (16 - asked) + 2 * ports
+phase_left ports (phase.Ports port) = 2 * (ports + 1 - port)
 
 -- how many events a line still makes at most once its frame ended
-abbrev pub next_left : ℕ → Option Leg → ℕ
+abbrev pub next_left : ℕ → Option Phase → ℕ
 next_left ports None = 0
-next_left ports (Some l) = leg_left ports l
+next_left ports (Some l) = phase_left ports l
 
 -- how many events a line still makes at most
 abbrev pub stage_left : ℕ → Verb → Stage → ℕ
 stage_left ports v stage.Fresh = line_quota v
 stage_left ports v stage.Posting = 1
-stage_left ports v (stage.Ticking l) = leg_left ports l
+stage_left ports v (stage.Ticking l) = phase_left ports l
 stage_left ports v (stage.Ending l) = next_left ports l + 1
 
 abbrev pub lines_left : List (ℕ × Line) → ℕ

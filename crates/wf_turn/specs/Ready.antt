@@ -3,21 +3,21 @@ use Rattle.std.specs.Prelude.{◌≡◌, ℕ, ◌+◌, ◌<◌, ◌≤◌, false
 use Rattle.wf_machine.specs.Object.{IsPaintable}
 use Rattle.wf_script.specs.declared.line.Line.{Line}
 use Rattle.wf_script.specs.Script.{PlainScript}
-use Rattle.wf_turn.specs.declared.stage.Leg.{Leg}
-use Rattle.wf_turn.specs.declared.stage.Leg.TheVariants as leg
+use Rattle.wf_turn.specs.declared.stage.Phase.{Phase}
+use Rattle.wf_turn.specs.declared.stage.Phase.TheVariants as phase
 use Rattle.wf_turn.specs.declared.stage.Stage.{Stage}
 use Rattle.wf_turn.specs.declared.stage.Stage.TheVariants as stage
 use Rattle.wf_turn.specs.Program.{Program, first_line, is_event, port_count}
 
 -- the numbers of a tick before a question, and before the end of a frame
-abbrev pub IsAsking : ℕ → Leg → Type 0
-IsAsking ports (leg.Contexts asked last) = asked < 16
-IsAsking ports (leg.Ports port) = port ≤ ports
+abbrev pub IsAsking : ℕ → Phase → Type 0
+IsAsking ports (phase.Contexts asked last) = asked < 16
+IsAsking ports (phase.Ports port) = port ≤ ports
 
-abbrev pub IsAnswered : ℕ → Option Leg → Type 0
+abbrev pub IsAnswered : ℕ → Option Phase → Type 0
 IsAnswered ports None = Unit {0}
-IsAnswered ports (Some (leg.Contexts asked last)) = asked ≤ 16
-IsAnswered ports (Some (leg.Ports port)) = port ≤ ports + 1
+IsAnswered ports (Some (phase.Contexts asked last)) = asked ≤ 16
+IsAnswered ports (Some (phase.Ports port)) = port ≤ ports + 1
 
 -- a Job that is not painted yet can be painted
 abbrev pub IsWork : Program → Type 0

@@ -20,19 +20,19 @@ use Rattle.wf_turn.specs.declared.replaying.Entered.TheVariants as entered
 use Rattle.wf_turn.specs.declared.replaying.ReplayStop.{ReplayStop}
 use Rattle.wf_turn.specs.declared.replaying.ReplayStop.TheVariants as stop
 use Rattle.wf_turn.specs.declared.stage.Wanted.{Wanted}
-use Rattle.wf_turn.specs.declared.troupe.Troupe.TheInside.{Inside}
+use Rattle.wf_turn.specs.declared.replayer.Replayer.TheInside.{Inside}
 use Rattle.wf_turn.specs.Program.{Program, next, took, worked}
 use Rattle.wf_turn.specs.Ready.{AreOf, IsFit}
 use Rattle.wf_turn.specs.Turns.{Show, frames_of, turn}
 use Rattle.wf_turn.specs.Play.{IsComplete, IsLegal, film, is_marked, over_after, replay, replay_from, replay_turn}
 use Rattle.wf_turn.specs.Playing.{HoldsPaintable, frames_if, shown_by, with_frames}
 
--- a troupe, as it is seen: its frames are in the film already
+-- a replayer, as it is seen: its frames are in the film already
 abbrev pub show_of : Inside → Show
 show_of s = record { state = s.machine; programs = s.clock ∷ s.others.items; frames = []; turns = s.turns }
 
 -- the programs are those of the eight clients of a script, each between two turns, with no Job left to paint
-pub record IsTroupe (show : Show) : Type 0 where
+pub record IsReplayer (show : Show) : Type 0 where
   pub script : PlainScript
   pub programs : AreOf script 0 show.programs
   pub eight : length show.programs ≡ 8
@@ -93,7 +93,7 @@ pub record IsRetaken (show : Show) (t : Turn) (painted : Bool) (after : Show) : 
   pub paintable : IsTrue painted → HoldsPaintable after.programs t.client
   pub within : t.client < 8
   pub turns : after.turns ≡ show.turns + 1
-  pub troupe : IsTroupe after
+  pub replayer : IsReplayer after
 
 -- entries are turns from a show without frames on, up to one that is none, counted from 0
 pub record StopsIn (start : Show) (ts : List Turn) (entry : ℕ) : Type 0 where
@@ -108,7 +108,7 @@ module _ {K : Type 0} (took : K → List ℕ → Type 0) (old new : K) (form : F
     pub put : Puts took old new (flat_map (frame_bytes form) frames)
     pub most : written ≤ was + 4194318
     pub turns : now.turns ≡ show.turns + 1
-    pub troupe : IsTroupe now
+    pub replayer : IsReplayer now
 
   -- what became of an entry
   abbrev pub Enters : ℕ → ℕ → Show → Show → Turn → Entered → Type 0

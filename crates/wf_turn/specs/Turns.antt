@@ -39,8 +39,8 @@ all_taught [] = []
 all_taught (clock ∷ others) = clock ∷ map (taught clock) others
 
 -- the programs after a turn: where it was the setup's last one, its names are handed on
-abbrev pub handed_on : (before now : List Program) → List Program
-handed_on before now = if is_setting_up before && not (is_setting_up now) then all_taught now else now
+abbrev pub inherited : (before now : List Program) → List Program
+inherited before now = if is_setting_up before && not (is_setting_up now) then all_taught now else now
 
 -- the program whose turn it may be: that of another client than 0 only behind the setup
 abbrev pub program_at : Show → ℕ → Option Program
@@ -65,7 +65,7 @@ abbrev pub answered : Show → ℕ → Program → State × Reply → Show × Tu
 answered show client p done = (
   record {
     state = done.0;
-    programs = handed_on show.programs (slice_set show.programs client (worked (took p done.1)));
+    programs = inherited show.programs (slice_set show.programs client (worked (took p done.1)));
     frames = show.frames ++ frames_of show.turns (took p done.1);
     turns = show.turns + 1;
   },

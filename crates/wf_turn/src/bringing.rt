@@ -7,7 +7,7 @@ ghost use Rattle.wf_turn.specs.Program.{port_count, replied, took, took_canvas, 
 ghost use Rattle.wf_turn.specs.Ready.{IsAnswered};
 
 use crate::program::Program;
-use crate::stage::{Leg, Stage};
+use crate::stage::{Phase, Stage};
 use wf_calls::{Answer, Job, Payload, Reply};
 use wf_image::{Canvas, Paint};
 use wf_script::{Line, Verb};
@@ -40,13 +40,13 @@ impl<'a> Program<'a> {
     }
 
     /// Holds the Job of a frame, to be painted and then ended.
-    fn hold_job(&mut self, job: Job, leg: Option<Leg>)
-        requires { IsAnswered (port_count self.old) leg }
-        ensures { self.new ≡ took_job self.old (Payload.Job job) leg }
+    fn hold_job(&mut self, job: Job, phase: Option<Phase>)
+        requires { IsAnswered (port_count self.old) phase }
+        ensures { self.new ≡ took_job self.old (Payload.Job job) phase }
     {
         self.job = Some(job);
         self.unpainted = true;
-        self.stage = Stage::Ending(leg);
+        self.stage = Stage::Ending(phase);
     }
 
     /// Takes a canvas that comes with the answer to the first call of a line.
@@ -73,8 +73,8 @@ impl<'a> Program<'a> {
         match self.stage {
             Stage::Fresh => self.took_first_canvas(line, answer, canvas),
             Stage::Posting => self.keep_canvas(canvas),
-            Stage::Ticking(leg) => self.go_on(Some(self.answered(leg, answer.value))),
-            Stage::Ending(leg) => self.ended(leg),
+            Stage::Ticking(phase) => self.go_on(Some(self.answered(phase, answer.value))),
+            Stage::Ending(phase) => self.ended(phase),
         }
     }
 
@@ -89,7 +89,7 @@ impl<'a> Program<'a> {
                 self.start_tick();
                 self.hold_job(
                     job,
-                    Some(Leg::Contexts {
+                    Some(Phase::Contexts {
                         asked: 1,
                         last: answer.value,
                     }),
@@ -111,11 +111,11 @@ impl<'a> Program<'a> {
         match self.stage {
             Stage::Fresh => self.took_first_job(line, answer, job),
             Stage::Posting => self.without_canvas(),
-            Stage::Ticking(leg) => {
-                let next = self.answered(leg, answer.value);
+            Stage::Ticking(phase) => {
+                let next = self.answered(phase, answer.value);
                 self.hold_job(job, Some(next));
             }
-            Stage::Ending(leg) => self.ended(leg),
+            Stage::Ending(phase) => self.ended(phase),
         }
     }
 

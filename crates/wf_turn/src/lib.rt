@@ -9,6 +9,7 @@ mod names;
 mod player;
 mod program;
 mod quotas;
+mod replayer;
 mod replaying;
 mod retaking;
 mod setup;
@@ -18,7 +19,6 @@ mod stage;
 mod taking;
 #[cfg(test)]
 mod tests;
-mod troupe;
 mod turning;
 
 pub use laws::{each_frame_is_of_a_moment, each_frame_tells_its_place, each_screen_is_of_a_moment};
@@ -27,4 +27,4 @@ pub use program::Program;
 pub use quotas::quota;
 pub use replaying::{ReplayStop, replay, replay_by};
 pub use show::put_job;
-pub use stage::{Leg, Stage, Wanted};
+pub use stage::{Phase, Stage, Wanted};

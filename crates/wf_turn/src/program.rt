@@ -8,7 +8,7 @@ ghost use Rattle.wf_calls.specs.Parts.{is_begin};
 ghost use Rattle.wf_script.specs.Script.{is_line};
 ghost use Rattle.wf_turn.specs.Calls.{IsPut, plain_call};
 ghost use Rattle.wf_turn.specs.Going.{GoesOnAfter};
-ghost use Rattle.wf_turn.specs.Program.{asked_for, first_call, first_line, handed, handle, in_setup, kept_first, next, plain, place_of};
+ghost use Rattle.wf_turn.specs.Program.{asked_for, first_call, first_line, issued, handle, in_setup, kept_first, next, plain, place_of};
 ghost use Rattle.wf_turn.specs.Program.{line_of, program, taught};
 ghost use Rattle.wf_turn.specs.Quota.{left, quota};
 ghost use Rattle.wf_turn.specs.Ready.{IsFit};
@@ -17,7 +17,7 @@ use crate::calls::put;
 use crate::names::Names;
 use crate::setup::setup_lines;
 use crate::skipping::skip;
-use crate::stage::{Leg, Stage, Wanted};
+use crate::stage::{Phase, Stage, Wanted};
 use std::alloc::Global;
 use std::marker::Model;
 use wf_calls::{Call, Job};
@@ -84,14 +84,14 @@ fn line_at(lines: &[Line], at: usize) -> Option<&Line>
 
 /// Asks for what a tick asks for.
 #[inline(never)]
-fn ask_leg(place: &mut Wanted, leg: Leg) -> bool
+fn ask_phase(place: &mut Wanted, phase: Phase) -> bool
     ensures given { result ≡ true }
-    ensures put { place.new ≡ asked_for leg }
+    ensures put { place.new ≡ asked_for phase }
 {
     place.wait = true;
-    match leg {
-        Leg::Contexts { last, .. } => put(&mut place.call, Call::BeginNext { after: last }),
-        Leg::Ports { port } => put(&mut place.call, Call::BeginPort { port: port.into() }),
+    match phase {
+        Phase::Contexts { last, .. } => put(&mut place.call, Call::BeginNext { after: last }),
+        Phase::Ports { port } => put(&mut place.call, Call::BeginPort { port: port.into() }),
     }
 }
 
@@ -148,14 +148,14 @@ impl<'a> Program<'a> {
     /// The call that a line begins with, if it makes an event: it is put where one stood.
     fn first_call(&mut self, verb: &'a Verb, wanted: &mut Wanted) -> bool
         ensures wanted { IsPut (first_call self.old verb.now) wanted.new result }
-        ensures handed { self.new ≡ record self.old { canvas = kept_first verb.now self.old.canvas } }
+        ensures issued { self.new ≡ record self.old { canvas = kept_first verb.now self.old.canvas } }
     {
         match verb {
             Verb::Acquire { stream } | Verb::Frame { stream, .. } => self.acquire(stream, wanted),
             Verb::Post => self.post(wanted),
             Verb::Discard => self.discard(wanted),
             Verb::Paint(_) => false,
-            Verb::Tick => ask_leg(wanted, Leg::Contexts { asked: 0, last: 0 }),
+            Verb::Tick => ask_phase(wanted, Phase::Contexts { asked: 0, last: 0 }),
             Verb::Compose { device, context } => self.compose(device, context, true, wanted),
             Verb::TryCompose { device, context } => self.compose(device, context, false, wanted),
             _ => self.one_call(verb, wanted),
@@ -211,7 +211,7 @@ impl<'a> Program<'a> {
     #[inline(never)]
     fn post(&mut self, wanted: &mut Wanted) -> bool
         ensures wanted { IsPut (option_map (λ canvas. plain (Call.Post canvas)) self.old.canvas) wanted.new result }
-        ensures handed { self.new ≡ record self.old { canvas = None } }
+        ensures issued { self.new ≡ record self.old { canvas = None } }
     {
         match self.canvas.take() {
             Some(canvas) => ask(wanted, Call::Post(canvas)),
@@ -223,7 +223,7 @@ impl<'a> Program<'a> {
     #[inline(never)]
     fn discard(&mut self, wanted: &mut Wanted) -> bool
         ensures wanted { IsPut (option_map (λ canvas. plain (Call.Discard canvas)) self.old.canvas) wanted.new result }
-        ensures handed { self.new ≡ record self.old { canvas = None } }
+        ensures issued { self.new ≡ record self.old { canvas = None } }
     {
         match self.canvas.take() {
             Some(canvas) => ask(wanted, Call::Discard(canvas)),
@@ -235,7 +235,7 @@ impl<'a> Program<'a> {
     #[inline(never)]
     fn end(&mut self, wanted: &mut Wanted) -> bool
         ensures wanted { IsPut (option_map (λ job. plain (Call.End job)) self.old.job) wanted.new result }
-        ensures handed { self.new ≡ record self.old { job = None } }
+        ensures issued { self.new ≡ record self.old { job = None } }
     {
         match self.job.take() {
             Some(job) => ask(wanted, Call::End(job)),
@@ -246,7 +246,7 @@ impl<'a> Program<'a> {
     /// The next call, as `next` gives it, if there is one: it is put where one stood.
     pub(crate) fn next_into(&mut self, wanted: &mut Wanted) -> bool
         ensures wanted { IsPut (next self.old) wanted.new result }
-        ensures handed { self.new ≡ handed self.old }
+        ensures issued { self.new ≡ issued self.old }
     {
         let Some(line) = self.first_line() else {
             return false;
@@ -254,7 +254,7 @@ impl<'a> Program<'a> {
         match self.stage {
             Stage::Fresh => self.first_call(&line.verb, wanted),
             Stage::Posting => self.post(wanted),
-            Stage::Ticking(leg) => ask_leg(wanted, leg),
+            Stage::Ticking(phase) => ask_phase(wanted, phase),
             Stage::Ending(_) => self.end(wanted),
         }
     }
@@ -264,7 +264,7 @@ impl<'a> Program<'a> {
     /// is a next call again, or the lines are through; a call that waits begins a frame.
     pub fn next(&mut self) -> Option<Wanted>
         ensures wanted { result ≡ next self.old }
-        ensures handed { self.new ≡ handed self.old }
+        ensures issued { self.new ≡ issued self.old }
         ensures waits { IfSome result (λ w. IsTrue w.wait → IsTrue (is_begin w.call)) }
         ensures left { IsFit self.old → IfSome result (λ _. 0 < left self.old) }
         ensures goes_on { IsFit self.old → IfSome result (GoesOnAfter self.old) }

@@ -2,10 +2,10 @@
 
 ghost use Rattle.std.specs.Prelude.{◌≡◌, ◌-◌, ◌<◌, ◌≤◌, ◌^◌, OnOk, length};
 ghost use Rattle.wf_turn.specs.Playing.{script_of};
-ghost use Rattle.wf_turn.specs.Replayed.{Enters, IsEntryCaused, IsReplayCaused, IsTroupe, PlaysAgain, PlaysAll};
+ghost use Rattle.wf_turn.specs.Replayed.{Enters, IsEntryCaused, IsReplayCaused, IsReplayer, PlaysAgain, PlaysAll};
 ghost use Rattle.wf_turn.specs.Turns.{opening_show};
 
-use crate::troupe::Troupe;
+use crate::replayer::Replayer;
 use std::alloc::Global;
 use wf_calls::{Order, Turn};
 use wf_film::{FilmForm, Writer};
@@ -64,9 +64,9 @@ pub fn replay_by<K: Sink, P: Painter>(
     ensures plays { PlaysAgain K.took k.old k.new form script.now order.now result }
     ensures caused { IsReplayCaused (K.faults k.old) (K.faults k.new) result }
 {
-    // The troupe stays where it was opened: it is large.
-    match &mut Troupe::open(alloc, script) {
-        Ok(troupe) => write_again(troupe, order, form, k, painter),
+    // The replayer stays where it was opened: it is large.
+    match &mut Replayer::open(alloc, script) {
+        Ok(replayer) => write_again(replayer, order, form, k, painter),
         Err(_) => Err(ReplayStop::NoMemory),
     }
 }
@@ -84,28 +84,28 @@ pub(crate) enum Entered {
     NoMemory,
 }
 
-/// Writes the film of an order by a troupe that is open.
+/// Writes the film of an order by a replayer that is open.
 fn write_again<K: Sink, P: Painter>(
-    troupe: &mut Troupe,
+    replayer: &mut Replayer,
     order: &Order,
     form: FilmForm,
     k: &mut K,
     painter: &mut P,
 ) -> Result<(), ReplayStop>
-    requires opened { troupe.old ≡ opening_show (script_of troupe.old) }
-    requires troupe { IsTroupe troupe.old }
+    requires opened { replayer.old ≡ opening_show (script_of replayer.old) }
+    requires replayer { IsReplayer replayer.old }
     requires few { length order.now < 2 ^ 32 }
-    ensures plays { PlaysAgain K.took k.old k.new form (script_of troupe.old) order.now result }
+    ensures plays { PlaysAgain K.took k.old k.new form (script_of replayer.old) order.now result }
     ensures caused { IsReplayCaused (K.faults k.old) (K.faults k.new) result }
 {
     let mut writer = match Writer::new(k, form) {
         Ok(writer) => writer,
         Err(_) => return Err(ReplayStop::WriteFault),
     };
-    if let Err(stop) = play_entries(troupe, order.turns(), k, &mut writer, painter) {
+    if let Err(stop) = play_entries(replayer, order.turns(), k, &mut writer, painter) {
         return Err(stop);
     }
-    if !troupe.is_over() {
+    if !replayer.is_over() {
         return Err(ReplayStop::BadEntry {
             entry: order.turns().len() as u32,
         });
@@ -118,22 +118,22 @@ fn write_again<K: Sink, P: Painter>(
 
 /// Plays all entries, and puts their frames.
 fn play_entries<K: Sink, P: Painter>(
-    troupe: &mut Troupe,
+    replayer: &mut Replayer,
     entries: &[Turn],
     k: &mut K,
     writer: &mut Writer,
     painter: &mut P,
 ) -> Result<(), ReplayStop>
-    requires troupe { IsTroupe troupe.old }
-    requires fresh { troupe.old.turns ≡ 0 }
+    requires replayer { IsReplayer replayer.old }
+    requires fresh { replayer.old.turns ≡ 0 }
     requires few { length entries.now < 2 ^ 32 }
     requires small { writer.old.written ≤ 4 }
-    ensures plays { PlaysAll K.took k.old k.new writer.old.form troupe.old troupe.new entries.now result }
+    ensures plays { PlaysAll K.took k.old k.new writer.old.form replayer.old replayer.new entries.now result }
     ensures small { OnOk result (writer.new.written < 2 ^ 62) }
     ensures caused { IsReplayCaused (K.faults k.old) (K.faults k.new) result }
 {
     for (place, entry) in entries.iter().enumerate() {
-        match play_entry(troupe, *entry, k, writer, painter) {
+        match play_entry(replayer, *entry, k, writer, painter) {
             Entered::Taken => {}
             Entered::NoTurn => {
                 return Err(ReplayStop::BadEntry {
@@ -149,21 +149,22 @@ fn play_entries<K: Sink, P: Painter>(
 
 /// Plays an entry, and puts its frame.
 fn play_entry<K: Sink, P: Painter>(
-    troupe: &mut Troupe,
+    replayer: &mut Replayer,
     entry: Turn,
     k: &mut K,
     writer: &mut Writer,
     painter: &mut P,
 ) -> Entered
-    requires troupe { IsTroupe troupe.old }
-    requires early { troupe.old.turns < 2 ^ 32 - 1 }
+    requires replayer { IsReplayer replayer.old }
+    requires early { replayer.old.turns < 2 ^ 32 - 1 }
     requires few { writer.old.written < 2 ^ 62 }
-    ensures enters { Enters K.took k.old k.new writer.old.form writer.old.written writer.new.written troupe.old troupe.new entry result }
+    ensures enters { Enters K.took k.old k.new writer.old.form writer.old.written
+        writer.new.written replayer.old replayer.new entry result }
     ensures form { writer.new.form ≡ writer.old.form }
     ensures caused { IsEntryCaused (K.faults k.old) (K.faults k.new) result }
 {
-    let begin = troupe.turns();
-    let taken = match troupe.turn(entry, painter) {
+    let begin = replayer.turns();
+    let taken = match replayer.turn(entry, painter) {
         Ok(taken) => taken,
         Err(_) => return Entered::NoMemory,
     };
@@ -171,7 +172,7 @@ fn play_entry<K: Sink, P: Painter>(
         Some(painted) => painted,
         None => return Entered::NoTurn,
     };
-    match troupe.put_frame(usize::from(entry.client), painted, begin, k, writer) {
+    match replayer.put_frame(usize::from(entry.client), painted, begin, k, writer) {
         Ok(()) => Entered::Taken,
         Err(_) => Entered::WriteFault,
     }

@@ -4,7 +4,7 @@ use wf_calls::Call;
 
 /// What a tick asks for next.
 #[derive(Clone, Copy, Debug, PartialEq, Eq)]
-pub enum Leg {
+pub enum Phase {
     /// A frame of a context: so many were asked for, and the last answer had this value.
     Contexts { asked: u32, last: u32 },
     /// The frame of a port, counted from 1.
@@ -19,9 +19,9 @@ pub enum Stage {
     /// With a painted canvas to post.
     Posting,
     /// In a tick, before it asks for a frame.
-    Ticking(Leg),
+    Ticking(Phase),
     /// With a frame's Job to end, and where a tick goes on behind it; none where the line is through then.
-    Ending(Option<Leg>),
+    Ending(Option<Phase>),
 }
 
 /// A call that a program makes next, and whether it waits until no frame runs.

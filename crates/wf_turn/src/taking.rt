@@ -15,7 +15,7 @@ ghost use Rattle.wf_turn.specs.Program.{took_first, worked};
 use crate::names::Names;
 use crate::program::Program;
 use crate::skipping::skip;
-use crate::stage::{Leg, Stage};
+use crate::stage::{Phase, Stage};
 use wf_calls::{Answer, Job};
 use wf_kernel::Painter;
 use wf_script::{Line, Verb};
@@ -54,7 +54,7 @@ impl<'a> Program<'a> {
         if self.port_count < port {
             self.finish(0);
         } else {
-            self.stage = Stage::Ticking(Leg::Ports { port });
+            self.stage = Stage::Ticking(Phase::Ports { port });
         }
     }
 
@@ -66,19 +66,19 @@ impl<'a> Program<'a> {
         if last == 0 || asked >= MOST_CONTEXTS {
             self.at_port(1);
         } else {
-            self.stage = Stage::Ticking(Leg::Contexts { asked, last });
+            self.stage = Stage::Ticking(Phase::Contexts { asked, last });
         }
     }
 
     /// A tick goes on, or a line that is no tick is through.
-    pub(crate) fn go_on(&mut self, leg: Option<Leg>)
-        requires { IsAnswered (port_count self.old) leg }
-        ensures { self.new ≡ go_on self.old leg }
+    pub(crate) fn go_on(&mut self, phase: Option<Phase>)
+        requires { IsAnswered (port_count self.old) phase }
+        ensures { self.new ≡ go_on self.old phase }
     {
-        match leg {
+        match phase {
             None => self.finish(0),
-            Some(Leg::Contexts { asked, last }) => self.asked_next(asked, last),
-            Some(Leg::Ports { port }) => self.at_port(port),
+            Some(Phase::Contexts { asked, last }) => self.asked_next(asked, last),
+            Some(Phase::Ports { port }) => self.at_port(port),
         }
     }
 
@@ -88,34 +88,34 @@ impl<'a> Program<'a> {
         ensures { self.new ≡ ticking self.old }
     {
         self.tick += 1;
-        self.stage = Stage::Ticking(Leg::Contexts { asked: 0, last: 0 });
+        self.stage = Stage::Ticking(Phase::Contexts { asked: 0, last: 0 });
     }
 
     /// Where a tick goes on after the answer to a question.
-    pub(crate) fn answered(&self, leg: Leg, value: u32) -> Leg
-        requires asking { IsAsking (port_count self.now) leg }
+    pub(crate) fn answered(&self, phase: Phase, value: u32) -> Phase
+        requires asking { IsAsking (port_count self.now) phase }
         requires ports { port_count self.now ≤ 4 }
-        ensures leg { result ≡ answered leg value }
+        ensures phase { result ≡ answered phase value }
         ensures answered { IsAnswered (port_count self.now) (Some result) }
     {
-        match leg {
-            Leg::Contexts { asked, .. } => Leg::Contexts {
+        match phase {
+            Phase::Contexts { asked, .. } => Phase::Contexts {
                 asked: asked + 1,
                 last: value,
             },
-            Leg::Ports { port } => Leg::Ports { port: port + 1 },
+            Phase::Ports { port } => Phase::Ports { port: port + 1 },
         }
     }
 
     /// Goes on after the end of a frame.
     #[inline(never)]
-    pub(crate) fn ended(&mut self, leg: Option<Leg>)
-        requires { IsAnswered (port_count self.old) leg }
-        ensures { self.new ≡ go_on (record self.old { job = None; unpainted = false }) leg }
+    pub(crate) fn ended(&mut self, phase: Option<Phase>)
+        requires { IsAnswered (port_count self.old) phase }
+        ensures { self.new ≡ go_on (record self.old { job = None; unpainted = false }) phase }
     {
         self.job = None;
         self.unpainted = false;
-        self.go_on(leg);
+        self.go_on(phase);
     }
 
     /// Takes the answer to the first call of a line, with which nothing comes.
@@ -129,7 +129,7 @@ impl<'a> Program<'a> {
             Verb::Frame { .. } => self.finish(0),
             Verb::Tick => {
                 self.start_tick();
-                self.go_on(Some(Leg::Contexts {
+                self.go_on(Some(Phase::Contexts {
                     asked: 1,
                     last: answer.value,
                 }));
@@ -149,8 +149,8 @@ impl<'a> Program<'a> {
         match self.stage {
             Stage::Fresh => self.took_first_answer(line, answer),
             Stage::Posting => self.without_canvas(),
-            Stage::Ticking(leg) => self.go_on(Some(self.answered(leg, answer.value))),
-            Stage::Ending(leg) => self.ended(leg),
+            Stage::Ticking(phase) => self.go_on(Some(self.answered(phase, answer.value))),
+            Stage::Ending(phase) => self.ended(phase),
         }
     }
 

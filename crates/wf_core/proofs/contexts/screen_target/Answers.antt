@@ -2,7 +2,7 @@ use Rattle.std.proofs.Common.{◌≡◌, ◌∙◌, true, Err, sym, ap}
 use Rattle.std.proofs.Math.Facts.{to_z-of_z}
 use Rattle.wf_words.specs.Whole.{count_of}
 use Rattle.wf_model.specs.Core.{has_port}
-use Rattle.wf_objects.specs.Sides.{side_of}
+use Rattle.wf_objects.specs.Sides.{core_side_of}
 use Rattle.wf_core.proofs.Screens.{port_used, screen_is, screen_kept}
 use Rattle.wf_core.proofs.contexts.screen_target.Goals as goal
 
@@ -16,7 +16,7 @@ pub returns-then-has_port-clause-asks : goal.returns-then-has_port-clause-asks
 returns-then-has_port-clause-asks c = λ m.
     let a = c.args in
     let seen = c.in_ok-target.target in
-    let w = side_of a.objects.now a.store.now in
+    let w = core_side_of a.objects.now a.store.now in
     let number = rw (to_z-of_z c.ranges.port) at c.port_number-port.ensures.number in
     let used : has_port (count_of a.port) w ≡ true = ap (λ n. has_port n w) (sym number) ∙ sym c.has_port.ensures ∙ c.if-has_port.true in
     port_used a.device a.port a.screen a.objects.now a.store.now seen c.in_ok-check_device.ensures

@@ -1,7 +1,7 @@
 use Rattle.std.proofs.Common.{true}
 use Rattle.wf_words.specs.Places.{within}
 use Rattle.wf_objects.specs.Does.{Step, element_made, in_owned, in_place, refuses}
-use Rattle.wf_objects.specs.Sides.{side_of}
+use Rattle.wf_objects.specs.Sides.{core_side_of}
 use Rattle.wf_core.proofs.Denials.{no_element}
 use Rattle.wf_core.proofs.denying.deny_element.Goals as goal
 
@@ -15,5 +15,5 @@ returns c =
     let denied : Step = λ handle m y w. element_made handle true y w in
     in_owned here.place denied core core store store _
     (refuses (in_place here.place denied) core store _ c.requires
-    (rw x.1 (no_element (side_of core store) _ x.0.handle x.0 (rw x.1 at c.deny_element.ensures))))
+    (rw x.1 (no_element (core_side_of core store) _ x.0.handle x.0 (rw x.1 at c.deny_element.ensures))))
     a.device a.context here.ensures.found here.ensures.here

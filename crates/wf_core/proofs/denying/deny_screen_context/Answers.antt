@@ -3,7 +3,7 @@ use Rattle.std.proofs.Math.Facts.{to_z-of_z}
 use Rattle.wf_scene.specs.declared.look.Seen.{Seen}
 use Rattle.wf_model.specs.Core.{screen_context}
 use Rattle.wf_objects.specs.Does.{context_made}
-use Rattle.wf_objects.specs.Sides.{side_of}
+use Rattle.wf_objects.specs.Sides.{core_side_of}
 use Rattle.wf_core.proofs.Denials.{denied_asking, denied_making, no_context}
 use Rattle.wf_core.proofs.denying.deny_screen_context.Goals as goal
 
@@ -19,4 +19,4 @@ returns-in-Ok c =
     let found = c.in-Ok.field-0 in
     denied_making (λ m. screen_context a.device a.port a.screen m) (λ (x : ℕ × Seen). context_made a.device x.0 x.1) a.objects.now
     a.store.now _ c.requires.fits found (rw (to_z-of_z c.ranges.port) at c.in-Ok.ensures.asks)
-    (no_context (side_of a.objects.now a.store.now) _ a.device found.0 found.1 c.deny_context.ensures)
+    (no_context (core_side_of a.objects.now a.store.now) _ a.device found.0 found.1 c.deny_context.ensures)

@@ -19,7 +19,7 @@ paint-requires g c =
     gone c.args.program.now l.program c.args.pass.now l.pass c.ask-reply.new.pass w reply l.invariant asks c.in-Some.ensures.waits
     (c.in-Some.ensures.goes_on l.invariant.fit) c.ask-reply.ensures.made c.ask-reply.ensures.own in
     let now : c.took.new.self ≡ took l.program reply =
-    c.took.ensures ∙ ap (λ q. took q reply) c.next.ensures.handed ∙ goes.took_is in
+    c.took.ensures ∙ ap (λ q. took q reply) c.next.ensures.issued ∙ goes.took_is in
     subst IsWork (sym now) goes.work
 
 pub loop-wanted-preserved : goal.loop-wanted-preserved
@@ -34,7 +34,7 @@ loop-wanted-preserved g c =
     goes_on c.ask-reply.ensures.made c.ask-reply.ensures.own in
     let now : c.paint.new.self ≡ worked (took l.program reply) =
     c.paint.ensures.painted
-    ∙ ap worked (c.took.ensures ∙ ap (λ q. took q reply) c.next.ensures.handed ∙ goes.took_is) in
+    ∙ ap worked (c.took.ensures ∙ ap (λ q. took q reply) c.next.ensures.issued ∙ goes.took_is) in
     subst (λ q. RunsSoFar c.args.program.now q c.args.pass.now c.ask-reply.new.pass) (sym now)
     (goes_once c.args.program.now l.program c.args.pass.now l.pass c.ask-reply.new.pass w reply l.invariant asks c.in-Some.ensures.waits
     goes_on c.ask-reply.ensures.made c.ask-reply.ensures.own)

@@ -16,7 +16,7 @@ paint_rows-requires-clause-work g c κs within =
     gone_is c.args.desk.now.id a c.ask-reply.new.pass w reply c.requires.clock asks c.in-Some.ensures.waits goes_on
     c.ask-reply.ensures.made c.ask-reply.ensures.own in
     let now : c.took.new.self ≡ took a.program reply =
-    c.took.ensures ∙ ap (λ q. took q reply) c.next.ensures.handed ∙ goes.took_is in
+    c.took.ensures ∙ ap (λ q. took q reply) c.next.ensures.issued ∙ goes.took_is in
     subst IsWork (sym now) goes.work
 
 pub returns-clause-clock : goal.returns-clause-clock
@@ -30,7 +30,7 @@ returns-clause-clock g c =
     gone_is c.args.desk.now.id a c.ask-reply.new.pass w reply c.requires.clock asks c.in-Some.ensures.waits goes_on
     c.ask-reply.ensures.made c.ask-reply.ensures.own in
     let now : c.took.new.self ≡ took a.program reply =
-    c.took.ensures ∙ ap (λ q. took q reply) c.next.ensures.handed ∙ goes.took_is in
+    c.took.ensures ∙ ap (λ q. took q reply) c.next.ensures.issued ∙ goes.took_is in
     clock_goes c.args.desk.now.id a c.ask-reply.new.pass c.paint_rows.new.program w reply c.paint_rows.result c.requires.clock asks
     c.in-Some.ensures.waits goes_on c.ask-reply.ensures.made c.ask-reply.ensures.own (c.paint_rows.ensures.painted ∙ ap worked now)
     (c.paint_rows.ensures.was ∙ ap is_work now)
@@ -46,7 +46,7 @@ returns-clause-advanced g c =
     gone_is c.args.desk.now.id a c.ask-reply.new.pass w reply c.requires.clock asks c.in-Some.ensures.waits goes_on
     c.ask-reply.ensures.made c.ask-reply.ensures.own in
     let now : c.took.new.self ≡ took a.program reply =
-    c.took.ensures ∙ ap (λ q. took q reply) c.next.ensures.handed ∙ goes.took_is in
+    c.took.ensures ∙ ap (λ q. took q reply) c.next.ensures.issued ∙ goes.took_is in
     advanced c.args.desk.now.id a c.ask-reply.new.pass c.paint_rows.new.program w reply c.paint_rows.result c.requires.clock asks
     c.in-Some.ensures.waits goes_on c.ask-reply.ensures.made c.ask-reply.ensures.own (c.paint_rows.ensures.painted ∙ ap worked now)
     (c.paint_rows.ensures.was ∙ ap is_work now)
@@ -62,7 +62,7 @@ returns-clause-setting g c =
     gone_is c.args.desk.now.id a c.ask-reply.new.pass w reply c.requires.clock asks c.in-Some.ensures.waits goes_on
     c.ask-reply.ensures.made c.ask-reply.ensures.own in
     let now : c.took.new.self ≡ took a.program reply =
-    c.took.ensures ∙ ap (λ q. took q reply) c.next.ensures.handed ∙ goes.took_is in
+    c.took.ensures ∙ ap (λ q. took q reply) c.next.ensures.issued ∙ goes.took_is in
     sets_up c.args.desk.now.id a c.ask-reply.new.pass c.paint_rows.new.program w reply c.paint_rows.result c.requires.clock asks
     c.in-Some.ensures.waits goes_on c.ask-reply.ensures.made c.ask-reply.ensures.own (c.paint_rows.ensures.painted ∙ ap worked now)
     (c.paint_rows.ensures.was ∙ ap is_work now)

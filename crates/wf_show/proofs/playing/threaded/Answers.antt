@@ -1,34 +1,34 @@
 use Rattle.std.proofs.Common.{◌∙◌, inl, ap, subst, length}
-use Rattle.wf_show.proofs.Casts.{written_back}
+use Rattle.wf_show.proofs.Players.{written_back}
 use Rattle.wf_show.proofs.Results.{Closed, ends_in_head, ends_in_tail, ends_others, ends_well, few_turns_in_all}
 use Rattle.wf_show.proofs.playing.threaded.Goals as goal
 
 pub finish-requires-clause-turns : goal.finish-requires-clause-turns
 finish-requires-clause-turns g c =
-    let cast = c.in-Ok.cast in
+    let opened = c.in-Ok.opened in
     let played = c.play_all-played in
     let clock = played.new.clock in
     let others = played.new.others in
-    let items_are = written_back cast.others.len cast.others.items others cast.others.ok.0 (c.in-Ok-played.ensures.many
+    let items_are = written_back opened.others.len opened.others.items others opened.others.ok.0 (c.in-Ok-played.ensures.many
     ∙ ap length c.deref_mut.ensures.value) in
     let closed : Closed clock others c.close-order.result =
     subst (λ ps. Closed clock ps c.close-order.result) items_are c.close-order.ensures in
-    few_turns_in_all c.args.script.now cast c.in-Ok.ensures clock c.in-Ok-played.ensures.clock c.in-Ok-played.ensures.script
+    few_turns_in_all c.args.script.now opened c.in-Ok.ensures clock c.in-Ok-played.ensures.clock c.in-Ok-played.ensures.script
     c.deref_mut.result.now others
     c.deref_mut.ensures.value c.in-Ok-played.ensures.many
     c.close-order.result closed (inl c.in-Ok-played.ensures.played)
 
 pub returns-in-Ok-finish-clause-plays : goal.returns-in-Ok-finish-clause-plays
 returns-in-Ok-finish-clause-plays g c =
-    let cast = c.in-Ok.cast in
+    let opened = c.in-Ok.opened in
     let played = c.play_all-played in
     let clock = played.new.clock in
     let others = played.new.others in
-    let items_are = written_back cast.others.len cast.others.items others cast.others.ok.0 (c.in-Ok-played.ensures.many
+    let items_are = written_back opened.others.len opened.others.items others opened.others.ok.0 (c.in-Ok-played.ensures.many
     ∙ ap length c.deref_mut.ensures.value) in
     let closed : Closed clock others c.close-order.result =
     subst (λ ps. Closed clock ps c.close-order.result) items_are c.close-order.ensures in
-    ends_well c.args.script.now cast c.in-Ok.ensures clock c.in-Ok-played.ensures.clock c.in-Ok-played.ensures.script
+    ends_well c.args.script.now opened c.in-Ok.ensures clock c.in-Ok-played.ensures.clock c.in-Ok-played.ensures.script
     c.deref_mut.result.now others
     c.deref_mut.ensures.value c.in-Ok-played.ensures.many
     c.close-order.result closed g.K.Sink.took c.args.form c.args.k.now played.new.k c.finish.new.k
@@ -37,15 +37,15 @@ returns-in-Ok-finish-clause-plays g c =
 
 pub returns-in-Err-finish-clause-plays : goal.returns-in-Err-finish-clause-plays
 returns-in-Err-finish-clause-plays g c =
-    let cast = c.in-Ok.cast in
+    let opened = c.in-Ok.opened in
     let played = c.play_all-played in
     let clock = played.new.clock in
     let others = played.new.others in
-    let items_are = written_back cast.others.len cast.others.items others cast.others.ok.0 (c.in-Ok-played.ensures.many
+    let items_are = written_back opened.others.len opened.others.items others opened.others.ok.0 (c.in-Ok-played.ensures.many
     ∙ ap length c.deref_mut.ensures.value) in
     let closed : Closed clock others c.close-order.result =
     subst (λ ps. Closed clock ps c.close-order.result) items_are c.close-order.ensures in
-    ends_in_tail c.args.script.now cast c.in-Ok.ensures clock c.in-Ok-played.ensures.clock c.in-Ok-played.ensures.script
+    ends_in_tail c.args.script.now opened c.in-Ok.ensures clock c.in-Ok-played.ensures.clock c.in-Ok-played.ensures.script
     c.deref_mut.result.now others
     c.deref_mut.ensures.value c.in-Ok-played.ensures.many
     c.close-order.result closed g.K.Sink.took c.args.form c.args.k.now played.new.k c.finish.new.k
@@ -55,30 +55,30 @@ returns-in-Err-finish-clause-plays g c =
 
 pub returns-in-Err-finish-clause-others : goal.returns-in-Err-finish-clause-others
 returns-in-Err-finish-clause-others g c =
-    let cast = c.in-Ok.cast in
+    let opened = c.in-Ok.opened in
     let played = c.play_all-played in
     let clock = played.new.clock in
     let others = played.new.others in
-    let items_are = written_back cast.others.len cast.others.items others cast.others.ok.0 (c.in-Ok-played.ensures.many
+    let items_are = written_back opened.others.len opened.others.items others opened.others.ok.0 (c.in-Ok-played.ensures.many
     ∙ ap length c.deref_mut.ensures.value) in
     let closed : Closed clock others c.close-order.result =
     subst (λ ps. Closed clock ps c.close-order.result) items_are c.close-order.ensures in
-    ends_others c.args.script.now cast c.in-Ok.ensures clock c.in-Ok-played.ensures.clock c.in-Ok-played.ensures.script
+    ends_others c.args.script.now opened c.in-Ok.ensures clock c.in-Ok-played.ensures.clock c.in-Ok-played.ensures.script
     c.deref_mut.result.now others
     c.deref_mut.ensures.value c.in-Ok-played.ensures.many
     c.close-order.result closed c.in-Err-finish.stop.written (inl c.in-Ok-played.ensures.played) c.write_fault.result c.write_fault.ensures
 
 pub returns-in-Err-played-clause-plays : goal.returns-in-Err-played-clause-plays
 returns-in-Err-played-clause-plays g c =
-    let cast = c.in-Ok.cast in
+    let opened = c.in-Ok.opened in
     let played = c.play_all-played in
     let clock = played.new.clock in
     let others = played.new.others in
-    let items_are = written_back cast.others.len cast.others.items others cast.others.ok.0 (c.in-Err-played.ensures.many
+    let items_are = written_back opened.others.len opened.others.items others opened.others.ok.0 (c.in-Err-played.ensures.many
     ∙ ap length c.deref_mut.ensures.value) in
     let closed : Closed clock others c.close-order.result =
     subst (λ ps. Closed clock ps c.close-order.result) items_are c.close-order.ensures in
-    ends_in_head c.args.script.now cast c.in-Ok.ensures clock c.in-Err-played.ensures.clock c.in-Err-played.ensures.script
+    ends_in_head c.args.script.now opened c.in-Ok.ensures clock c.in-Err-played.ensures.clock c.in-Err-played.ensures.script
     c.deref_mut.result.now others
     c.deref_mut.ensures.value c.in-Err-played.ensures.many
     c.close-order.result closed g.K.Sink.took c.args.form c.args.k.now played.new.k c.in-Err-played.stop.written
@@ -86,15 +86,15 @@ returns-in-Err-played-clause-plays g c =
 
 pub returns-in-Err-played-clause-others : goal.returns-in-Err-played-clause-others
 returns-in-Err-played-clause-others g c =
-    let cast = c.in-Ok.cast in
+    let opened = c.in-Ok.opened in
     let played = c.play_all-played in
     let clock = played.new.clock in
     let others = played.new.others in
-    let items_are = written_back cast.others.len cast.others.items others cast.others.ok.0 (c.in-Err-played.ensures.many
+    let items_are = written_back opened.others.len opened.others.items others opened.others.ok.0 (c.in-Err-played.ensures.many
     ∙ ap length c.deref_mut.ensures.value) in
     let closed : Closed clock others c.close-order.result =
     subst (λ ps. Closed clock ps c.close-order.result) items_are c.close-order.ensures in
-    ends_others c.args.script.now cast c.in-Ok.ensures clock c.in-Err-played.ensures.clock c.in-Err-played.ensures.script
+    ends_others c.args.script.now opened c.in-Ok.ensures clock c.in-Err-played.ensures.clock c.in-Err-played.ensures.script
     c.deref_mut.result.now others
     c.deref_mut.ensures.value c.in-Err-played.ensures.many
     c.close-order.result closed c.in-Err-played.stop.written c.in-Err-played.ensures.ended c.write_fault-in-Err-played.result

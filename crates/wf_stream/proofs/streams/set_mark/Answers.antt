@@ -1,7 +1,7 @@
 use Rattle.std.proofs.Common.{true, sym, ap, ◌∙◌}
 use Rattle.std.specs.Option.{option_copied_mut}
 use Rattle.wf_stream.specs.Placed.{with_mark}
-use Rattle.wf_stream.proofs.Shelves.{placed_found, placed_absent}
+use Rattle.wf_stream.proofs.StreamTables.{placed_found, placed_absent}
 use Rattle.wf_stream.proofs.streams.set_mark.Goals as goal
 
 pub returns-in-Some : goal.returns-in-Some

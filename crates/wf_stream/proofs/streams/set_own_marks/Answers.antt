@@ -1,7 +1,7 @@
 use Rattle.std.proofs.Common.{rules}
 use Rattle.std.proofs.lemmas.Map.Made.{map_same_pairs}
 use Rattle.wf_stream.specs.Placed.{with_mark}
-use Rattle.wf_stream.specs.Shelf.{is_marked_or_own}
+use Rattle.wf_stream.specs.StreamTable.{is_marked_or_own}
 use Rattle.wf_stream.proofs.streams.set_own_marks.Goals as goal
 
 pub returns : goal.returns

@@ -5,17 +5,18 @@ use Rattle.wf_turn.proofs.replaying.play_entries.Goals as goal
 
 pub loop-place-init : goal.loop-place-init
 loop-place-init g = λ c. record {
-  plays = none_played g.K.Sink.took c.args.k.now c.args.writer.now.form c.args.troupe.now c.args.entries.now;
+  plays = none_played g.K.Sink.took c.args.k.now c.args.writer.now.form c.args.replayer.now c.args.entries.now;
   form_is = refl;
   small = omega arith;
   turns = c.requires.fresh;
-  troupe = c.requires.troupe;
+  replayer = c.requires.replayer;
   later = omega arith;
 }
 
 pub returns-in-NoTurn-clause-plays : goal.returns-in-NoTurn-clause-plays
 returns-in-NoTurn-clause-plays g = λ c.
-    none_entered g.K.Sink.took c.args.k.now c.loop-place.k c.args.writer.now.form c.args.troupe.now c.loop-place.troupe c.args.entries.now
+    none_entered g.K.Sink.took c.args.k.now c.loop-place.k c.args.writer.now.form c.args.replayer.now
+    c.loop-place.replayer c.args.entries.now
     c.loop-place.place _ _ c.loop-place-test.true refl c.loop-place.invariant.plays c.in-NoTurn.ensures.enters
 
 pub loop-place-preserved : goal.loop-place-preserved
@@ -24,11 +25,11 @@ loop-place-preserved g = λ c.
     let one = rw was.form_is at c.in-Taken.ensures.enters in
     record {
       plays = one_entered g.K.Sink.took c.args.k.now c.loop-place.k c.play_entry.new.k c.args.writer.now.form c.loop-place.writer.written
-          c.play_entry.new.writer.written c.args.troupe.now c.loop-place.troupe c.play_entry.new.troupe c.args.entries.now
+          c.play_entry.new.writer.written c.args.replayer.now c.loop-place.replayer c.play_entry.new.replayer c.args.entries.now
           c.loop-place.place _ _ c.loop-place-test.true refl was.plays one;
       form_is = c.in-Taken.ensures.form ∙ was.form_is;
       small = omega (arith, was.small, one.most);
       turns = one.turns ∙ ap (λ n. n + 1) was.turns;
-      troupe = one.troupe;
+      replayer = one.replayer;
       later = omega (arith, was.later, c.in-Taken.ensures.caused);
     }

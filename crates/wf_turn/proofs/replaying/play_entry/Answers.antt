@@ -4,7 +4,7 @@ use Rattle.wf_turn.proofs.replaying.play_entry.Goals as goal
 
 pub returns-in-Ok-put_frame-clause-enters : goal.returns-in-Ok-put_frame-clause-enters
 returns-in-Ok-put_frame-clause-enters g = λ c.
-    let show = c.args.troupe.now in
+    let show = c.args.replayer.now in
     let now = c.turn.new.self in
     let r : IsRetaken show c.args.entry c.in-Some.painted now = rw c.in-Some.is at c.in-Ok.ensures in
     record {
@@ -13,5 +13,5 @@ returns-in-Ok-put_frame-clause-enters g = λ c.
       put = rw (c.turns-begin.ensures, c.from.ensures) at c.in-Ok-put_frame.ensures.all;
       most = omega (arith, c.in-Ok-put_frame.ensures.most);
       turns = r.turns;
-      troupe = r.troupe;
+      replayer = r.replayer;
     }

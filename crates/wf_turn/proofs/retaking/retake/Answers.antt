@@ -18,7 +18,7 @@ paint-requires g = λ c.
     work_now a.memory_refused a.client a.machine.now c.marked_turn.new.machine a.program.now
     c.marked_turn.new.program w c.in-Ok.turn c.requires asks (free a.machine.now a.program.now w c.waits.result asks c.waits.ensures
     c.if-waits.false)
-    (rw c.next_into.ensures.handed at c.in-Ok.ensures)
+    (rw c.next_into.ensures.issued at c.in-Ok.ensures)
 
 pub returns-in-Ok : goal.returns-in-Ok
 returns-in-Ok g = λ c.
@@ -30,4 +30,4 @@ returns-in-Ok g = λ c.
     (retakes a.memory_refused a.client a.machine.now c.marked_turn.new.machine a.program.now
     c.marked_turn.new.program w c.in-Ok.turn c.requires asks (free a.machine.now a.program.now w c.waits.result asks c.waits.ensures
     c.if-waits.false)
-    (rw c.next_into.ensures.handed at c.in-Ok.ensures))
+    (rw c.next_into.ensures.issued at c.in-Ok.ensures))

@@ -21,7 +21,7 @@ module _ (c : goal.After-entry) where
         entry_is = c.entry.ensures;
       } in
       turn_taken c.args.client c.args.machine.now c.answer.new.self p c.took_answer.new.self c.next_into.new.wanted c.entry.result
-      c.requires.fit c.requires.alone asks (rw c.next_into.ensures.handed at answers)
+      c.requires.fit c.requires.alone asks (rw c.next_into.ensures.issued at answers)
 
 pub returns-in-Some-clause-takes : goal.returns-in-Some-clause-takes
 returns-in-Some-clause-takes c = (answered c).0
@@ -41,7 +41,7 @@ module _ (c : goal.After-take_carrying_turn) where
       let same : c.answer.new.self ≡ c.args.machine.now = (rw c.in-None.is at c.answer.ensures.carries).1 in
       turn_taken c.args.client c.args.machine.now c.take_carrying_turn.new.machine p c.take_carrying_turn.new.program
       c.next_into.new.wanted c.take_carrying_turn.result c.requires.fit c.requires.alone asks
-      (rw (c.next_into.ensures.handed, same) at c.take_carrying_turn.ensures)
+      (rw (c.next_into.ensures.issued, same) at c.take_carrying_turn.ensures)
 
 pub returns-in-None-clause-takes : goal.returns-in-None-clause-takes
 returns-in-None-clause-takes c = (carried c).0

@@ -6,7 +6,7 @@ use Rattle.wf_model.specs.Composition.{device, is_of_device}
 use Rattle.wf_model.specs.Core.{owned_source}
 use Rattle.wf_objects.specs.Links.{links}
 use Rattle.wf_objects.specs.Owners.{passed}
-use Rattle.wf_objects.specs.Sides.{side_of}
+use Rattle.wf_objects.specs.Sides.{core_side_of}
 use Rattle.wf_model.specs.Outcome.{without_value}
 use Rattle.wf_objects.proofs.objects.Objects.check_link_owned.Goals as goal
 use Rattle.wf_objects.proofs.objects.Objects.check_link_owned.Goals.{After-is_owned}
@@ -30,7 +30,7 @@ returns-then-not-is_owned-clause-owned c =
     let a = c.args in
     let k = (goal.at.returns-then-not-is_owned-clause-owned c).After-is_owned in
     let xs = links a.mask a.self.now in
-    let w = side_of a.self.now a.store.now in
+    let w = core_side_of a.self.now a.store.now in
     ap Err c.of.ensures
     ∙ sym (ap without_value (passed (device a.device w) (owned_source a.device a.link xs w) c.in_ok-check_device.ensures)
     ∙ rw (none_at (is_sought k) xs (sym (asked k) ∙ c.if-not-is_owned.true)) refl)
@@ -40,7 +40,7 @@ returns-clause-owned c =
     let a = c.args in
     let k = (goal.at.returns-clause-owned c).After-is_owned in
     let xs = links a.mask a.self.now in
-    let w = side_of a.self.now a.store.now in
+    let w = core_side_of a.self.now a.store.now in
     let s = some_at (is_sought k) xs (sym (asked k) ∙ c.if-not-is_owned.false) in
     sym (ap without_value (passed (device a.device w) (owned_source a.device a.link xs w) c.in_ok-check_device.ensures) ∙ rw s.1 refl)
 

@@ -3,7 +3,7 @@ use Rattle.wf_scene.specs.Cached as cached
 use Rattle.wf_scene.specs.Values.{component}
 use Rattle.wf_model.specs.Core.{linked}
 use Rattle.wf_objects.specs.Does.{Does, element_set, in_place}
-use Rattle.wf_objects.specs.Sides.{side_of}
+use Rattle.wf_objects.specs.Sides.{core_side_of}
 use Rattle.wf_objects.specs.Rows.{context_of}
 use Rattle.wf_objects.proofs.Keeping.{set_keeps}
 use Rattle.wf_objects.proofs.Owners.{standing}
@@ -27,8 +27,8 @@ returns c =
     let y = context_of c.behind-self.inside in
     let before = standing _ core a.place _ y c.self.view_is c.requires.within c.index.ensures c.behind-self.view_is in
     let same : y ≡ x = let both = sym before ∙ at in cc in
-    let link : linked a.attr a.device x.handle (component a.value 0) (side_of core store) ≡ Ok tt =
-    sym (ap (λ y. linked a.attr a.device y.handle (component a.value 0) (side_of core store)) same)
+    let link : linked a.attr a.device x.handle (component a.value 0) (core_side_of core store) ≡ Ok tt =
+    sym (ap (λ y. linked a.attr a.device y.handle (component a.value 0) (core_side_of core store)) same)
     ∙ sym c.in_ok-check_link.ensures.checked in
     let call = cached.set a.element a.attr a.value in
     subst (λ k. Does (in_place a.place (element_set a.device a.element a.attr a.value)) core

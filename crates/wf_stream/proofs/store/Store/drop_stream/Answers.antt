@@ -1,6 +1,6 @@
 use Rattle.std.proofs.Common.{◌<◌, refl, ◌∙◌, arith}
-use Rattle.wf_stream.proofs.Shelves.{numbered_without}
-use Rattle.wf_stream.proofs.Joined.{live_found, rising_without, killed_others}
+use Rattle.wf_stream.proofs.StreamTables.{numbered_without}
+use Rattle.wf_stream.proofs.CrossReferences.{live_found, rising_without, killed_others}
 use Rattle.wf_stream.proofs.Apart.{stream_kept}
 use Rattle.wf_stream.proofs.Swept.{found_live, dropped_tied, bare_tied}
 use Rattle.wf_stream.proofs.store.Store.drop_stream.Goals as goal

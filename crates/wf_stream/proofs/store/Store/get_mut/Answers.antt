@@ -1,6 +1,6 @@
 use Rattle.std.proofs.Common.{sym, ◌∙◌}
-use Rattle.wf_stream.proofs.Shelves.{numbered_changed}
-use Rattle.wf_stream.proofs.Joined.{changed_entries}
+use Rattle.wf_stream.proofs.StreamTables.{numbered_changed}
+use Rattle.wf_stream.proofs.CrossReferences.{changed_entries}
 use Rattle.wf_stream.proofs.store.Store.get_mut.Goals as goal
 
 pub invariant_of-self-lent : goal.invariant_of-self-lent

@@ -1,9 +1,10 @@
 use Rattle.std.proofs.Common.{◌≡◌, map, refl, sym, ap, ◌∙◌}
 use Rattle.std.specs.Result.{result_ok}
 use Rattle.wf_stream.specs.Streams.{unnamed}
-use Rattle.wf_stream.specs.Joined.{live_streams}
-use Rattle.wf_stream.proofs.Joined.{number_found, live_found, rising_streams, rising_without, unnamed_found, unnamed_none, numbered_unnamed}
-use Rattle.wf_stream.proofs.Joined.{killed_tied, killed_others}
+use Rattle.wf_stream.specs.CrossReferences.{live_streams}
+use Rattle.wf_stream.proofs.CrossReferences.{number_found, live_found, rising_streams, rising_without, unnamed_found}
+use Rattle.wf_stream.proofs.CrossReferences.{unnamed_none, numbered_unnamed}
+use Rattle.wf_stream.proofs.CrossReferences.{killed_tied, killed_others}
 use Rattle.wf_stream.proofs.Apart.{other_kept, stream_kept}
 use Rattle.wf_stream.proofs.store.Store.kill.Goals as goal
 
@@ -15,13 +16,13 @@ kill-requires c =
 pub invariant_of-self : goal.invariant_of-self
 invariant_of-self c =
     let live = c.self.inside.handles.live in
-    let shelf = c.self.inside.streams in
-    let streams = shelf.streams in
+    let table = c.self.inside.streams in
+    let streams = table.streams in
     let sound = c.self.invariant in
     let found = sym (number_found _ live streams sound.tied) ∙ sym c.in-Ok.ensures.found in
     let under = rising_streams c.self.inside.handles.made live streams sound.orderly sound.tied in
-    let view : c.hand_over.new.self ≡ record shelf { streams = map (unnamed _) streams } = c.hand_over.ensures
-    ∙ ap (λ ss. record shelf { streams = ss })
+    let view : c.hand_over.new.self ≡ record table { streams = map (unnamed _) streams } = c.hand_over.ensures
+    ∙ ap (λ ss. record table { streams = ss })
     (unnamed_found 0 c.self.inside.numbered 0 c.self.inside.handles.made _ c.in-Ok.number streams sound.rising under
     found) in
     rw (c.kill.ensures.killed, view) (record {
@@ -35,8 +36,8 @@ invariant_of-self c =
 pub invariant_of-self-in_default : goal.invariant_of-self-in_default
 invariant_of-self-in_default c =
     let live = c.self.inside.handles.live in
-    let shelf = c.self.inside.streams in
-    let streams = shelf.streams in
+    let table = c.self.inside.streams in
+    let streams = table.streams in
     let sound = c.self.invariant in
     let none = sym (number_found _ live streams sound.tied) ∙ (sym c.find-found.ensures.found ∙ ap result_ok c.in_default.is) in
     let view : map (unnamed _) streams ≡ streams = unnamed_none _ streams none in
@@ -51,13 +52,13 @@ invariant_of-self-in_default c =
 pub returns-in-Ok-clause-killed : goal.returns-in-Ok-clause-killed
 returns-in-Ok-clause-killed c =
     let live = c.self.inside.handles.live in
-    let shelf = c.self.inside.streams in
-    let streams = shelf.streams in
+    let table = c.self.inside.streams in
+    let streams = table.streams in
     let sound = c.self.invariant in
     let found = sym (number_found _ live streams sound.tied) ∙ sym c.in-Ok.ensures.found in
     let under = rising_streams c.self.inside.handles.made live streams sound.orderly sound.tied in
-    let view : c.hand_over.new.self ≡ record shelf { streams = map (unnamed _) streams } = c.hand_over.ensures
-    ∙ ap (λ ss. record shelf { streams = ss })
+    let view : c.hand_over.new.self ≡ record table { streams = map (unnamed _) streams } = c.hand_over.ensures
+    ∙ ap (λ ss. record table { streams = ss })
     (unnamed_found 0 c.self.inside.numbered 0 c.self.inside.handles.made _ c.in-Ok.number streams sound.rising under
     found) in
     rw (← c.self.view_is, c.kill.ensures.killed, view, killed_others _ live) refl
@@ -65,8 +66,8 @@ returns-in-Ok-clause-killed c =
 pub returns-in_default-clause-killed : goal.returns-in_default-clause-killed
 returns-in_default-clause-killed c =
     let live = c.self.inside.handles.live in
-    let shelf = c.self.inside.streams in
-    let streams = shelf.streams in
+    let table = c.self.inside.streams in
+    let streams = table.streams in
     let sound = c.self.invariant in
     let none = sym (number_found _ live streams sound.tied) ∙ (sym c.find-found.ensures.found ∙ ap result_ok c.in_default.is) in
     let view : map (unnamed _) streams ≡ streams = unnamed_none _ streams none in
@@ -75,13 +76,13 @@ returns-in_default-clause-killed c =
 pub returns-in-Ok-clause-other : goal.returns-in-Ok-clause-other
 returns-in-Ok-clause-other c =
     let live = c.self.inside.handles.live in
-    let shelf = c.self.inside.streams in
-    let streams = shelf.streams in
+    let table = c.self.inside.streams in
+    let streams = table.streams in
     let sound = c.self.invariant in
     let found = sym (number_found _ live streams sound.tied) ∙ sym c.in-Ok.ensures.found in
     let under = rising_streams c.self.inside.handles.made live streams sound.orderly sound.tied in
-    let view : c.hand_over.new.self ≡ record shelf { streams = map (unnamed _) streams } = c.hand_over.ensures
-    ∙ ap (λ ss. record shelf { streams = ss })
+    let view : c.hand_over.new.self ≡ record table { streams = map (unnamed _) streams } = c.hand_over.ensures
+    ∙ ap (λ ss. record table { streams = ss })
     (unnamed_found 0 c.self.inside.numbered 0 c.self.inside.handles.made _ c.in-Ok.number streams sound.rising under
     found) in
     rw (← c.self.view_is, c.kill.ensures.killed, view, killed_others _ live)
@@ -90,13 +91,13 @@ returns-in-Ok-clause-other c =
 pub returns-in-Ok-clause-stream : goal.returns-in-Ok-clause-stream
 returns-in-Ok-clause-stream c =
     let live = c.self.inside.handles.live in
-    let shelf = c.self.inside.streams in
-    let streams = shelf.streams in
+    let table = c.self.inside.streams in
+    let streams = table.streams in
     let sound = c.self.invariant in
     let found = sym (number_found _ live streams sound.tied) ∙ sym c.in-Ok.ensures.found in
     let under = rising_streams c.self.inside.handles.made live streams sound.orderly sound.tied in
-    let view : c.hand_over.new.self ≡ record shelf { streams = map (unnamed _) streams } = c.hand_over.ensures
-    ∙ ap (λ ss. record shelf { streams = ss })
+    let view : c.hand_over.new.self ≡ record table { streams = map (unnamed _) streams } = c.hand_over.ensures
+    ∙ ap (λ ss. record table { streams = ss })
     (unnamed_found 0 c.self.inside.numbered 0 c.self.inside.handles.made _ c.in-Ok.number streams sound.rising under
     found) in
     rw (← c.self.view_is, c.kill.ensures.killed, view, killed_others _ live)
@@ -109,8 +110,8 @@ returns-in_default-clause-other c =
 pub returns-in_default-clause-stream : goal.returns-in_default-clause-stream
 returns-in_default-clause-stream c =
     let live = c.self.inside.handles.live in
-    let shelf = c.self.inside.streams in
-    let streams = shelf.streams in
+    let table = c.self.inside.streams in
+    let streams = table.streams in
     let sound = c.self.invariant in
     let none = sym (number_found _ live streams sound.tied) ∙ (sym c.find-found.ensures.found ∙ ap result_ok c.in_default.is) in
     let view : map (unnamed _) streams ≡ streams = unnamed_none _ streams none in

@@ -1,9 +1,9 @@
 use Rattle.std.proofs.Common.{◌≡◌, ◌+◌, ◌<◌, false, [], ◌∷◌, ◌++◌, refl, sym, ap, ◌∙◌, arith}
 use Rattle.std.proofs.lemmas.Bool.Decides.{nat_tests}
 use Rattle.wf_life.specs.Handles.{is_full}
-use Rattle.wf_stream.specs.Streams.{KeptStream, Shelf, without_number, hand_over}
-use Rattle.wf_stream.proofs.Shelves.{numbered_push}
-use Rattle.wf_stream.proofs.Joined.{without_last, handed_last, made_tied, made_others}
+use Rattle.wf_stream.specs.Streams.{KeptStream, StreamTable, without_number, hand_over}
+use Rattle.wf_stream.proofs.StreamTables.{numbered_push}
+use Rattle.wf_stream.proofs.CrossReferences.{without_last, handed_last, made_tied, made_others}
 use Rattle.wf_words.specs.Keyed.{is_in}
 use Rattle.wf_stream.proofs.store.Store.make.Goals as goal
 
@@ -13,40 +13,41 @@ remove-requires c =
 
 pub invariant_of-self-in_default-make : goal.invariant_of-self-in_default-make
 invariant_of-self-in_default-make c =
-    let shelf = c.self.inside.streams in
-    let streams = shelf.streams in
+    let table = c.self.inside.streams in
+    let streams = table.streams in
     let sound = c.self.invariant in
     let n = c.self.inside.numbered + 1 in
-    let back : c.remove.new.self ≡ shelf =
-    c.remove.ensures ∙ ap (λ (x : Shelf). record x { streams = without_number n x.streams }) c.in-Ok-push.ensures.pushed
-    ∙ ap (λ ss. record shelf { streams = ss })
+    let back : c.remove.new.self ≡ table =
+    c.remove.ensures ∙ ap (λ (x : StreamTable). record x { streams = without_number n x.streams }) c.in-Ok-push.ensures.pushed
+    ∙ ap (λ ss. record table { streams = ss })
     (without_last 0 c.self.inside.numbered streams _ sound.rising (omega arith)) in
     rw (c.in_default-make.ensures.refused, back) sound
 
 pub returns-in_default-make-clause-refused : goal.returns-in_default-make-clause-refused
 returns-in_default-make-clause-refused c =
-    let shelf = c.self.inside.streams in
-    let streams = shelf.streams in
+    let table = c.self.inside.streams in
+    let streams = table.streams in
     let sound = c.self.invariant in
     let n = c.self.inside.numbered + 1 in
-    let back : c.remove.new.self ≡ shelf =
-    c.remove.ensures ∙ ap (λ (x : Shelf). record x { streams = without_number n x.streams }) c.in-Ok-push.ensures.pushed
-    ∙ ap (λ ss. record shelf { streams = ss })
+    let back : c.remove.new.self ≡ table =
+    c.remove.ensures ∙ ap (λ (x : StreamTable). record x { streams = without_number n x.streams }) c.in-Ok-push.ensures.pushed
+    ∙ ap (λ ss. record table { streams = ss })
     (without_last 0 c.self.inside.numbered streams _ sound.rising (omega arith)) in
     rw (c.in_default-make.ensures.refused, back) c.self.view_is
 
 pub invariant_of-self-2 : goal.invariant_of-self-2
 invariant_of-self-2 c =
-    let shelf = c.self.inside.streams in
-    let streams = shelf.streams in
+    let table = c.self.inside.streams in
+    let streams = table.streams in
     let sound = c.self.invariant in
     let n = c.self.inside.numbered + 1 in
     let s : KeptStream = record { number = n; handle = c.self.inside.handles.made + 1; buffers = c.in-Ok.stream } in
-    let last : c.hand_over.new.self ≡ record shelf { streams = streams ++ s ∷ [] } =
-    c.hand_over.ensures ∙ ap (λ (x : Shelf). record x { streams = hand_over n c.in-Ok-make.handle x.streams }) c.in-Ok-push.ensures.pushed
-    ∙ ap (λ ss. record shelf { streams = ss })
+    let last : c.hand_over.new.self ≡ record table { streams = streams ++ s ∷ [] } =
+    c.hand_over.ensures ∙ ap (λ (x : StreamTable). record x { streams = hand_over n c.in-Ok-make.handle x.streams })
+    c.in-Ok-push.ensures.pushed
+    ∙ ap (λ ss. record table { streams = ss })
     (handed_last 0 c.self.inside.numbered c.in-Ok-make.handle streams _ sound.rising (omega arith))
-    ∙ ap (λ h. record shelf { streams = streams ++ record s { handle = h } ∷ [] }) c.in-Ok-make.ensures.handle in
+    ∙ ap (λ h. record table { streams = streams ++ record s { handle = h } ∷ [] }) c.in-Ok-make.ensures.handle in
     let left : is_full c.self.inside.handles.made ≡ false = sym c.full.ensures ∙ c.if-full.false in
     let some : c.self.inside.handles.made < 4294967291 = grind (arith, nat_tests, left) in
     let orderly = rw c.in-Ok-make.ensures.made at c.in-Ok-make.ensures.orderly in
@@ -60,14 +61,15 @@ invariant_of-self-2 c =
 
 pub returns-clause-made : goal.returns-clause-made
 returns-clause-made c =
-    let shelf = c.self.inside.streams in
-    let streams = shelf.streams in
+    let table = c.self.inside.streams in
+    let streams = table.streams in
     let sound = c.self.invariant in
     let n = c.self.inside.numbered + 1 in
     let s : KeptStream = record { number = n; handle = c.self.inside.handles.made + 1; buffers = c.in-Ok.stream } in
-    let last : c.hand_over.new.self ≡ record shelf { streams = streams ++ s ∷ [] } =
-    c.hand_over.ensures ∙ ap (λ (x : Shelf). record x { streams = hand_over n c.in-Ok-make.handle x.streams }) c.in-Ok-push.ensures.pushed
-    ∙ ap (λ ss. record shelf { streams = ss })
+    let last : c.hand_over.new.self ≡ record table { streams = streams ++ s ∷ [] } =
+    c.hand_over.ensures ∙ ap (λ (x : StreamTable). record x { streams = hand_over n c.in-Ok-make.handle x.streams })
+    c.in-Ok-push.ensures.pushed
+    ∙ ap (λ ss. record table { streams = ss })
     (handed_last 0 c.self.inside.numbered c.in-Ok-make.handle streams _ sound.rising (omega arith))
-    ∙ ap (λ h. record shelf { streams = streams ++ record s { handle = h } ∷ [] }) c.in-Ok-make.ensures.handle in
+    ∙ ap (λ h. record table { streams = streams ++ record s { handle = h } ∷ [] }) c.in-Ok-make.ensures.handle in
     rw (← c.self.view_is, c.in-Ok-make.ensures.made, last, c.in-Ok.ensures, made_others c.self.inside.handles.live s) refl

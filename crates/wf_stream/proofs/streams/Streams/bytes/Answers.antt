@@ -1,5 +1,5 @@
 use Rattle.std.proofs.Common.{◌≡◌, zero-add, arith, rules}
-use Rattle.wf_stream.proofs.Shelves.{places_room}
+use Rattle.wf_stream.proofs.StreamTables.{places_room}
 use Rattle.wf_stream.proofs.streams.Streams.bytes.Goals as goal
 
 pub loop-place-init : goal.loop-place-init

@@ -1,6 +1,6 @@
 use Rattle.std.proofs.Common.{refl}
 use Rattle.wf_stream.specs.Placed.{with_handle}
-use Rattle.wf_stream.proofs.Shelves.{handed_view, numbered_handed, placed_kept, placed_apart}
+use Rattle.wf_stream.proofs.StreamTables.{handed_view, numbered_handed, placed_kept, placed_apart}
 use Rattle.wf_stream.proofs.Lifetimes.{placed_sole, other_placed}
 use Rattle.wf_stream.proofs.Marks.{marks_handed}
 use Rattle.wf_stream.proofs.streams.Streams.hand_over.Goals as goal

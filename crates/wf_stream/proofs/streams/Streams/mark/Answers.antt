@@ -1,6 +1,6 @@
 use Rattle.std.proofs.Common.{true, refl}
 use Rattle.wf_stream.specs.Placed.{with_mark}
-use Rattle.wf_stream.proofs.Shelves.{placed_kept, placed_apart}
+use Rattle.wf_stream.proofs.StreamTables.{placed_kept, placed_apart}
 use Rattle.wf_stream.proofs.Lifetimes.{placed_sole, other_placed}
 use Rattle.wf_stream.proofs.Marks.{mark_view, marks_marked}
 use Rattle.wf_stream.proofs.streams.Streams.mark.Goals as goal

@@ -1,4 +1,4 @@
-use Rattle.wf_stream.specs.Shelf.{is_marked_or_own}
+use Rattle.wf_stream.specs.StreamTable.{is_marked_or_own}
 use Rattle.wf_stream.proofs.Marks.{remarked_view, remarked_kept, remarked_apart, remarked_sole, remarked_other, marks_own}
 use Rattle.wf_stream.proofs.streams.Streams.mark_own.Goals as goal
 

@@ -1,9 +1,9 @@
 use Rattle.std.proofs.Common.{◌≡◌, ℕ, ◌-◌, ◌≤◌, [], ◌∷◌, ◌++◌, None, false, refl, ap, ◌∙◌, arith}
 use Rattle.wf_life.specs.Pool.{IsKept, kept_at, count_at, count_of}
 use Rattle.wf_stream.specs.declared.streams.Place.{Place}
-use Rattle.wf_stream.specs.Shelf.{marks_of}
+use Rattle.wf_stream.specs.StreamTable.{marks_of}
 use Rattle.wf_stream.proofs.Marks.{marks_push, marks_above}
-use Rattle.wf_stream.proofs.Shelves.{shelf_push, shelf_same, agree_twice, insert_last, none_free}
+use Rattle.wf_stream.proofs.StreamTables.{table_push, table_same, agree_twice, insert_last, none_free}
 use Rattle.wf_stream.proofs.Lifetimes.{sole_same, sole_push, other_push, other_same, let_go}
 use Rattle.wf_stream.proofs.streams.Streams.push.Goals as goal
 
@@ -12,7 +12,7 @@ invariant_of-self-in-Ok-insert c =
     let above = rw (← c.self.view_is) at c.requires.above in
     let fits : c.args.number ≤ 4294967295 = omega (arith, c.ranges.number.fits) in
     let new : IsKept c.in-Ok.key _ = rw c.in-Ok.ensures.kept.changed refl in
-    let all = shelf_push _ _ c.self.inside.pool _ c.self.inside.places.entries c.insert.new.self.entries
+    let all = table_push _ _ c.self.inside.pool _ c.self.inside.places.entries c.insert.new.self.entries
     c.requires.counted above fits c.self.invariant.kept c.self.invariant.apart c.in-Ok.ensures.free c.in-Ok.ensures.kept.others new
     c.in-Ok-insert.ensures.entries in
     let p = c.self.inside.pool in
@@ -36,7 +36,7 @@ returns-clause-pushed c =
     let above = rw (← c.self.view_is) at c.requires.above in
     let fits : c.args.number ≤ 4294967295 = omega (arith, c.ranges.number.fits) in
     let new : IsKept c.in-Ok.key _ = rw c.in-Ok.ensures.kept.changed refl in
-    let all = shelf_push _ _ c.self.inside.pool _ c.self.inside.places.entries c.insert.new.self.entries
+    let all = table_push _ _ c.self.inside.pool _ c.self.inside.places.entries c.insert.new.self.entries
     c.requires.counted above fits c.self.invariant.kept c.self.invariant.apart c.in-Ok.ensures.free c.in-Ok.ensures.kept.others new
     c.in-Ok-insert.ensures.entries in
     let es = c.self.inside.places.entries in
@@ -50,7 +50,7 @@ pub invariant_of-self-in_default-insert : goal.invariant_of-self-in_default-inse
 invariant_of-self-in_default-insert c =
     let agree = agree_twice c.in-Ok.key c.self.inside.pool _ _ _ c.in-Ok.ensures.kept.others
     c.release.ensures.left in
-    let all = shelf_same c.in-Ok.key c.self.inside.pool _ c.self.inside.places.entries c.in-Ok.ensures.free
+    let all = table_same c.in-Ok.key c.self.inside.pool _ c.self.inside.places.entries c.in-Ok.ensures.free
     c.self.invariant.kept agree in
     let p = c.self.inside.pool in
     let es = c.self.inside.places.entries in
@@ -70,7 +70,7 @@ pub returns-in_default-insert-clause-refused : goal.returns-in_default-insert-cl
 returns-in_default-insert-clause-refused c =
     let agree = agree_twice c.in-Ok.key c.self.inside.pool _ _ _ c.in-Ok.ensures.kept.others
     c.release.ensures.left in
-    let all = shelf_same c.in-Ok.key c.self.inside.pool _ c.self.inside.places.entries c.in-Ok.ensures.free
+    let all = table_same c.in-Ok.key c.self.inside.pool _ c.self.inside.places.entries c.in-Ok.ensures.free
     c.self.invariant.kept agree in
     rw (← c.self.view_is, c.in_default-insert.ensures.err, all.0) refl
 

@@ -1,8 +1,8 @@
 use Rattle.std.proofs.Common.{◌≡◌, None, refl, sym, ap, ◌∙◌}
 use Rattle.wf_life.specs.Pool.{kept_at}
-use Rattle.wf_stream.specs.Shelf.{marks_of}
+use Rattle.wf_stream.specs.StreamTable.{marks_of}
 use Rattle.wf_stream.proofs.Marks.{marks_removed}
-use Rattle.wf_stream.proofs.Shelves.{shelf_remove, agree_once, found_kept, found_none, remove_without}
+use Rattle.wf_stream.proofs.StreamTables.{table_remove, agree_once, found_kept, found_none, remove_without}
 use Rattle.wf_stream.proofs.Lifetimes.{let_go, found_sole, removed_sole, sole_same, other_removed}
 use Rattle.wf_stream.proofs.streams.Streams.remove.Goals as goal
 
@@ -15,7 +15,7 @@ pub invariant_of-self : goal.invariant_of-self
 invariant_of-self c =
     let found = sym c.in-Some.ensures.value in
     let agree = agree_once c.in-Some.place.key c.self.inside.pool _ _ c.release.ensures.left in
-    let all = shelf_remove _ c.in-Some.place c.self.inside.pool _ c.self.inside.places.entries
+    let all = table_remove _ c.in-Some.place c.self.inside.pool _ c.self.inside.places.entries
     c.remove.new.self.entries c.self.invariant.rising c.self.invariant.kept c.self.invariant.apart found agree
     c.remove.ensures.entries in
     let o = c.in-Some.place in
@@ -38,7 +38,7 @@ pub returns-in-Some : goal.returns-in-Some
 returns-in-Some c =
     let found = sym c.in-Some.ensures.value in
     let agree = agree_once c.in-Some.place.key c.self.inside.pool _ _ c.release.ensures.left in
-    let all = shelf_remove _ c.in-Some.place c.self.inside.pool _ c.self.inside.places.entries
+    let all = table_remove _ c.in-Some.place c.self.inside.pool _ c.self.inside.places.entries
     c.remove.new.self.entries c.self.invariant.rising c.self.invariant.kept c.self.invariant.apart found agree
     c.remove.ensures.entries in
     let unmarked = rw (← c.self.view_is) at c.requires in

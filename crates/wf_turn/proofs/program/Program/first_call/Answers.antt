@@ -24,6 +24,6 @@ pub returns-in_default-clause-wanted : goal.returns-in_default-clause-wanted
 returns-in_default-clause-wanted c = subst (λ o. IsPut o c.one_call.new.wanted c.one_call.result)
     (of_verb c _ refl).0 c.one_call.ensures
 
-pub returns-in_default-clause-handed : goal.returns-in_default-clause-handed
-returns-in_default-clause-handed c = ap (λ canvas. record c.args.self.now { canvas = canvas })
+pub returns-in_default-clause-issued : goal.returns-in_default-clause-issued
+returns-in_default-clause-issued c = ap (λ canvas. record c.args.self.now { canvas = canvas })
     (of_verb c _ refl).1

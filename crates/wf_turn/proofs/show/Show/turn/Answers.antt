@@ -1,8 +1,8 @@
 use Rattle.wf_turn.proofs.Common.{◌≡◌, ◌+◌, ◌∷◌, ◌∙◌, ap, sym, subst, List, [], map, IfSome, ArePainted, IsCast, Turned, all_painted}
 use Rattle.wf_turn.proofs.Common.{has_work}
-use Rattle.wf_turn.proofs.Common.{show_of, with_paint, Program, worked, AreOf, IsWork, Show, handed_on}
+use Rattle.wf_turn.proofs.Common.{show_of, with_paint, Program, worked, AreOf, IsWork, Show, inherited}
 use Rattle.std.specs.List.{slice_get}
-use Rattle.wf_turn.proofs.Shows.{HasTurn, are_after, cast_after, handed_is, has_turn, of_script, ready, turned, work_after}
+use Rattle.wf_turn.proofs.Shows.{HasTurn, are_after, cast_after, issued_is, has_turn, of_script, ready, turned, work_after}
 use Rattle.wf_turn.proofs.Works.{all_of_one, worked_client, worked_script}
 use Rattle.wf_turn.proofs.show.Show.turn.Goals as goal
 
@@ -45,10 +45,10 @@ module _ (c : goal.After-self-1) where
   abbrev with_programs : List Program → Show
   with_programs ps = record { state = c.take_turn_of-turn.new.machine; programs = ps; frames = []; turns = c.self.inside.turns + 1 }
 
-  now_is : with_programs (c.take_turn_of-turn.new.clock ∷ c.hand_on.new.others.items) ≡ with_programs (handed_on s.programs placed)
+  now_is : with_programs (c.take_turn_of-turn.new.clock ∷ c.hand_on.new.others.items) ≡ with_programs (inherited s.programs placed)
   now_is =
       ap with_programs
-      (handed_is c.self.inside.clock _ c.self.inside.others.items c.take_turn_of-turn.new.others.items
+      (issued_is c.self.inside.clock _ c.self.inside.others.items c.take_turn_of-turn.new.others.items
       c.in_setup-was_setup.result _ c.in_setup-was_setup.ensures c.hand_on.ensures)
 
   has : HasTurn s c.args.client

@@ -1,7 +1,7 @@
 use Rattle.std.proofs.Common.{◌≡◌, ◌≤◌, ◌+◌, ◌++◌, length, vec_capacity}
 use Rattle.wf_show.specs.Players.{AreFresh}
-use Rattle.wf_show.specs.Casting.{passes_from}
-use Rattle.wf_show.proofs.casting.cast_others.Given as goal
+use Rattle.wf_show.specs.Opened.{passes_from}
+use Rattle.wf_show.proofs.players.players_of.Given as goal
 
 abbrev pub invariant-loop-pass : goal.invariant-loop-pass
 invariant-loop-pass l =

@@ -18,7 +18,7 @@ use Rattle.wf_turn.specs.Program.{Program, program}
 use Rattle.wf_turn.specs.Quota.{left, line_quota, quota, quota_of}
 use Rattle.wf_turn.specs.Ready.{IsFit}
 use Rattle.wf_show.specs.declared.player.Player.{Player}
-use Rattle.wf_show.specs.Casting.{passes_from}
+use Rattle.wf_show.specs.Opened.{passes_from}
 use Rattle.wf_show.specs.Players.{AreFresh, IsFresh, first_pass}
 use Rattle.wf_show.specs.Running.{PlainPass}
 

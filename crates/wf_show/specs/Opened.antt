@@ -5,7 +5,7 @@ use Rattle.atomic_table.specs.Seated.{TableId}
 use Rattle.wf_model.specs.State.{opening}
 use Rattle.wf_script.specs.Script.{PlainScript, may_tick}
 use Rattle.wf_turn.specs.Quota.{quota}
-use Rattle.wf_show.specs.declared.casting.Cast.{Cast}
+use Rattle.wf_show.specs.declared.players.Players.{Players}
 use Rattle.wf_show.specs.declared.player.Player.{Player}
 use Rattle.wf_show.specs.Players.{AreFresh, IsFresh, first_pass}
 use Rattle.wf_show.specs.Running.{PlainPass}
@@ -16,14 +16,14 @@ passes_from desk script client count =
     map (λ c. first_pass desk script c (quota script.lines c)) (range_with_len client count)
 
 -- the desk, all players before their first calls, and room for their passes
-pub record IsCast (script : PlainScript) (cast : Cast) : Type 0 where
-  pub opening_is : cast.desk.opening ≡ opening script.ports
-  pub eight : length cast.desk.quotas ≡ 8
-  pub clock : IsFresh cast.desk.id script 0 cast.clock
-  pub others : AreFresh cast.desk.id script 1 cast.others.items
-  pub seven : length cast.others.items ≡ 7
-  pub none : cast.ended.items ≡ []
-  pub room : 8 ≤ vec_capacity cast.ended
+pub record ArePlayers (script : PlainScript) (opened : Players) : Type 0 where
+  pub opening_is : opened.desk.opening ≡ opening script.ports
+  pub eight : length opened.desk.quotas ≡ 8
+  pub clock : IsFresh opened.desk.id script 0 opened.clock
+  pub others : AreFresh opened.desk.id script 1 opened.others.items
+  pub seven : length opened.others.items ≡ 7
+  pub none : opened.ended.items ≡ []
+  pub room : 8 ≤ vec_capacity opened.ended
   pub ticks : IsTrue (list_all may_tick script.lines)
 
 -- each player has the pass of its client, at the desk

@@ -14,7 +14,7 @@ use Rattle.wf_stream.specs.declared.streams.Place.{Place}
 use Rattle.wf_stream.specs.Buffers.{Buffers}
 use Rattle.wf_stream.specs.Streams.{KeptStream, IsNumbered, buffers_at, without_number, hand_over, under_handle, change_stream}
 use Rattle.wf_stream.specs.Placed.{placed, with_handle}
-use Rattle.wf_stream.specs.Shelf.{pooled, kept_stream, shelved, AreKept, HasNone, AreApart}
+use Rattle.wf_stream.specs.StreamTable.{pooled, kept_stream, streams_in, AreKept, HasNone, AreApart}
 
 abbrev pub Slots : Type 0
 Slots = List (Option (Kept Buffers))
@@ -75,11 +75,11 @@ pub pooled_same : (key : ℕ) (p q : Slots) → kept_at key q ≡ kept_at key p 
 pooled_same key p q same = cc
 
 -- streams of other keys are as they were
-pub shelved_same : (key : ℕ) (p q : Slots) (es : Places) → AgreeBut key p q → HasNone key es → shelved q es ≡ shelved p es
-shelved_same key p q [] agree none = refl
-shelved_same key p q (e ∷ es) agree none =
+pub streams_in_same : (key : ℕ) (p q : Slots) (es : Places) → AgreeBut key p q → HasNone key es → streams_in q es ≡ streams_in p es
+streams_in_same key p q [] agree none = refl
+streams_in_same key p q (e ∷ es) agree none =
     let here = agree e.1.key none.0 in
-    let later = shelved_same key p q es agree none.1 in
+    let later = streams_in_same key p q es agree none.1 in
     cc
 
 pub kept_same : (key : ℕ) (p q : Slots) (es : Places) → AgreeBut key p q → HasNone key es → AreKept p es → AreKept q es
@@ -97,12 +97,12 @@ none_free key p (e ∷ es) free kept =
     (here, none_free key p es free kept.1)
 
 -- a number above all others comes last
-pub insert_last : (low high n : ℕ) (o : Place) (p : Slots) (es : Places) → IsNumbered low (shelved p es) high → high < n
+pub insert_last : (low high n : ℕ) (o : Place) (p : Slots) (es : Places) → IsNumbered low (streams_in p es) high → high < n
     → insert_entry nat_cmp es n o ≡ es ++ (n, o) ∷ []
 insert_last low high n o p [] rising above = refl
 insert_last low high n o p (e ∷ es) rising above =
     let later = insert_last e.0 high n o p es rising.1 above in
-    let room = numbered_room e.0 high (shelved p es) rising.1 in
+    let room = numbered_room e.0 high (streams_in p es) rising.1 in
     grind (arith, nat_tests, later, room)
 
 pub kept_push : (p : Slots) (es : Places) (e : ℕ × Place) → AreKept p es → IsKept e.1.key p → AreKept p (es ++ e ∷ [])
@@ -136,7 +136,7 @@ found_kept n o p (e ∷ es) found kept =
 
 -- the buffers of the place that is found
 pub buffers_lookup : (n : ℕ) (p : Slots) (es : Places)
-    → buffers_at n (shelved p es) ≡ option_map (λ o. pooled o.key p) (lookup (at n) es)
+    → buffers_at n (streams_in p es) ≡ option_map (λ o. pooled o.key p) (lookup (at n) es)
 buffers_lookup n p [] = refl
 buffers_lookup n p (e ∷ es) =
     let later = buffers_lookup n p es in
@@ -152,12 +152,12 @@ value_pooled key p = elim (kept_at key p) as (λ slot. IsSome slot
     ]
 
 -- the map without a number is the list without it
-pub remove_without : (low high n : ℕ) (p : Slots) (es : Places) → IsNumbered low (shelved p es) high
-    → shelved p (remove_entry (at n) es) ≡ without_number n (shelved p es)
+pub remove_without : (low high n : ℕ) (p : Slots) (es : Places) → IsNumbered low (streams_in p es) high
+    → streams_in p (remove_entry (at n) es) ≡ without_number n (streams_in p es)
 remove_without low high n p [] rising = refl
 remove_without low high n p (e ∷ es) rising =
     let later = remove_without e.0 high n p es rising.1 in
-    let above = λ (up : n ≤ e.0). without_below e.0 high n (shelved p es) rising.1 up in
+    let above = λ (up : n ≤ e.0). without_below e.0 high n (streams_in p es) rising.1 up in
     grind (arith, nat_tests, later, above)
 
 pub removed_kept : (n : ℕ) (p : Slots) (es : Places) → AreKept p es → AreKept p (remove_entry (at n) es)
@@ -207,18 +207,18 @@ pub set_agrees : (key : ℕ) (p : Slots) (slot : Option (Kept Buffers)) → Agre
 set_agrees key p slot other apart = get_or-set_other p key other slot None apart
 
 -- the streams after one was taken out of the map and the pool
-pub removed_view : (low high n : ℕ) (o : Place) (p q : Slots) (es : Places) → IsNumbered low (shelved p es) high → AreApart es
-    → lookup (at n) es ≡ Some o → AgreeBut o.key p q → shelved q (remove_entry (at n) es) ≡ without_number n (shelved p es)
+pub removed_view : (low high n : ℕ) (o : Place) (p q : Slots) (es : Places) → IsNumbered low (streams_in p es) high → AreApart es
+    → lookup (at n) es ≡ Some o → AgreeBut o.key p q → streams_in q (remove_entry (at n) es) ≡ without_number n (streams_in p es)
 removed_view low high n o p q es rising apart found agree =
-    shelved_same o.key p q (remove_entry (at n) es) agree (found_none n o es found apart) ∙ remove_without low high n p es rising
+    streams_in_same o.key p q (remove_entry (at n) es) agree (found_none n o es found apart) ∙ remove_without low high n p es rising
 
 -- the streams after a place got another handle
-pub handed_view : (low high n handle : ℕ) (p : Slots) (es : Places) → IsNumbered low (shelved p es) high
-    → shelved p (placed n (with_handle handle) es) ≡ hand_over n handle (shelved p es)
+pub handed_view : (low high n handle : ℕ) (p : Slots) (es : Places) → IsNumbered low (streams_in p es) high
+    → streams_in p (placed n (with_handle handle) es) ≡ hand_over n handle (streams_in p es)
 handed_view low high n handle p [] rising = refl
 handed_view low high n handle p (e ∷ es) rising =
     let later = handed_view e.0 high n handle p es rising.1 in
-    let below = λ (under : n ≤ e.0). change_below e.0 high n (under_handle handle) (shelved p es) rising.1 under in
+    let below = λ (under : n ≤ e.0). change_below e.0 high n (under_handle handle) (streams_in p es) rising.1 under in
     grind (arith, nat_tests, later, below)
 
 pub numbered_handed : (low high n handle : ℕ) (streams : List KeptStream) → IsNumbered low streams high
@@ -296,8 +296,8 @@ lent_here : (key : ℕ) (p : Slots) (w : Buffers) → IsKept key p → pooled ke
 lent_here key p w kept = rw (lent_slot key p w kept) (held_value w (kept_at key p) kept _)
 
 -- how many places there are
-pub places_room : (high : ℕ) (p : Slots) (es : Places) → IsNumbered 0 (shelved p es) high → length es ≤ high
-places_room high p es rising = omega (arith, numbered_room 0 high (shelved p es) rising, length-map es (kept_stream p))
+pub places_room : (high : ℕ) (p : Slots) (es : Places) → IsNumbered 0 (streams_in p es) high → length es ≤ high
+places_room high p es rising = omega (arith, numbered_room 0 high (streams_in p es) rising, length-map es (kept_stream p))
 
 at_same : (n m : ℕ) → at n m ≡ (m == n)
 at_same n m = grind (arith, nat_tests)
@@ -306,8 +306,8 @@ abbrev with_here : Buffers → ℕ × Place → KeptStream
 with_here w e = record { number = e.0; handle = e.1.handle; buffers = w }
 
 -- the streams after one was lent
-pub lent_view : (low high n : ℕ) (o : Place) (p : Slots) (es : Places) (w : Buffers) → IsNumbered low (shelved p es) high → AreKept p es
-    → AreApart es → lookup (at n) es ≡ Some o → shelved (with_value o.key p w) es ≡ change_stream n (λ _. w) (shelved p es)
+pub lent_view : (low high n : ℕ) (o : Place) (p : Slots) (es : Places) (w : Buffers) → IsNumbered low (streams_in p es) high → AreKept p es
+    → AreApart es → lookup (at n) es ≡ Some o → streams_in (with_value o.key p w) es ≡ change_stream n (λ _. w) (streams_in p es)
 lent_view low high n o p [] w rising kept apart found = refl
 lent_view low high n o p (e ∷ es) w rising kept apart found =
     let q : Slots = with_value o.key p w in
@@ -315,7 +315,7 @@ lent_view low high n o p (e ∷ es) w rising kept apart found =
     let found_here : cond (e.0 == n) (Some e.1) (lookup (at n) es) ≡ Some o =
     subst (λ b. cond b (Some e.1) (lookup (at n) es) ≡ Some o) (at_same n e.0) found in
     elim (e.0 == n) as (λ b. (e.0 == n) ≡ b → cond b (Some e.1) (lookup (at n) es) ≡ Some o
-    → kept_stream q e ∷ shelved q es ≡ cond b (with_here w e) (kept_stream p e) ∷ change_stream n (λ _. w) (shelved p es)) [
+    → kept_stream q e ∷ streams_in q es ≡ cond b (with_here w e) (kept_stream p e) ∷ change_stream n (λ _. w) (streams_in p es)) [
       | true ↦ λ here is. (
           let same : e.1 ≡ o = cc in
           let key : e.1.key ≡ o.key = ap (λ x. x.key) same in
@@ -323,9 +323,9 @@ lent_view low high n o p (e ∷ es) w rising kept apart found =
           (lent_here o.key p w (subst (λ k. IsKept k p) key kept.0)) in
           let head : kept_stream q e ≡ with_here w e = ap (λ b. with_here b e) value in
           let under : n ≤ e.0 = grind (arith, nat_tests) in
-          let rest : shelved q es ≡ change_stream n (λ _. w) (shelved p es) =
-          shelved_same o.key p q es agree (subst (λ k. HasNone k es) key apart.0)
-          ∙ sym (change_below e.0 high n (λ s. record s { buffers = w }) (shelved p es) rising.1 under) in
+          let rest : streams_in q es ≡ change_stream n (λ _. w) (streams_in p es) =
+          streams_in_same o.key p q es agree (subst (λ k. HasNone k es) key apart.0)
+          ∙ sym (change_below e.0 high n (λ s. record s { buffers = w }) (streams_in p es) rising.1 under) in
           cc)
       | false ↦ λ other is. (
           let head : kept_stream q e ≡ kept_stream p e = ap (λ b. with_here b e)
@@ -334,34 +334,35 @@ lent_view low high n o p (e ∷ es) w rising kept apart found =
           cc)
     ] refl found_here
 
--- what is left of the shelf where one place was added, was taken out, or had its stream lent
-pub shelf_push : (n : ℕ) (o : Place) (p q : Slots) (es after : Places) → 0 < n → IsNumbered 0 (shelved p es) (n - 1) → n ≤ 4294967295
+-- what is left of the table where one place was added, was taken out, or had its stream lent
+pub table_push : (n : ℕ) (o : Place) (p q : Slots) (es after : Places) → 0 < n → IsNumbered 0 (streams_in p es) (n - 1) → n ≤ 4294967295
     → AreKept p es → AreApart es → kept_at o.key p ≡ None → AgreeBut o.key p q → IsKept o.key q → after ≡ insert_entry nat_cmp es n o
-    → (shelved q after ≡ shelved p es ++ kept_stream q (n, o) ∷ []) × IsNumbered 0 (shelved q after) 4294967295 × AreKept q after
+    → (streams_in q after ≡ streams_in p es ++ kept_stream q (n, o) ∷ []) × IsNumbered 0 (streams_in q after) 4294967295 × AreKept q after
     × AreApart after
-shelf_push n o p q es after counted rising fits kept apart free agree new is =
+table_push n o p q es after counted rising fits kept apart free agree new is =
     let none = none_free o.key p es free kept in
     let last : after ≡ es ++ (n, o) ∷ [] = is ∙ insert_last 0 (n - 1) n o p es rising (omega arith) in
-    let view : shelved q (es ++ (n, o) ∷ []) ≡ shelved p es ++ kept_stream q (n, o) ∷ [] =
+    let view : streams_in q (es ++ (n, o) ∷ []) ≡ streams_in p es ++ kept_stream q (n, o) ∷ [] =
     map-append (kept_stream q) es ((n, o) ∷ []) ∙ ap (λ ss. ss ++ kept_stream q (n, o) ∷ [])
-    (shelved_same o.key p q es agree none) in
+    (streams_in_same o.key p q es agree none) in
     rw last (
       view,
-      rw view (numbered_push 0 (n - 1) 4294967295 (shelved p es) (kept_stream q (n, o)) rising (omega arith) fits),
+      rw view (numbered_push 0 (n - 1) 4294967295 (streams_in p es) (kept_stream q (n, o)) rising (omega arith) fits),
       kept_push q es (n, o) (kept_same o.key p q es agree none kept) new,
       apart_push es (n, o) apart none,
     )
 
-pub shelf_remove : (n : ℕ) (o : Place) (p q : Slots) (es after : Places) → IsNumbered 0 (shelved p es) 4294967295 → AreKept p es
+pub table_remove : (n : ℕ) (o : Place) (p q : Slots) (es after : Places) → IsNumbered 0 (streams_in p es) 4294967295 → AreKept p es
     → AreApart es → lookup (at n) es ≡ Some o → AgreeBut o.key p q → after ≡ remove_entry (at n) es
-    → (shelved q after ≡ without_number n (shelved p es)) × IsNumbered 0 (shelved q after) 4294967295 × AreKept q after × AreApart after
-shelf_remove n o p q es after rising kept apart found agree is =
+    → (streams_in q after ≡ without_number n (streams_in p es)) × IsNumbered 0 (streams_in q after) 4294967295 × AreKept q after
+    × AreApart after
+table_remove n o p q es after rising kept apart found agree is =
     let none = found_none n o es found apart in
-    let view : shelved q (remove_entry (at n) es) ≡ without_number n (shelved p es) =
+    let view : streams_in q (remove_entry (at n) es) ≡ without_number n (streams_in p es) =
     removed_view 0 4294967295 n o p q es rising apart found agree in
     rw is (
       view,
-      rw view (numbered_without 0 4294967295 n (shelved p es) rising),
+      rw view (numbered_without 0 4294967295 n (streams_in p es) rising),
       kept_same o.key p q (remove_entry (at n) es) agree none (removed_kept n p es kept),
       removed_apart n es apart,
     )
@@ -398,11 +399,11 @@ numbered_changed low high n w (s ∷ streams) rising =
     ]
 
 -- a pool in which one key was taken and let go again
-pub shelf_same : (key : ℕ) (p q : Slots) (es : Places) → kept_at key p ≡ None → AreKept p es → AgreeBut key p q
-    → (shelved q es ≡ shelved p es) × AreKept q es
-shelf_same key p q es free kept agree =
+pub table_same : (key : ℕ) (p q : Slots) (es : Places) → kept_at key p ≡ None → AreKept p es → AgreeBut key p q
+    → (streams_in q es ≡ streams_in p es) × AreKept q es
+table_same key p q es free kept agree =
     let none = none_free key p es free kept in
-    (shelved_same key p q es agree none, kept_same key p q es agree none kept)
+    (streams_in_same key p q es agree none, kept_same key p q es agree none kept)
 
 -- a pool in which two slots of one key were written in turn
 pub agree_twice : (key : ℕ) (p q r : Slots) (slot : Option (Kept Buffers)) → AgreeBut key p q → r ≡ slice_set q key slot → AgreeBut key p r

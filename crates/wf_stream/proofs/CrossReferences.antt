@@ -13,8 +13,8 @@ use Rattle.wf_life.specs.Handles.{Live, IsRising, same_kind, key_of, is_live, li
 use Rattle.wf_stream.specs.Buffers.{Buffers}
 use Rattle.wf_stream.specs.Streams.{KeptStream, IsNumbered, is_stream, stream_of, number_of, has_handle, hand_over, under_handle, unnamed}
 use Rattle.wf_stream.specs.Streams.{change_stream, without_number}
-use Rattle.wf_stream.specs.Joined.{is_of_stream, stream_handles, others_of, live_of, live_streams}
-use Rattle.wf_stream.proofs.Shelves.{change_below, numbered_room}
+use Rattle.wf_stream.specs.CrossReferences.{is_of_stream, stream_handles, others_of, live_of, live_streams}
+use Rattle.wf_stream.proofs.StreamTables.{change_below, numbered_room}
 
 -- kinds
 

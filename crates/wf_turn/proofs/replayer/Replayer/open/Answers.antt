@@ -3,10 +3,10 @@ use Rattle.wf_turn.proofs.Common.{may_declare, State, Program, program, Show, op
 use Rattle.std.proofs.lemmas.List.{map-append}
 use Rattle.std.specs.Bool.{IsTrue}
 use Rattle.wf_model.specs.State.{opening}
-use Rattle.wf_turn.specs.Replayed.{IsTroupe}
+use Rattle.wf_turn.specs.Replayed.{IsReplayer}
 use Rattle.wf_turn.proofs.Openings.{range_more}
-use Rattle.wf_turn.proofs.Troupes.{opening_troupe}
-use Rattle.wf_turn.proofs.troupe.Troupe.open.Goals as goal
+use Rattle.wf_turn.proofs.Replayers.{opening_replayer}
+use Rattle.wf_turn.proofs.replayer.Replayer.open.Goals as goal
 
 pub loop-behind-preserved : goal.loop-behind-preserved
 loop-behind-preserved c =
@@ -39,7 +39,7 @@ module _ (c : goal.After-unasked) where
 pub returns-clause-opened : goal.returns-clause-opened
 returns-clause-opened c = show_is c
 
-pub returns-clause-troupe : goal.returns-clause-troupe
-returns-clause-troupe c =
-    subst IsTroupe (sym (show_is c))
-    (opening_troupe _ (subst (λ ports. IsTrue (may_declare ports)) c.ports.ensures.ports c.ports.ensures.declared))
+pub returns-clause-replayer : goal.returns-clause-replayer
+returns-clause-replayer c =
+    subst IsReplayer (sym (show_is c))
+    (opening_replayer _ (subst (λ ports. IsTrue (may_declare ports)) c.ports.ensures.ports c.ports.ensures.declared))

@@ -1,4 +1,4 @@
-//! A troupe: the machine, and the programs of the eight clients, any of whom may have the next turn.
+//! A replayer: the machine, and the programs of the eight clients, any of whom may have the next turn.
 
 ghost use Rattle.std.specs.Prelude.{◌≡◌, ◌+◌, ◌*◌, ◌-◌, ◌<◌, ◌≤◌, ◌^◌, ◌∷◌, IfOk, IfErr, IfSome, IsSomeAnd, MatchOption, OnOk, Some};
 ghost use Rattle.std.specs.Prelude.{flat_map, length};
@@ -12,7 +12,7 @@ ghost use Rattle.wf_turn.specs.Play.{same_turn};
 ghost use Rattle.wf_turn.specs.Playing.{HoldsPaintable, shown_by};
 ghost use Rattle.wf_turn.specs.Program.{place_of};
 ghost use Rattle.wf_turn.specs.Ready.{IsFit};
-ghost use Rattle.wf_turn.specs.Replayed.{IsNoTurn, IsRetaken, IsStuckAt, IsTroupe, RetakesAt};
+ghost use Rattle.wf_turn.specs.Replayed.{IsNoTurn, IsRetaken, IsStuckAt, IsReplayer, RetakesAt};
 ghost use Rattle.wf_turn.specs.Turns.{is_over, opening_show};
 
 use crate::program::{Program, unasked};
@@ -32,7 +32,7 @@ use wf_words::NoMemory;
 /// The machine, the program of the clock, which is client 0, and those of the other clients of a script, the place
 /// where each turn puts its call, and how many turns there were.
 #[derive(Drop)]
-pub(crate) struct Troupe<'a> {
+pub(crate) struct Replayer<'a> {
     machine: Machine,
     clock: Program<'a>,
     others: Vec<Program<'a>>,
@@ -40,7 +40,7 @@ pub(crate) struct Troupe<'a> {
     turns: u32,
 }
 
-impl<'a> Model for Troupe<'a> {
+impl<'a> Model for Replayer<'a> {
     ghost use Rattle.wf_turn.specs.Turns.{Show};
     ghost use Rattle.wf_turn.specs.Replayed.{show_of};
 
@@ -107,12 +107,12 @@ fn retake_of<P: Painter>(
     }
 }
 
-impl<'a> Troupe<'a> {
+impl<'a> Replayer<'a> {
     /// The machine before the first call, and the programs before theirs. What it moves is off the stack when it returns.
     #[inline(never)]
-    pub(crate) fn open(alloc: Global, script: &'a Script) -> Result<Troupe<'a>, NoMemory>
-        ensures opened { IfOk result (λ troupe. troupe ≡ opening_show script.now) }
-        ensures troupe { IfOk result IsTroupe }
+    pub(crate) fn open(alloc: Global, script: &'a Script) -> Result<Replayer<'a>, NoMemory>
+        ensures opened { IfOk result (λ replayer. replayer ≡ opening_show script.now) }
+        ensures replayer { IfOk result IsReplayer }
     {
         let machine = Machine::open(alloc, script.ports())?;
         let clock = Program::new(alloc, script, 0)?;
@@ -120,7 +120,7 @@ impl<'a> Troupe<'a> {
         for behind in 0..OTHERS {
             others.push_reserved(Program::new(alloc, script, behind + 1)?);
         }
-        Ok(Troupe {
+        Ok(Replayer {
             machine,
             clock,
             others,
@@ -130,13 +130,13 @@ impl<'a> Troupe<'a> {
     }
 
     /// Takes the turn that an entry tells, and paints the Job that comes. It gives whether there was a Job, or none where the entry
-    /// is no turn; then, and where memory is wanting, the troupe is of no further use.
+    /// is no turn; then, and where memory is wanting, the replayer is of no further use.
     pub(crate) fn turn<P: Painter>(
         &mut self,
         entry: Turn,
         painter: &mut P,
     ) -> Result<Option<bool>, NoMemory>
-        requires troupe { IsTroupe self.old }
+        requires replayer { IsReplayer self.old }
         requires early { self.old.turns < 2 ^ 32 - 1 }
         ensures { IfOk result (λ taken. MatchOption taken (IsNoTurn self.old entry)
             (λ painted. IsRetaken self.old entry painted self.new)) }

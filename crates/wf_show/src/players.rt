@@ -4,7 +4,7 @@ ghost use Rattle.std.specs.Prelude.{◌≡◌, ◌∷◌, ◌<◌, ◌≤◌, �
 ghost use Rattle.std.specs.List.{list_all};
 ghost use Rattle.wf_script.specs.Script.{may_tick};
 ghost use Rattle.wf_turn.specs.Quota.{quota};
-ghost use Rattle.wf_show.specs.Casting.{IsCast, passes_from};
+ghost use Rattle.wf_show.specs.Opened.{ArePlayers, passes_from};
 ghost use Rattle.wf_show.specs.Players.{AreFresh};
 
 use crate::player::{OTHERS, Player};
@@ -21,7 +21,7 @@ const CLIENTS: usize = 8;
 /// All that a play on threads needs of memory: the desk, the clock, the other players from client 1 on, and room for the passes that
 /// they give back.
 #[derive(Drop)]
-pub(crate) struct Cast<'a> {
+pub(crate) struct Players<'a> {
     pub desk: Desk<Machine>,
     pub clock: Player<'a>,
     pub others: Vec<Player<'a>>,
@@ -51,7 +51,7 @@ fn quotas_of(script: &Script) -> [u32; 8]
 }
 
 /// The players of these passes, from client 1 on.
-fn cast_others<'a>(
+fn players_of<'a>(
     alloc: Global,
     script: &'a Script,
     desk: &Desk<Machine>,
@@ -72,19 +72,19 @@ fn cast_others<'a>(
     Ok(players)
 }
 
-impl<'a> Cast<'a> {
-    /// The cast of a script. What it moves is off the stack when it returns.
+impl<'a> Players<'a> {
+    /// The players of a script. What it moves is off the stack when it returns.
     #[inline(never)]
-    pub(crate) fn open(alloc: Global, script: &'a Script) -> Result<Cast<'a>, NoMemory>
-        ensures { IfOk result (IsCast script.now) }
+    pub(crate) fn open(alloc: Global, script: &'a Script) -> Result<Players<'a>, NoMemory>
+        ensures { IfOk result (ArePlayers script.now) }
     {
         let machine = Machine::open(alloc, script.ports())?;
         let ended = Vec::with_capacity(alloc, CLIENTS)?;
         let (desk, mut passes) = Desk::open(alloc, machine, &quotas_of(script))?;
         let pass = passes.remove(0);
         let program = Program::new(alloc, script, 0)?;
-        let others = cast_others(alloc, script, &desk, passes)?;
-        Ok(Cast {
+        let others = players_of(alloc, script, &desk, passes)?;
+        Ok(Players {
             desk,
             clock: Player { pass, program },
             others,

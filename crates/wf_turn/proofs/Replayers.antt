@@ -1,4 +1,4 @@
--- A troupe, and the turns that entries tell: of whichever client, and in whichever order.
+-- A replayer, and the turns that entries tell: of whichever client, and in whichever order.
 use Rattle.wf_turn.proofs.Common.{◌≡◌, ◌∙◌, ℕ, zero, suc, ◌+◌, ◌-◌, ◌<◌, ◌≤◌, Bool, true, false, not, cond, ◌&&◌, ◌==◌, List, [], ◌∷◌, ◌++◌}
 use Rattle.wf_turn.proofs.Common.{map, length, get_or, set, Option, Some, None, Ok, refl, sym, ap, subst, arith, slice_get, and_parts}
 use Rattle.wf_turn.proofs.Common.{ltb-true}
@@ -8,14 +8,14 @@ use Rattle.wf_turn.proofs.Common.{IsPaintable, Reply, is_running, State, step, P
 use Rattle.wf_turn.proofs.Common.{with_frames}
 use Rattle.wf_turn.proofs.Common.{frames_if, frames_of, shown_by, Program, in_setup, next, place_of, taught, took, worked, AreOf, IsFit}
 use Rattle.wf_turn.proofs.Common.{Show}
-use Rattle.wf_turn.proofs.Common.{answered, all_taught, handed_on, is_setting_up, opening_show, program_at, turn, may_declare}
+use Rattle.wf_turn.proofs.Common.{answered, all_taught, inherited, is_setting_up, opening_show, program_at, turn, may_declare}
 use Rattle.std.proofs.Common.{Err}
 use Rattle.std.specs.Prelude.{IfOk, MatchOption, Result}
 use Rattle.std.proofs.lemmas.Bool.{ltb-false}
 use Rattle.wf_words.specs.Places.{length_map}
 use Rattle.wf_turn.specs.Playing.{HoldsPaintable}
-use Rattle.wf_turn.specs.Replayed.{EntersTo, IsNoTurn, IsRetaken, IsStuckAt, IsTroupe, Retakes, RetakesAt, entry_taken, wanted_now}
-use Rattle.wf_turn.proofs.Casts.{are_handed, are_set, at_client, handed_get, handed_same, other_is, other_set, shown_handed}
+use Rattle.wf_turn.specs.Replayed.{EntersTo, IsNoTurn, IsRetaken, IsStuckAt, IsReplayer, Retakes, RetakesAt, entry_taken, wanted_now}
+use Rattle.wf_turn.proofs.Programs.{are_inherited, are_set, at_client, inherited_get, inherited_same, other_is, other_set, shown_inherited}
 use Rattle.wf_turn.proofs.Fitting.{fit_took}
 use Rattle.wf_turn.proofs.Keeping.{same_client, same_script}
 use Rattle.wf_turn.proofs.Openings.{opening_cast}
@@ -89,9 +89,9 @@ not_not : (b : Bool) → not b ≡ true → b ≡ false
 not_not true is = absurd cc
 not_not false is = refl
 
-pub allowed : (show : Show) (client : ℕ) (setup : Bool) → IsTroupe show → setup ≡ is_setting_up show.programs
+pub allowed : (show : Show) (client : ℕ) (setup : Bool) → IsReplayer show → setup ≡ is_setting_up show.programs
     → (nat_lt client 8 && not (not (client == 0) && setup)) ≡ true → MayTurn show client
-allowed show client setup troupe setup_is may =
+allowed show client setup replayer setup_is may =
     of_program (slice_get show.programs client) refl
   where
     both : (nat_lt client 8 ≡ true) × (not (not (client == 0) && setup) ≡ true)
@@ -109,9 +109,9 @@ allowed show client setup troupe setup_is may =
     there (q ∷ qs) (suc i) none = (let rest = there qs i none in omega (arith, rest))
 
     of_program : (o : Option Program) → slice_get show.programs client ≡ o → MayTurn show client
-    of_program None none = absurd (omega (arith, there show.programs client none, troupe.eight, within))
+    of_program None none = absurd (omega (arith, there show.programs client none, replayer.eight, within))
     of_program (Some p) found =
-        let of = at_client troupe.script 0 show.programs client p troupe.programs found in
+        let of = at_client replayer.script 0 show.programs client p replayer.programs found in
         record {
           within = within;
           program = p;
@@ -129,7 +129,8 @@ stuck show t may is =
     ∙ ap (by_wanted (with_frames front show) t.client (is_marked t) may.program) none)
 
 -- what its turn leaves
-module _ (show : Show) (t : Turn) (troupe : IsTroupe show) (may : MayTurn show t.client) (left : State) (placed : List Program) (u : Turn)
+module _ (show : Show) (t : Turn) (replayer : IsReplayer show) (may : MayTurn show t.client)
+    (left : State) (placed : List Program) (u : Turn)
     (painted : Bool) (takes : RetakesAt (is_marked t) t.client show.state left show.programs placed u painted) where
   abbrev p : Program
   p = may.program
@@ -158,13 +159,13 @@ module _ (show : Show) (t : Turn) (troupe : IsTroupe show) (may : MayTurn show t
       (subst (λ x. same_turn x t ≡ false) taken.turn_is.entry_is apart)
 
   abbrev pub after : Show
-  after = record { state = left; programs = handed_on show.programs placed; frames = []; turns = show.turns + 1 }
+  after = record { state = left; programs = inherited show.programs placed; frames = []; turns = show.turns + 1 }
 
-  are_placed : AreOf troupe.script 0 placed
+  are_placed : AreOf replayer.script 0 placed
   are_placed =
       let reply = W.1 in
-      subst (AreOf troupe.script 0) (sym taken.placed_is)
-      (are_set troupe.script 0 show.programs t.client p taken.now troupe.programs may.found
+      subst (AreOf replayer.script 0) (sym taken.placed_is)
+      (are_set replayer.script 0 show.programs t.client p taken.now replayer.programs may.found
       (ap (λ x. x.script) taken.turn_is.program ∙ same_script p reply)
       (ap (λ x. x.client) taken.turn_is.program ∙ same_client p reply)
       (subst IsFit (sym taken.turn_is.program) (fit_took p reply may.fit)))
@@ -173,10 +174,10 @@ module _ (show : Show) (t : Turn) (troupe : IsTroupe show) (may : MayTurn show t
   pub of_one : (own : PlainScript) (clock : Program) (others : List Program) → placed ≡ clock ∷ others → own ≡ clock.script
       → All (λ q. q.script ≡ own) others × (clock.client ≡ 0)
   of_one own clock others is own_is =
-      let are : AreOf troupe.script 0 (clock ∷ others) = subst (AreOf troupe.script 0) is are_placed in
+      let are : AreOf replayer.script 0 (clock ∷ others) = subst (AreOf replayer.script 0) is are_placed in
       (each 1 others (own_is ∙ are.0) are.3, are.1)
     where
-      each : (k : ℕ) (qs : List Program) → own ≡ troupe.script → AreOf troupe.script k qs → All (λ q. q.script ≡ own) qs
+      each : (k : ℕ) (qs : List Program) → own ≡ replayer.script → AreOf replayer.script k qs → All (λ q. q.script ≡ own) qs
       each k [] same are = All-nil (λ q. q.script ≡ own)
       each k (q ∷ qs) same are = All-cons (λ r. r.script ≡ own) q qs (are.0 ∙ sym same) (each (k + 1) qs same are.3)
 
@@ -185,14 +186,14 @@ module _ (show : Show) (t : Turn) (troupe : IsTroupe show) (may : MayTurn show t
   length_set (y ∷ ys) zero x = refl
   length_set (y ∷ ys) (suc i) x = ap suc (length_set ys i x)
 
-  troupe_after : IsTroupe after
-  troupe_after =
+  replayer_after : IsReplayer after
+  replayer_after =
       record {
-        script = troupe.script;
-        programs = are_handed troupe.script show.programs placed are_placed;
-        eight = length_map (λ q. q.script) (handed_on show.programs placed) placed
-            (handed_same (λ q. q.script) (λ clock r. refl) show.programs placed)
-            ∙ ap length taken.placed_is ∙ length_set show.programs t.client taken.now ∙ troupe.eight;
+        script = replayer.script;
+        programs = are_inherited replayer.script show.programs placed are_placed;
+        eight = length_map (λ q. q.script) (inherited show.programs placed) placed
+            (inherited_same (λ q. q.script) (λ clock r. refl) show.programs placed)
+            ∙ ap length taken.placed_is ∙ length_set show.programs t.client taken.now ∙ replayer.eight;
       }
 
   here : slice_get placed t.client ≡ Some taken.now
@@ -206,11 +207,11 @@ module _ (show : Show) (t : Turn) (troupe : IsTroupe show) (may : MayTurn show t
             ∙ ap (λ b. cond b (Some (answered (with_frames front show) t.client p W).0) None)
             (subst (λ x. same_turn x t ≡ true) taken.turn_is.entry_is same)
             ∙ ap (λ x. Some x) (shows front);
-        paintable = λ is. handed_get (λ r. IsSomeAnd r.job IsPaintable) (λ clock r can. can) show.programs placed t.client taken.now here
+        paintable = λ is. inherited_get (λ r. IsSomeAnd r.job IsPaintable) (λ clock r can. can) show.programs placed t.client taken.now here
             (taken.turn_is.paintable is);
         within = may.within;
         turns = refl;
-        troupe = troupe_after;
+        replayer = replayer_after;
       }
     where
       of : State → List Program → List Frame → Show
@@ -223,12 +224,12 @@ module _ (show : Show) (t : Turn) (troupe : IsTroupe show) (may : MayTurn show t
           let programs_is : set show.programs t.client (worked (took p W.1)) ≡ placed =
           ap (set show.programs t.client) (sym taken.turn_is.program) ∙ sym taken.placed_is in
           let frames_is : frames_of begin (took p W.1) ≡ shown_by begin painted after.programs t.client =
-          taken.turn_is.frames begin ∙ sym (shown_handed begin painted show.programs placed t.client taken.now here) in
-          ap (λ h. of h (handed_on show.programs (set show.programs t.client (worked (took p W.1))))
+          taken.turn_is.frames begin ∙ sym (shown_inherited begin painted show.programs placed t.client taken.now here) in
+          ap (λ h. of h (inherited show.programs (set show.programs t.client (worked (took p W.1))))
           (front ++ frames_of begin (took p W.1)))
           (sym taken.turn_is.state)
-          ∙ ap (λ ps. of left (handed_on show.programs ps) (front ++ frames_of begin (took p W.1))) programs_is
-          ∙ ap (λ fs. of left (handed_on show.programs placed) (front ++ fs)) frames_is
+          ∙ ap (λ ps. of left (inherited show.programs ps) (front ++ frames_of begin (took p W.1))) programs_is
+          ∙ ap (λ fs. of left (inherited show.programs placed) (front ++ fs)) frames_is
 
 -- the program of another client than the clock
 
@@ -266,25 +267,25 @@ other_retaken m clock others client h left d q (Ok (Some x)) apart is takes =
     )
 
 -- before the first turn
-pub opening_troupe : (script : PlainScript) → may_declare script.ports ≡ true → IsTroupe (opening_show script)
-opening_troupe script declared =
+pub opening_replayer : (script : PlainScript) → may_declare script.ports ≡ true → IsReplayer (opening_show script)
+opening_replayer script declared =
     let cast = opening_cast script declared in
     record { script = cast.script; programs = cast.programs; eight = cast.eight }
 
--- a turn of a troupe as it is kept, by the number that its entry tells
-module _ (s seen : Show) (view : s ≡ seen) (e : Turn) (client : ℕ) (own : client ≡ e.client) (setup may : Bool) (troupe : IsTroupe seen)
+-- a turn of a replayer as it is kept, by the number that its entry tells
+module _ (s seen : Show) (view : s ≡ seen) (e : Turn) (client : ℕ) (own : client ≡ e.client) (setup may : Bool) (replayer : IsReplayer seen)
     (setup_is : setup ≡ is_setting_up s.programs) (may_is : may ≡ (nat_lt client 8 && not (not (client == 0) && setup))) where
-  troupe_s : IsTroupe s
-  troupe_s = subst IsTroupe (sym view) troupe
+  replayer_s : IsReplayer s
+  replayer_s = subst IsReplayer (sym view) replayer
 
   may_own : may ≡ (nat_lt e.client 8 && not (not (e.client == 0) && setup))
   may_own = subst (λ n. may ≡ (nat_lt n 8 && not (not (n == 0) && setup))) own may_is
 
   pub no_right : may ≡ false → IsNoTurn seen e
-  no_right barred = subst (λ v. IsNoTurn v e) view (not_allowed s e setup troupe_s.eight setup_is (sym may_own ∙ barred))
+  no_right barred = subst (λ v. IsNoTurn v e) view (not_allowed s e setup replayer_s.eight setup_is (sym may_own ∙ barred))
 
   right : may ≡ true → MayTurn s e.client
-  right can = allowed s e.client setup troupe_s setup_is (sym may_own ∙ can)
+  right can = allowed s e.client setup replayer_s setup_is (sym may_own ∙ can)
 
   pub fit_at : may ≡ true → IsSomeAnd (slice_get s.programs client) IsFit
   fit_at can = (let r = right can in subst (λ n. IsSomeAnd (slice_get s.programs n) IsFit) (sym own) (rw r.found r.fit))
@@ -298,15 +299,15 @@ module _ (s seen : Show) (view : s ≡ seen) (e : Turn) (client : ℕ) (own : cl
     takes_own = subst (λ n. RetakesAt (is_marked e) n s.state left s.programs placed u painted) own takes
 
     pub apart_at : same_turn u e ≡ false → IsNoTurn seen e
-    apart_at apart = subst (λ v. IsNoTurn v e) view (other_entry s e troupe_s (right can) left placed u painted takes_own apart)
+    apart_at apart = subst (λ v. IsNoTurn v e) view (other_entry s e replayer_s (right can) left placed u painted takes_own apart)
 
     pub one_at : (script : PlainScript) (clock : Program) (others : List Program) → placed ≡ clock ∷ others → script ≡ clock.script
         → All (λ q. q.script ≡ script) others × (clock.client ≡ 0)
-    one_at = of_one s e troupe_s (right can) left placed u painted takes_own
+    one_at = of_one s e replayer_s (right can) left placed u painted takes_own
 
-    pub retaken_at : same_turn u e ≡ true → (programs : List Program) → programs ≡ handed_on s.programs placed
+    pub retaken_at : same_turn u e ≡ true → (programs : List Program) → programs ≡ inherited s.programs placed
         → IsRetaken seen e painted (record { state = left; programs = programs; frames = []; turns = s.turns + 1 })
     retaken_at same programs is =
         subst (λ v. IsRetaken v e painted (record { state = left; programs = programs; frames = []; turns = s.turns + 1 })) view
         (subst (λ ps. IsRetaken s e painted (record { state = left; programs = ps; frames = []; turns = s.turns + 1 })) (sym is)
-        (retaken s e troupe_s (right can) left placed u painted takes_own same))
+        (retaken s e replayer_s (right can) left placed u painted takes_own same))

@@ -1,5 +1,5 @@
-use Rattle.wf_turn.proofs.Troupes.{other_fit, other_retaken}
-use Rattle.wf_turn.proofs.troupe.retake_of.Goals as goal
+use Rattle.wf_turn.proofs.Replayers.{other_fit, other_retaken}
+use Rattle.wf_turn.proofs.replayer.retake_of.Goals as goal
 
 pub retake-requires-else-client-eq0 : goal.retake-requires-else-client-eq0
 retake-requires-else-client-eq0 g = λ c. other_fit _ _ _ _ c.if-client-eq0.false c.index_mut-other.ensures.value c.requires.fit

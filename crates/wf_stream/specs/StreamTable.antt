@@ -7,7 +7,7 @@ use Rattle.wf_pixel.specs.declared.Format.TheVariants.{A8}
 use Rattle.wf_stream.specs.declared.streams.Place.{Place}
 use Rattle.wf_stream.specs.declared.streams.Streams.TheInside.{Inside}
 use Rattle.wf_stream.specs.Buffers.{Buffers, fresh}
-use Rattle.wf_stream.specs.Streams.{KeptStream, Shelf, IsNumbered}
+use Rattle.wf_stream.specs.Streams.{KeptStream, StreamTable, IsNumbered}
 
 -- the buffers under a key of the pool; each key that a place has is kept
 abbrev pub pooled : ℕ → List (Option (Kept Buffers)) → Buffers
@@ -20,15 +20,15 @@ kept_stream pool e = record { number = e.0; handle = e.1.handle; buffers = poole
 abbrev pub is_marked_or_own : List (Option (Kept Buffers)) → Place → Bool
 is_marked_or_own pool place = place.marked || not (place.handle == 0) || (pooled place.key pool).out
 
-abbrev pub shelved : List (Option (Kept Buffers)) → List (ℕ × Place) → List KeptStream
-shelved pool places = map (kept_stream pool) places
+abbrev pub streams_in : List (Option (Kept Buffers)) → List (ℕ × Place) → List KeptStream
+streams_in pool places = map (kept_stream pool) places
 
 -- the numbers of the places that are marked
 abbrev pub marks_of : List (ℕ × Place) → List ℕ
 marks_of places = map (λ e. e.0) (filter (λ e. e.1.marked) places)
 
-abbrev pub shelf_of : Inside → Shelf
-shelf_of s = record { streams = shelved s.pool s.places.entries; marked = marks_of s.places.entries }
+abbrev pub stream_table : Inside → StreamTable
+stream_table s = record { streams = streams_in s.pool s.places.entries; marked = marks_of s.places.entries }
 
 -- the pool keeps a stream for each place
 abbrev pub AreKept : List (Option (Kept Buffers)) → List (ℕ × Place) → Type 0
@@ -55,7 +55,7 @@ AreApart [] = Unit {0}
 AreApart (e ∷ places) = HasNone e.1.key places × AreApart places
 
 pub record IsSound (s : Inside) : Type 0 where
-  pub rising : IsNumbered 0 (shelved s.pool s.places.entries) 4294967295
+  pub rising : IsNumbered 0 (streams_in s.pool s.places.entries) 4294967295
   pub kept : AreKept s.pool s.places.entries
   pub apart : AreApart s.places.entries
   pub sole : AreSole s.pool s.places.entries

@@ -1,7 +1,7 @@
 -- The eight programs of a show: one of them changed, and names handed on.
 use Rattle.wf_turn.proofs.Common.{◌≡◌, ◌∙◌, ℕ, zero, suc, ◌+◌, ◌-◌, Bool, true, false, not, cond, ◌&&◌, List, [], ◌∷◌, map, Option, Some}
 use Rattle.wf_turn.proofs.Common.{None, refl, sym, ap, subst, arith, set, get_or, slice_get, sum_by, IfSome, sum_by-cons, PlainScript}
-use Rattle.wf_turn.proofs.Common.{frames_if, shown_by, Program, in_setup, taught, all_left, left, AreOf, IsFit, all_taught, handed_on}
+use Rattle.wf_turn.proofs.Common.{frames_if, shown_by, Program, in_setup, taught, all_left, left, AreOf, IsFit, all_taught, inherited}
 use Rattle.wf_turn.proofs.Common.{is_setting_up, get_map}
 use Rattle.wf_turn.proofs.Fitting.{fit_taught}
 
@@ -39,8 +39,8 @@ are_taught : (script : PlainScript) (k : ℕ) (ps : List Program) → AreOf scri
 are_taught script k [] are = tt
 are_taught script k (clock ∷ others) are = (are.0, are.1, are.2, are_mapped script clock (k + 1) others are.3)
 
-pub are_handed : (script : PlainScript) (before now : List Program) → AreOf script 0 now → AreOf script 0 (handed_on before now)
-are_handed script before now are =
+pub are_inherited : (script : PlainScript) (before now : List Program) → AreOf script 0 now → AreOf script 0 (inherited before now)
+are_inherited script before now are =
     elim (is_setting_up before && not (is_setting_up now))
     as (λ b. AreOf script 0 (cond b (all_taught now) now)) [ true ↦ are_taught script 0 now are | false ↦ are ]
 
@@ -55,8 +55,8 @@ module _ {A : Type 0} (f : Program → A) (same : (clock p : Program) → f (tau
   taught_same [] = refl
   taught_same (clock ∷ others) = ap (λ xs. f clock ∷ xs) (mapped_same clock others)
 
-  pub handed_same : (before now : List Program) → map f (handed_on before now) ≡ map f now
-  handed_same before now =
+  pub inherited_same : (before now : List Program) → map f (inherited before now) ≡ map f now
+  inherited_same before now =
       elim (is_setting_up before && not (is_setting_up now))
       as (λ b. map f (cond b (all_taught now) now) ≡ map f now) [ true ↦ taught_same now | false ↦ refl ]
 
@@ -64,9 +64,9 @@ sum_map : (ps : List Program) → all_left ps ≡ sum_by (λ n. n) (map left ps)
 sum_map [] = refl
 sum_map (p ∷ ps) = sum_by-cons left p ps ∙ ap (λ n. left p + n) (sum_map ps) ∙ sym (sum_by-cons (λ n. n) (left p) (map left ps))
 
-pub left_handed : (before now : List Program) → all_left (handed_on before now) ≡ all_left now
-left_handed before now = sum_map (handed_on before now)
-    ∙ ap (λ ns. sum_by (λ n. n) ns) (handed_same left (λ clock p. refl) before now) ∙ sym (sum_map now)
+pub left_inherited : (before now : List Program) → all_left (inherited before now) ≡ all_left now
+left_inherited before now = sum_map (inherited before now)
+    ∙ ap (λ ns. sum_by (λ n. n) ns) (inherited_same left (λ clock p. refl) before now) ∙ sym (sum_map now)
 
 pub left_set : (ps : List Program) (i : ℕ) (p q : Program) → slice_get ps i ≡ Some p → all_left (set ps i q) + left p ≡ all_left ps + left q
 left_set [] i p q found = absurd cc
@@ -77,8 +77,8 @@ left_set (r ∷ ps) zero p q found =
 left_set (r ∷ ps) (suc i) p q found = omega (arith, left_set ps i p q found, sum_by-cons left r (set ps i q), sum_by-cons left r ps)
 
 -- where the clock's setup is as it was, nothing is handed on
-pub not_handed : (before now : List Program) → is_setting_up now ≡ is_setting_up before → handed_on before now ≡ now
-not_handed before now same =
+pub not_inherited : (before now : List Program) → is_setting_up now ≡ is_setting_up before → inherited before now ≡ now
+not_inherited before now same =
     rw same (elim (is_setting_up before) as (λ b. cond (b && not b) (all_taught now) now ≡ now) [ true ↦ refl | false ↦ refl ])
 
 pub setup_set : (ps : List Program) (i : ℕ) (p q : Program) → slice_get ps i ≡ Some p → in_setup q ≡ in_setup p
@@ -88,9 +88,9 @@ setup_set (r ∷ ps) zero p q found same = (let is : p ≡ r = cc in same ∙ ap
 setup_set (r ∷ ps) (suc i) p q found same = refl
 
 -- the program of a client after names were handed on
-pub handed_get : (P : Program → Type 0) → ((clock p : Program) → P p → P (taught clock p))
-    → (before now : List Program) (i : ℕ) (q : Program) → slice_get now i ≡ Some q → P q → IfSome (slice_get (handed_on before now) i) P
-handed_get P keeps before now i q found holds =
+pub inherited_get : (P : Program → Type 0) → ((clock p : Program) → P p → P (taught clock p))
+    → (before now : List Program) (i : ℕ) (q : Program) → slice_get now i ≡ Some q → P q → IfSome (slice_get (inherited before now) i) P
+inherited_get P keeps before now i q found holds =
     elim (is_setting_up before && not (is_setting_up now)) as (λ b. IfSome (slice_get (cond b (all_taught now) now) i) P) [
       | true ↦ taught_get now i q found holds
       | false ↦ rw found holds
@@ -105,9 +105,9 @@ handed_get P keeps before now i q found holds =
     taught_get (clock ∷ others) zero r found holds = (let same : r ≡ clock = cc in subst P same holds)
     taught_get (clock ∷ others) (suc j) r found holds = mapped_get clock others j r found holds
 
-pub shown_handed : (begin : ℕ) (painted : Bool) (before now : List Program) (i : ℕ) (q : Program) → slice_get now i ≡ Some q
-    → shown_by begin painted (handed_on before now) i ≡ frames_if begin painted q
-shown_handed begin painted before now i q found =
+pub shown_inherited : (begin : ℕ) (painted : Bool) (before now : List Program) (i : ℕ) (q : Program) → slice_get now i ≡ Some q
+    → shown_by begin painted (inherited before now) i ≡ frames_if begin painted q
+shown_inherited begin painted before now i q found =
     elim (is_setting_up before && not (is_setting_up now))
     as (λ b. shown_by begin painted (cond b (all_taught now) now) i ≡ frames_if begin painted q) [
       | true ↦ taught_shown now i q found

@@ -1,9 +1,9 @@
 use Rattle.std.proofs.Common.{◌≡◌, ◌∙◌, ◌+◌, ◌++◌, ◌∷◌, [], length, ap, sym, subst, arith, append_assoc}
 use Rattle.std.proofs.lemmas.List.{length-append}
 use Rattle.wf_show.specs.Players.{AreFresh, IsFresh}
-use Rattle.wf_show.specs.Casting.{passes_from}
-use Rattle.wf_show.proofs.Casts.{few_yielded, fresh_one, one_more}
-use Rattle.wf_show.proofs.casting.cast_others.Goals as goal
+use Rattle.wf_show.specs.Opened.{passes_from}
+use Rattle.wf_show.proofs.Players.{few_yielded, fresh_one, one_more}
+use Rattle.wf_show.proofs.players.players_of.Goals as goal
 
 pub push_reserved-requires : goal.push_reserved-requires
 push_reserved-requires c =

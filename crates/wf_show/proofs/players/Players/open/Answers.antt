@@ -1,11 +1,11 @@
 use Rattle.std.proofs.Common.{◌∙◌, ◌++◌, ap, length, take, drop}
 use Rattle.std.specs.Prelude.{slice_index_or}
 use Rattle.wf_model.specs.State.{opening}
-use Rattle.wf_show.proofs.Casts.{dealt, fresh_clock}
-use Rattle.wf_show.proofs.casting.Cast.open.Goals as goal
+use Rattle.wf_show.proofs.Players.{dealt, fresh_clock}
+use Rattle.wf_show.proofs.players.Players.open.Goals as goal
 
-pub cast_others-requires-clause-passes : goal.cast_others-requires-clause-passes
-cast_others-requires-clause-passes c =
+pub players_of-requires-clause-passes : goal.players_of-requires-clause-passes
+players_of-requires-clause-passes c =
     let s = c.args.script.now in
     let d = c.in_ok-desk.desk.id in
     let are = c.in_ok-desk.ensures.passes
