@@ -3,6 +3,8 @@
 
 mod asked;
 mod command;
+#[cfg(test)]
+mod tests;
 
 pub use asked::{Asked, Mode, WordsStop};
 pub use command::asked_by;

@@ -17,7 +17,8 @@ fn told(reply: Reply) -> (Code, u32) {
     (reply.code, reply.value)
 }
 
-/// No objects, and a store with the screen, a stream 1 of one pixel and a stream 2 for masks of 5 by 2.
+/// No objects, and a store with the screen, a stream 1 of one pixel, a stream 2 for masks of 5 by 2, and a stream 3 that a context
+/// may draw into.
 fn staged(alloc: Global) -> Result<(Core, Store), NoMemory>
     ensures { IfOk result (λ both. Fits both.0 both.1) }
 {
@@ -27,6 +28,9 @@ fn staged(alloc: Global) -> Result<(Core, Store), NoMemory>
         return Err(NoMemory);
     };
     let Ok(_) = store.make(Size { w: 5, h: 2 }, Format::A8, 2) else {
+        return Err(NoMemory);
+    };
+    let Ok(_) = store.make(Size { w: 2, h: 2 }, Format::Rgba8Pre, 2) else {
         return Err(NoMemory);
     };
     Ok((Core::new(alloc)?, store))
@@ -57,12 +61,13 @@ fn screened(core: &mut Core, store: &mut Store, device: u32, port: i64) -> (Code
 fn creations_have_memory(rt: HostRuntime) -> Result<(), Fail> {
     let (mut core, mut store) = staged(rt.alloc())?;
     let device = told(core.device_new(&mut store));
-    let context = screened(&mut core, &mut store, 3, 1);
-    let element = told(core.element_new(&mut store, 3, 4));
-    let source = told(core.source_new(&mut store, 3, 4, 1));
-    let mask = told(core.mask_new(&mut store, 3, 4, 2));
-    let made = [device, context, element, source, mask];
-    let want = [3, 4, 5, 6, 7].map(|handle| (Code::Ok, handle));
+    let context = screened(&mut core, &mut store, 4, 1);
+    let off_screen = told(core.stream_context(&mut store, 4, 3));
+    let element = told(core.element_new(&mut store, 4, 5));
+    let source = told(core.source_new(&mut store, 4, 5, 1));
+    let mask = told(core.mask_new(&mut store, 4, 5, 2));
+    let made = [device, context, off_screen, element, source, mask];
+    let want = [4, 5, 6, 7, 8, 9].map(|handle| (Code::Ok, handle));
     assert_eq!(rt; made, want);
     Ok(())
 }

@@ -33,7 +33,7 @@ fn stream_new(format: Format) -> Call {
 fn creations_have_memory(rt: HostRuntime) -> Result<(), Fail> {
     let mut modes: ArrayVec<Modes, 4> = ArrayVec::new();
     modes.push(one_mode());
-    let mut machine = Machine::open(rt.alloc(), &Ports { modes, pipes: 0 })?;
+    let mut machine = Machine::open(rt.alloc(), &Ports { modes, pipes: 1 })?;
     let (device, context) = (1, 2);
     // Each answers its place as its handle.
     let creations = [
@@ -52,6 +52,9 @@ fn creations_have_memory(rt: HostRuntime) -> Result<(), Fail> {
             context,
             stream: 6,
         },
+        stream_new(Format::Rgba8Pre),
+        Call::StreamContext { device, stream: 8 },
+        Call::DisplaySource { pipe: 1, stream: 4 },
     ];
     let mut handle = 0u32;
     for call in creations {

@@ -14,6 +14,8 @@ mod objects;
 mod registers;
 mod rows;
 mod shown;
+#[cfg(test)]
+mod tests;
 
 pub use editing::by_scene;
 pub use objects::Objects;

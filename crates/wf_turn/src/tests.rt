@@ -1,10 +1,11 @@
 //! What no clause says: that the calls that take memory succeed where memory is at hand. And how many events lines make.
 
-use crate::{Program, quota, serial};
+use crate::{Program, quota, replay, replay_by, serial, serial_by};
 use std::alloc::Global;
 use std::test::Fail;
 use wf_film::FilmForm;
 use wf_io::MemorySink;
+use wf_kernel::Plain;
 use wf_script::{Script, parse};
 
 /// The clock makes a stream, which client 2 draws into while client 1 wants it too, and then a tick shows the port.
@@ -17,18 +18,62 @@ fn shared(alloc: Global) -> Result<Script, Fail> {
     Ok(parse(alloc, SHARED.as_bytes()).ok().ok_or("no script")?)
 }
 
+/// A sink of 4,096 bytes.
+fn sink(alloc: Global) -> Result<MemorySink, Fail> {
+    Ok(
+        MemorySink::new(alloc, 4096, Vec::new(alloc))
+            .ok()
+            .ok_or("memory")?,
+    )
+}
+
 #[test]
-fn calls_have_memory(rt: HostRuntime) -> Result<(), Fail> {
+fn plays_have_memory(rt: HostRuntime) -> Result<(), Fail> {
     let script = shared(rt.alloc())?;
     let clock = Program::new(rt.alloc(), &script, 0).ok().ok_or("memory")?;
-    let mut film = MemorySink::new(rt.alloc(), 4096, Vec::new(rt.alloc()))
-        .ok()
-        .ok_or("memory")?;
+    let mut film = sink(rt.alloc())?;
     let order = serial(rt.alloc(), &script, FilmForm::Two, &mut film)
         .ok()
         .ok_or("a stop")?;
-    let came = (clock.place(), order.turns().len(), film.bytes().len());
-    assert_eq!(rt; came, (Some(0), 7, 70));
+    let mut again = sink(rt.alloc())?;
+    let by = serial_by(rt.alloc(), &script, FilmForm::Two, &mut again, &mut Plain)
+        .ok()
+        .ok_or("a stop")?;
+    let came = (
+        clock.place(),
+        order.turns().len(),
+        film.bytes().len(),
+        by.turns().len(),
+        again.bytes().len(),
+    );
+    assert_eq!(rt; came, (Some(0), 7, 70, 7, 70));
+    Ok(())
+}
+
+#[test]
+fn replays_have_memory(rt: HostRuntime) -> Result<(), Fail> {
+    let script = shared(rt.alloc())?;
+    let mut film = sink(rt.alloc())?;
+    let order = serial(rt.alloc(), &script, FilmForm::Two, &mut film)
+        .ok()
+        .ok_or("a stop")?;
+    if order.turns().len() > 7 {
+        return Err("too many turns".into());
+    }
+    replay(rt.alloc(), &script, &order, FilmForm::Two, &mut film)
+        .ok()
+        .ok_or("a stop")?;
+    replay_by(
+        rt.alloc(),
+        &script,
+        &order,
+        FilmForm::Two,
+        &mut film,
+        &mut Plain,
+    )
+    .ok()
+    .ok_or("a stop")?;
+    assert_eq!(rt; film.bytes().len(), 3 * 70);
     Ok(())
 }
 
