@@ -19,7 +19,7 @@ use Rattle.wf_turn.specs.Turns.{frames_of}
 use Rattle.wf_turn.proofs.Keeping.{same_client, same_script}
 use Rattle.wf_turn.proofs.Turnings.{still_paintable, work_frames}
 use Rattle.wf_show.specs.declared.player.Player.{Player}
-use Rattle.wf_show.specs.Clocks.{Advanced, IsClock, SetsUp, shown_to, start}
+use Rattle.wf_show.specs.Clocks.{Advanced, Advances, IsClock, SetsUp, shown_to, start}
 use Rattle.wf_show.specs.Played.{Happening, gone_on, program_after}
 use Rattle.wf_show.specs.Players.{first_pass}
 use Rattle.wf_show.specs.Running.{IsReadyFor, PlainPass, RunsSoFar}
@@ -62,7 +62,7 @@ module _ (desk : TableId) (a : Player) (pass : PlainPass) (now : Program) (w : W
   script_is : now.script ≡ a.program.script
   script_is = ap (λ q. q.script) now_is ∙ same_script a.program reply
 
-  pub clock_goes : IsClock desk b
+  clock_goes : IsClock desk b
   clock_goes =
       let on : RunsSoFar p (gone_on a.program reply) old pass =
       goes_once p a.program old a.pass pass w reply clock.so_far asks begins goes made own in
@@ -99,7 +99,7 @@ module _ (desk : TableId) (a : Player) (pass : PlainPass) (now : Program) (w : W
       ∙ ap (λ x. frames_if (length made.before) x (worked q)) (sym painted_is) ∙ ap (frames_if (length made.before) painted) (sym now_is)
       ∙ ap (λ n. frames_if n painted now) (sym made.place))
 
-  pub advanced : Advanced a b painted
+  advanced : Advanced a b painted
   advanced =
       record {
         script = script_is;
@@ -122,10 +122,13 @@ module _ (desk : TableId) (a : Player) (pass : PlainPass) (now : Program) (w : W
             omega (arith, ap length made.mine, length-append a.pass.mine (e ∷ []));
       }
 
-  pub sets_up : SetsUp a b
+  sets_up : SetsUp a b
   sets_up inside so_far =
       let c : ℕ = a.pass.client in
       let on : IsSettingUp p pass.seen =
       one_setting c a.pass.seen made.before pass.seen e refl made.goes_on made.seen counts own.object p zero_is so_far
       (ap in_setup was ∙ inside) in
       subst (λ (s : PlainScript). IsSettingUp (program s 0) pass.seen) (sym script_is) on
+
+  pub advances : Advances desk a b painted
+  advances = record { clock = clock_goes; advanced = advanced; setting = sets_up }

@@ -1,5 +1,6 @@
 -- What a play on threads answers, by how all programs were played and what was put.
-use Rattle.std.proofs.Common.{◌≡◌, ◌∙◌, ◌⊎◌, inl, inr, ℕ, ◌<◌, ◌^◌, List, [], length, true, None, Ok, Err, sym, ap, subst, arith}
+use Rattle.std.proofs.Common.{◌≡◌, ◌∙◌, ◌⊎◌, inl, inr, ℕ, ◌<◌, ◌^◌, List, [], ◌++◌, length, take, drop, true, None, Ok, Err, sym, ap, subst}
+use Rattle.std.proofs.Common.{arith}
 use Rattle.std.proofs.Common.{append-nil}
 use Rattle.std.specs.List.{list_all}
 use Rattle.atomic_table.specs.Seated.{TableId}
@@ -27,6 +28,7 @@ use Rattle.wf_show.proofs.Assembling.{clock_apart, completes, each_front, shown_
 use Rattle.wf_show.proofs.Fronts.{EachFront}
 use Rattle.wf_show.proofs.Seating.{few_in_all, few_turns}
 use Rattle.wf_show.proofs.Filming.{cut_frame, cut_journal, cut_magic, whole}
+use Rattle.wf_show.proofs.Players.{written_back}
 
 module _ (desk : TableId) (script : PlainScript) (ticks : list_all may_tick script.lines ≡ true) (clock : Player) (old new : List Player)
     (history : List Happening) (is_clock : IsClock desk clock) (script_is : clock.program.script ≡ script)
@@ -90,26 +92,54 @@ module _ (desk : TableId) (script : PlainScript) (ticks : list_all may_tick scri
 abbrev pub Closed : Player → List Player → List Turn → Type 0
 Closed clock others order = (h : List Happening) × (IsHistory clock.program.script clock others h × (order ≡ order_of h))
 
--- the same of players whose desk was closed
-module _ (script : PlainScript) (opened : Players) (are_players : ArePlayers script opened) (clock : Player)
-    (is_clock : IsClock opened.desk.id clock)
-    (same : clock.program.script ≡ opened.clock.program.script) (old new : List Player) (old_is : old ≡ opened.others.items)
-    (as_many : length new ≡ length old)
-    (order : List Turn) (closed : Closed clock new order) where
+-- The desk is closed, behind players that were opened: the clock as it is now, and the others as they were lent to their threads and as
+-- they came back.
+pub record IsOver (script : PlainScript) (opened : Players) (clock : Player) (old new : List Player) (order : List Turn) : Type 0 where
+  pub are_players : ArePlayers script opened
+  pub is_clock : IsClock opened.desk.id clock
+  pub same : clock.program.script ≡ opened.clock.program.script
+  pub old_is : old ≡ opened.others.items
+  pub as_many : length new ≡ length old
+  pub closed : Closed clock new order
+
+-- the others stand in their vector again when the desk is closed
+pub is_over : (script : PlainScript) (opened : Players) (clock : Player) (old new : List Player) (order : List Turn)
+    → ArePlayers script opened → IsClock opened.desk.id clock → clock.program.script ≡ opened.clock.program.script
+    → old ≡ opened.others.items → length new ≡ length old → opened.others.len ≡ length opened.others.items
+    → Closed clock (take opened.others.len (new ++ drop (length new) opened.others.items)) order
+    → IsOver script opened clock old new order
+is_over script opened clock old new order are_players is_clock same old_is as_many counted closed =
+    record {
+      are_players = are_players;
+      is_clock = is_clock;
+      same = same;
+      old_is = old_is;
+      as_many = as_many;
+      closed =
+          subst (λ ps. Closed clock ps order)
+          (written_back opened.others.len opened.others.items new counted (as_many ∙ ap length old_is)) closed;
+    }
+
+-- the same behind a desk that is closed
+module _ (script : PlainScript) (opened : Players) (clock : Player) (old new : List Player) (order : List Turn)
+    (over : IsOver script opened clock old new order) where
   abbrev desk : TableId
   desk = opened.desk.id
 
+  abbrev closed : Closed clock new order
+  closed = over.closed
+
   fresh_old : AreFresh desk script 1 old
-  fresh_old = subst (AreFresh desk script 1) (sym old_is) are_players.others
+  fresh_old = subst (AreFresh desk script 1) (sym over.old_is) over.are_players.others
 
   seven_old : length old ≡ 7
-  seven_old = ap length old_is ∙ are_players.seven
+  seven_old = ap length over.old_is ∙ over.are_players.seven
 
   of_script : clock.program.script ≡ script
-  of_script = same ∙ ap (λ (q : Program). q.script) are_players.clock.program
+  of_script = over.same ∙ ap (λ (q : Program). q.script) over.are_players.clock.program
 
   seven_new : length new ≡ 7
-  seven_new = as_many ∙ seven_old
+  seven_new = over.as_many ∙ seven_old
 
   behind : IsHistory script clock new closed.0
   behind = subst (λ s. IsHistory s clock new closed.0) of_script closed.1.0
@@ -120,7 +150,7 @@ module _ (script : PlainScript) (opened : Players) (are_players : ArePlayers scr
         arith,
         ap length closed.1.1,
         few_turns closed.0,
-        few_in_all desk clock old new is_clock script fresh_old seven_old seven_new ended closed.0 script behind,
+        few_in_all desk clock old new over.is_clock script fresh_old seven_old seven_new ended closed.0 script behind,
       )
 
   pub ends_well : {K : Type 0} (took : K → List ℕ → Type 0) (form : FilmForm) (a b c : K) (writer : Writing)
@@ -129,7 +159,7 @@ module _ (script : PlainScript) (opened : Players) (are_players : ArePlayers scr
   ends_well took form a b c writer all through filmed tail =
       let put : Puts took b c (tail_bytes (order_of closed.0)) = subst (λ o. Puts took b c (tail_bytes o)) closed.1.1 tail in
       subst (λ o. PlaysFilm took a c form script (Ok o)) (sym closed.1.1)
-      (whole_film desk script are_players.ticks clock old new closed.0 is_clock of_script fresh_old seven_old seven_new behind took form
+      (whole_film desk script over.are_players.ticks clock old new closed.0 over.is_clock of_script fresh_old seven_old seven_new behind took form
       a b c writer all through filmed put)
 
   pub ends_in_tail : {K : Type 0} (took : K → List ℕ → Type 0) (form : FilmForm) (a b c : K) (writer : Writing) (written : ℕ)
@@ -141,7 +171,7 @@ module _ (script : PlainScript) (opened : Players) (are_players : ArePlayers scr
       subst (λ o. PutsPart took b c writer.written (tail_bytes o) written) closed.1.1 part in
       subst (λ x. PlaysFilm took a c form script (Err x)) (sym is)
       (subst (λ o. PlaysFilm took a c form script (Err (stop.WriteFault written o))) (sym closed.1.1)
-      (cut_tail desk script are_players.ticks clock old new closed.0 is_clock of_script fresh_old seven_old seven_new behind took form
+      (cut_tail desk script over.are_players.ticks clock old new closed.0 over.is_clock of_script fresh_old seven_old seven_new behind took form
       a b c writer written all through filmed put))
 
   pub ends_in_head : {K : Type 0} (took : K → List ℕ → Type 0) (form : FilmForm) (a b : K) (written : ℕ)
@@ -150,13 +180,13 @@ module _ (script : PlainScript) (opened : Players) (are_players : ArePlayers scr
   ends_in_head took form a b written ended cut r is =
       subst (λ x. PlaysFilm took a b form script (Err x)) (sym is)
       (subst (λ o. PlaysFilm took a b form script (Err (stop.WriteFault written o))) (sym closed.1.1)
-      (cut_head desk script are_players.ticks clock old new closed.0 is_clock of_script fresh_old seven_old seven_new behind took form
-      a b written opened.clock are_players.clock ended cut))
+      (cut_head desk script over.are_players.ticks clock old new closed.0 over.is_clock of_script fresh_old seven_old seven_new behind took form
+      a b written opened.clock over.are_players.clock ended cut))
 
   pub ends_others : (written : ℕ) → AreEnded desk clock old new → (r : PlayStop) → r ≡ stop.WriteFault written order
       → OthersThrough script (Err r)
   ends_others written ended r is =
       subst (λ x. OthersThrough script (Err x)) (sym is)
       (subst (λ o. OthersThrough script (Err (stop.WriteFault written o))) (sym closed.1.1)
-      (others_through desk script are_players.ticks clock old new closed.0 is_clock of_script fresh_old seven_old seven_new behind ended
+      (others_through desk script over.are_players.ticks clock old new closed.0 over.is_clock of_script fresh_old seven_old seven_new behind ended
       written))

@@ -7,7 +7,7 @@ ghost use Rattle.wf_io.specs.Causes.{HasCause};
 ghost use Rattle.wf_machine.specs.Object.{IsPaintable};
 ghost use Rattle.wf_turn.specs.Playing.{job_frames};
 ghost use Rattle.wf_turn.specs.Program.{in_setup, place_of};
-ghost use Rattle.wf_show.specs.Clocks.{Advanced, Cuts, IsClock, SetsUp, Shows, start};
+ghost use Rattle.wf_show.specs.Clocks.{Advances, AreBands, Cuts, IsClock, SetsUp, Shows, start};
 ghost use Rattle.wf_show.specs.Together.{IsSettingUp};
 
 use crate::client::ask;
@@ -28,13 +28,10 @@ fn advance<R: Threads + Wait + Sync>(
     clock: &mut Player,
     rows: u32,
 ) -> bool
-    requires some { 1 ≤ rows }
-    requires rows { rows ≤ 16 }
+    requires rows { AreBands rows }
     requires clock { IsClock desk.now.id clock.old }
     requires more { IsSome (place_of clock.old.program) }
-    ensures clock { IsClock desk.now.id clock.new }
-    ensures advanced { Advanced clock.old clock.new result }
-    ensures setting { SetsUp clock.old clock.new }
+    ensures { Advances desk.now.id clock.old clock.new result }
 {
     let Some(wanted) = clock.program.next() else {
         unreachable!()
@@ -77,8 +74,7 @@ fn step<R: Threads + Wait + Sync, K: Sink>(
     k: &mut K,
     writer: &mut Writer,
 ) -> Result<(), WriteStop>
-    requires some { 1 ≤ rows }
-    requires rows { rows ≤ 16 }
+    requires rows { AreBands rows }
     requires clock { IsClock desk.now.id clock.old }
     requires more { IsSome (place_of clock.old.program) }
     requires few { writer.old.written + clock.old.pass.left * 4194318 < 2 ^ 62 }
@@ -110,8 +106,7 @@ pub(crate) fn go_on<R: Threads + Wait + Sync, K: Sink>(
     k: &mut K,
     writer: &mut Writer,
 ) -> Result<(), WriteStop>
-    requires some { 1 ≤ rows }
-    requires rows { rows ≤ 16 }
+    requires rows { AreBands rows }
     requires clock { IsClock desk.now.id clock.old }
     requires few { writer.old.written + clock.old.pass.left * 4194318 < 2 ^ 62 }
     ensures clock { IsClock desk.now.id clock.new }
@@ -138,8 +133,7 @@ pub(crate) fn set_up<R: Threads + Wait + Sync, K: Sink>(
     k: &mut K,
     writer: &mut Writer,
 ) -> Result<(), WriteStop>
-    requires some { 1 ≤ rows }
-    requires rows { rows ≤ 16 }
+    requires rows { AreBands rows }
     requires clock { IsClock desk.now.id clock.old }
     requires few { writer.old.written + clock.old.pass.left * 4194318 < 2 ^ 62 }
     ensures clock { IsClock desk.now.id clock.new }

@@ -1,8 +1,9 @@
 //! The clock's Jobs, painted in bands of rows.
 
-ghost use Rattle.std.specs.Prelude.{◌≡◌, ◌≤◌};
+ghost use Rattle.std.specs.Prelude.{◌≡◌};
 ghost use Rattle.wf_turn.specs.Program.{is_work, worked};
 ghost use Rattle.wf_turn.specs.Ready.{IsWork};
+ghost use Rattle.wf_show.specs.Clocks.{AreBands};
 
 use std::thread::Threads;
 use wf_kernel::picture_rows;
@@ -11,8 +12,7 @@ use wf_turn::Program;
 /// Paints the Job that a program holds and has not painted yet, in bands for at most so many workers, from 1 to 16, and answers whether
 /// there was one.
 pub(crate) fn paint_rows<R: Threads + Sync>(rt: &R, rows: u32, program: &mut Program) -> bool
-    requires some { 1 ≤ rows }
-    requires few { rows ≤ 16 }
+    requires rows { AreBands rows }
     requires work { IsWork program.old }
     ensures painted { program.new ≡ worked program.old }
     ensures was { result ≡ is_work program.old }

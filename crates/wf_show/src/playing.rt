@@ -4,7 +4,7 @@ ghost use Rattle.std.specs.Prelude.{◌≡◌, ◌≤◌, ◌<◌, IfErr, IfOk, 
 ghost use Rattle.wf_io.specs.Causes.{HasCause};
 ghost use Rattle.wf_turn.specs.Films.{IsCaused, PlaysFilm};
 ghost use Rattle.wf_turn.specs.Program.{place_of};
-ghost use Rattle.wf_show.specs.Clocks.{IsClock, start};
+ghost use Rattle.wf_show.specs.Clocks.{AreBands, IsClock, start};
 ghost use Rattle.wf_show.specs.Ends.{AllPlay, AreEnded, IsCut, IsFilmed, OthersThrough};
 ghost use Rattle.wf_show.specs.Players.{AreFresh, IsFresh};
 ghost use Rattle.wf_show.specs.Together.{IsSettingUp};
@@ -58,8 +58,7 @@ fn play_all<R: Threads + Wait + Sync, K: Sink, G: Gate>(
     k: &mut K,
     others: &mut [Player],
 ) -> Result<Writer, WriteStop>
-    requires some { 1 ≤ rows }
-    requires rows { rows ≤ 16 }
+    requires rows { AreBands rows }
     requires clock { IsFresh desk.now.id clock.old.program.script 0 clock.old }
     requires others { AreFresh desk.now.id clock.old.program.script 1 others.old }
     ensures many { length others.new ≡ length others.old }

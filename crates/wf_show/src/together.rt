@@ -1,9 +1,9 @@
 //! The clock on the calling thread, and the others beside it.
 
-ghost use Rattle.std.specs.Prelude.{◌≡◌, ◌+◌, ◌*◌, ◌<◌, ◌≤◌, ◌^◌, All, None, IfErr, OnOk};
+ghost use Rattle.std.specs.Prelude.{◌≡◌, ◌+◌, ◌*◌, ◌<◌, ◌^◌, All, None, IfErr, OnOk};
 ghost use Rattle.wf_io.specs.Causes.{HasCause};
 ghost use Rattle.wf_turn.specs.Program.{place_of};
-ghost use Rattle.wf_show.specs.Clocks.{Cuts, IsClock, Shows};
+ghost use Rattle.wf_show.specs.Clocks.{AreBands, Cuts, IsClock, Shows};
 ghost use Rattle.wf_show.specs.Players.{AllWorked, IsWaiting};
 
 use crate::clock::go_on;
@@ -27,8 +27,7 @@ pub(crate) fn play_together<R: Threads + Wait + Sync, K: Sink, G: Gate>(
     writer: &mut Writer,
     others: &mut [Player],
 ) -> Result<(), WriteStop>
-    requires some { 1 ≤ rows }
-    requires rows { rows ≤ 16 }
+    requires rows { AreBands rows }
     requires clock { IsClock desk.now.id clock.old }
     requires few { writer.old.written + clock.old.pass.left * 4194318 < 2 ^ 62 }
     requires others { All (IsWaiting desk.now.id) others.old }
@@ -48,7 +47,7 @@ pub(crate) fn play_together<R: Threads + Wait + Sync, K: Sink, G: Gate>(
         { run_all(rt, desk, gate, others) },
         &mut ||
             requires { IsClock desk.now.id clock.now × (writer.now.written + clock.now.pass.left * 4194318 < 2 ^ 62)
-                × (1 ≤ rows) × (rows ≤ 16) }
+                × AreBands rows }
         { go_on(rt, desk, clock, rows, k, writer) },
     );
     played

@@ -2,7 +2,7 @@ use Rattle.std.proofs.Common.{◌≡◌, ◌∙◌, Some, sym, ap, subst}
 use Rattle.wf_turn.specs.Going.{GoesOn}
 use Rattle.wf_turn.specs.Program.{is_work, next, took, worked}
 use Rattle.wf_turn.specs.Ready.{IsWork}
-use Rattle.wf_show.proofs.Advances.{advanced, clock_goes, gone_is, sets_up}
+use Rattle.wf_show.proofs.Advances.{advances, gone_is}
 use Rattle.wf_show.proofs.clock.advance.Goals as goal
 
 pub paint_rows-requires-clause-work : goal.paint_rows-requires-clause-work
@@ -19,8 +19,8 @@ paint_rows-requires-clause-work g c κs within =
     c.took.ensures ∙ ap (λ q. took q reply) c.next.ensures.issued ∙ goes.took_is in
     subst IsWork (sym now) goes.work
 
-pub returns-clause-clock : goal.returns-clause-clock
-returns-clause-clock g c =
+pub returns : goal.returns
+returns g c =
     let a = c.args.clock.now in
     let w = c.in-Some.wanted in
     let reply = c.ask-reply.result in
@@ -31,38 +31,6 @@ returns-clause-clock g c =
     c.ask-reply.ensures.made c.ask-reply.ensures.own in
     let now : c.took.new.self ≡ took a.program reply =
     c.took.ensures ∙ ap (λ q. took q reply) c.next.ensures.issued ∙ goes.took_is in
-    clock_goes c.args.desk.now.id a c.ask-reply.new.pass c.paint_rows.new.program w reply c.paint_rows.result c.requires.clock asks
-    c.in-Some.ensures.waits goes_on c.ask-reply.ensures.made c.ask-reply.ensures.own (c.paint_rows.ensures.painted ∙ ap worked now)
-    (c.paint_rows.ensures.was ∙ ap is_work now)
-
-pub returns-clause-advanced : goal.returns-clause-advanced
-returns-clause-advanced g c =
-    let a = c.args.clock.now in
-    let w = c.in-Some.wanted in
-    let reply = c.ask-reply.result in
-    let asks : next a.program ≡ Some w = sym c.next.ensures.wanted ∙ c.in-Some.is in
-    let goes_on = c.in-Some.ensures.goes_on c.requires.clock.so_far.fit in
-    let goes : GoesOn a.program reply =
-    gone_is c.args.desk.now.id a c.ask-reply.new.pass w reply c.requires.clock asks c.in-Some.ensures.waits goes_on
-    c.ask-reply.ensures.made c.ask-reply.ensures.own in
-    let now : c.took.new.self ≡ took a.program reply =
-    c.took.ensures ∙ ap (λ q. took q reply) c.next.ensures.issued ∙ goes.took_is in
-    advanced c.args.desk.now.id a c.ask-reply.new.pass c.paint_rows.new.program w reply c.paint_rows.result c.requires.clock asks
-    c.in-Some.ensures.waits goes_on c.ask-reply.ensures.made c.ask-reply.ensures.own (c.paint_rows.ensures.painted ∙ ap worked now)
-    (c.paint_rows.ensures.was ∙ ap is_work now)
-
-pub returns-clause-setting : goal.returns-clause-setting
-returns-clause-setting g c =
-    let a = c.args.clock.now in
-    let w = c.in-Some.wanted in
-    let reply = c.ask-reply.result in
-    let asks : next a.program ≡ Some w = sym c.next.ensures.wanted ∙ c.in-Some.is in
-    let goes_on = c.in-Some.ensures.goes_on c.requires.clock.so_far.fit in
-    let goes : GoesOn a.program reply =
-    gone_is c.args.desk.now.id a c.ask-reply.new.pass w reply c.requires.clock asks c.in-Some.ensures.waits goes_on
-    c.ask-reply.ensures.made c.ask-reply.ensures.own in
-    let now : c.took.new.self ≡ took a.program reply =
-    c.took.ensures ∙ ap (λ q. took q reply) c.next.ensures.issued ∙ goes.took_is in
-    sets_up c.args.desk.now.id a c.ask-reply.new.pass c.paint_rows.new.program w reply c.paint_rows.result c.requires.clock asks
+    advances c.args.desk.now.id a c.ask-reply.new.pass c.paint_rows.new.program w reply c.paint_rows.result c.requires.clock asks
     c.in-Some.ensures.waits goes_on c.ask-reply.ensures.made c.ask-reply.ensures.own (c.paint_rows.ensures.painted ∙ ap worked now)
     (c.paint_rows.ensures.was ∙ ap is_work now)
