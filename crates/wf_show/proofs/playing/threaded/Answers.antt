@@ -1,5 +1,5 @@
 use Rattle.std.proofs.Common.{◌∙◌, inl, ap, subst, length}
-use Rattle.wf_show.proofs.Players.{written_back}
+use Rattle.wf_show.proofs.Passes.{written_back}
 use Rattle.wf_show.proofs.Results.{Closed, ends_in_head, ends_in_tail, ends_others, ends_well, few_turns_in_all}
 use Rattle.wf_show.proofs.playing.threaded.Goals as goal
 
