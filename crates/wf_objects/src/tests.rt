@@ -1,6 +1,6 @@
 //! What no clause says: that the objects, and new ones among them, have memory where it is at hand.
 
-ghost use Rattle.std.specs.Prelude.{◌≡◌, ◌×◌, false, IfOk, IfSome, IsSomeAnd};
+ghost use Rattle.std.specs.Prelude.{◌≡◌, false, IfOk, IfSome, IsSomeAnd};
 ghost use Rattle.wf_pixel.specs.Choice.{is_a8};
 ghost use Rattle.wf_stream.specs.Streams.{buffers_at};
 ghost use Rattle.wf_objects.specs.Fits.{Fits};

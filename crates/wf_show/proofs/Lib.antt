@@ -18,5 +18,5 @@ pub mod Counting
 pub mod Filming
 pub mod Telling
 pub mod Seating
-pub mod Players
+pub mod Passes
 pub mod Results

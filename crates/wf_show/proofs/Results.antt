@@ -28,7 +28,7 @@ use Rattle.wf_show.proofs.Assembling.{clock_apart, completes, each_front, shown_
 use Rattle.wf_show.proofs.Fronts.{EachFront}
 use Rattle.wf_show.proofs.Seating.{few_in_all, few_turns}
 use Rattle.wf_show.proofs.Filming.{cut_frame, cut_journal, cut_magic, whole}
-use Rattle.wf_show.proofs.Players.{written_back}
+use Rattle.wf_show.proofs.Passes.{written_back}
 
 module _ (desk : TableId) (script : PlainScript) (ticks : list_all may_tick script.lines ≡ true) (clock : Player) (old new : List Player)
     (history : List Happening) (is_clock : IsClock desk clock) (script_is : clock.program.script ≡ script)

@@ -2,7 +2,7 @@ use Rattle.std.proofs.Common.{◌≡◌, ◌∙◌, ◌+◌, ◌++◌, ◌∷◌
 use Rattle.std.proofs.lemmas.List.{length-append}
 use Rattle.wf_show.specs.Players.{AreFresh, IsFresh}
 use Rattle.wf_show.specs.Opened.{passes_from}
-use Rattle.wf_show.proofs.Players.{few_yielded, fresh_one, one_more}
+use Rattle.wf_show.proofs.Passes.{few_yielded, fresh_one, one_more}
 use Rattle.wf_show.proofs.players.players_of.Goals as goal
 
 pub push_reserved-requires : goal.push_reserved-requires

@@ -1,7 +1,7 @@
 use Rattle.std.proofs.Common.{◌∙◌, ◌++◌, ap, length, take, drop}
 use Rattle.std.specs.Prelude.{slice_index_or}
 use Rattle.wf_model.specs.State.{opening}
-use Rattle.wf_show.proofs.Players.{dealt, fresh_clock}
+use Rattle.wf_show.proofs.Passes.{dealt, fresh_clock}
 use Rattle.wf_show.proofs.players.Players.open.Goals as goal
 
 pub players_of-requires-clause-passes : goal.players_of-requires-clause-passes
