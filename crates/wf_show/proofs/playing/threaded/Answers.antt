@@ -1,11 +1,5 @@
-<<<<<<< HEAD
 use Rattle.std.proofs.Common.{inl}
 use Rattle.wf_show.proofs.Results.{IsOver, ends_in_head, ends_in_tail, ends_others, ends_well, few_turns_in_all, is_over}
-=======
-use Rattle.std.proofs.Common.{◌∙◌, inl, ap, subst, length}
-use Rattle.wf_show.proofs.Passes.{written_back}
-use Rattle.wf_show.proofs.Results.{Closed, ends_in_head, ends_in_tail, ends_others, ends_well, few_turns_in_all}
->>>>>>> origin/names
 use Rattle.wf_show.proofs.playing.threaded.Goals as goal
 
 pub finish-requires-clause-turns : goal.finish-requires-clause-turns
