@@ -6,13 +6,13 @@ use Rattle.std.specs.Prelude.{nat_le, zip, IsSomeAnd}
 use Rattle.std.specs.List.{AllByRecursion, list_all, range_with_len}
 use Rattle.std.proofs.lemmas.Bool.{and_parts, leb-true}
 use Rattle.std.proofs.lemmas.Bool.Decides.{nat_tests}
-use Rattle.std.proofs.lemmas.List.{length-append}
+use Rattle.std.proofs.lemmas.List.{length-append, map-append}
 use Rattle.std.proofs.lemmas.List.Folds.{list_all_at}
 use Rattle.wf_pixel.specs.Choice.{has_sides}
 use Rattle.wf_pixel.specs.declared.Format.TheVariants.{Rgbx8}
 use Rattle.wf_pixel.specs.declared.Size.{Size}
 use Rattle.wf_stream.specs.Buffers.{fresh}
-use Rattle.wf_stream.specs.Streams.{KeptStream, StoreView, buffers_at, with_screen}
+use Rattle.wf_stream.specs.Streams.{KeptStream, StoreView, buffers_at, one_name_each, with_screen}
 use Rattle.wf_calls.specs.PortRules.{may_declare, may_have}
 use Rattle.wf_calls.specs.declared.ports.Modes.{Modes}
 use Rattle.wf_calls.specs.declared.ports.Ports.{Ports}
@@ -82,14 +82,22 @@ pub more_screens : (store left : StoreView) (ms : List Modes) (m : Modes) (size 
 more_screens store left ms m size so_far size-is left-is =
     let count : length (ms ++ m ∷ []) ≡ length ms + 1 = length-append ms (m ∷ []) in
     let number : length ms + 1 ≡ 1 + length ms = omega arith in
+    let last : KeptStream = screen (1 + length ms, m) in
     left-is ∙ ap (with_screen size) so_far
     ∙ ap (λ s. with_screen s (with_screens ms)) size-is
     ∙ ap (λ n. record (with_screens ms) {
       numbered = length ms + 1;
       streams = screens ms ++ record { number = n; handle = 0; buffers = fresh (mode_size 1 m.sizes.items) Rgbx8 3 } ∷ [];
+      counts = one_name_each (screens ms) ++ (n, 1) ∷ [];
     }) number
-    ∙ ap (λ ss. record (with_screens ms) { numbered = length ms + 1; streams = ss }) (sym (more_from 1 ms m))
-    ∙ ap (λ n. record (with_screens ms) { numbered = n; streams = screens (ms ++ m ∷ []) }) (sym count)
+    ∙ ap (λ cs. record (with_screens ms) { numbered = length ms + 1; streams = screens ms ++ last ∷ []; counts = cs })
+    (sym (map-append (λ (s : KeptStream). (s.number, 1)) (screens ms) (last ∷ [])))
+    ∙ ap (λ ss. record (with_screens ms) { numbered = length ms + 1; streams = ss; counts = one_name_each ss }) (sym (more_from 1 ms m))
+    ∙ ap (λ n. record (with_screens ms) {
+      numbered = n;
+      streams = screens (ms ++ m ∷ []);
+      counts = one_name_each (screens (ms ++ m ∷ []));
+    }) (sym count)
 
 -- each port has its screen
 

@@ -94,6 +94,16 @@ impl<T> Pool<T> {
         }
     }
 
+    /// How many hold the value of the key; 0 where the key is not kept.
+    pub fn count(&self, key: usize) -> u32
+        ensures { result ≡ count_at key self.now }
+    {
+        match self.slots.get(key) {
+            Some(kept) => kept.count,
+            None => 0,
+        }
+    }
+
     /// The value of the key.
     pub fn get(&self, key: usize) -> Option<&T>
         ensures value { option_copied result ≡ value_at key self.now }

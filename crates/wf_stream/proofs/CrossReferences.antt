@@ -204,7 +204,7 @@ unnamed_below low high h (s ∷ streams) rising some under =
     grind (arith, nat_tests, later, apart)
 
 -- the number that is found is above the bound
-number_above : (low high h n : ℕ) (streams : List KeptStream) → IsNumbered low streams high → number_of h streams ≡ Some n → low < n
+pub number_above : (low high h n : ℕ) (streams : List KeptStream) → IsNumbered low streams high → number_of h streams ≡ Some n → low < n
 number_above low high h n [] rising found = cc
 number_above low high h n (s ∷ streams) rising found =
     let later = λ (found_later : number_of h streams ≡ Some n). number_above s.number high h n streams rising.1 found_later in
@@ -222,7 +222,7 @@ unnamed_none h (s ∷ streams) none =
     grind (arith, nat_tests, later, bare)
 
 -- 0 is no handle
-found_some : (h n : ℕ) (streams : List KeptStream) → number_of h streams ≡ Some n → 0 < h
+pub found_some : (h n : ℕ) (streams : List KeptStream) → number_of h streams ≡ Some n → 0 < h
 found_some h n [] found = cc
 found_some h n (s ∷ streams) found =
     let later = λ (found_later : number_of h streams ≡ Some n). found_some h n streams found_later in

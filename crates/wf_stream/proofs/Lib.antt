@@ -5,3 +5,6 @@ pub mod Apart
 pub mod Marks
 pub mod Swept
 pub mod Lifetimes
+pub mod Counted
+pub mod Recounts
+pub mod Handed

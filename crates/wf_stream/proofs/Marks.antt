@@ -8,7 +8,7 @@ use Rattle.wf_stream.specs.declared.streams.Place.{Place}
 use Rattle.wf_stream.specs.Streams.{IsNumbered, stream_at, is_own, first_unmarked, names_of}
 use Rattle.wf_stream.specs.Placed.{placed, with_handle, with_mark, remarked}
 use Rattle.wf_stream.specs.StreamTable.{kept_stream, is_marked_or_own, streams_in, marks_of, AreKept, HasNone, KeepsNoOther}
-use Rattle.wf_stream.specs.StreamTable.{AreSole, AreApart}
+use Rattle.wf_stream.specs.StreamTable.{AreCounted, AreApart}
 use Rattle.wf_stream.proofs.StreamTables.{Slots, Places, at, numbered_room}
 
 -- an entry whose place is not marked
@@ -33,9 +33,9 @@ pub remarked_apart : (t : Place → Bool) (es : Places) → AreApart es → AreA
 remarked_apart t [] apart = tt
 remarked_apart t (e ∷ es) apart = (remarked_none t e.1.key es apart.0, remarked_apart t es apart.1)
 
-pub remarked_sole : (t : Place → Bool) (p : Slots) (es : Places) → AreSole p es → AreSole p (remarked t es)
-remarked_sole t p [] sole = tt
-remarked_sole t p (e ∷ es) sole = (sole.0, remarked_sole t p es sole.1)
+pub remarked_counted : (t : Place → Bool) (p : Slots) (es : Places) → AreCounted p es → AreCounted p (remarked t es)
+remarked_counted t p [] counted = tt
+remarked_counted t p (e ∷ es) counted = (counted.0, remarked_counted t p es counted.1)
 
 none_remarked : (t : Place → Bool) (key : ℕ) (es : Places) → HasNone key (remarked t es) → HasNone key es
 none_remarked t key [] none = tt

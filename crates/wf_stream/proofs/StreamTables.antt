@@ -299,7 +299,7 @@ lent_here key p w kept = rw (lent_slot key p w kept) (held_value w (kept_at key 
 pub places_room : (high : ℕ) (p : Slots) (es : Places) → IsNumbered 0 (streams_in p es) high → length es ≤ high
 places_room high p es rising = omega (arith, numbered_room 0 high (streams_in p es) rising, length-map es (kept_stream p))
 
-at_same : (n m : ℕ) → at n m ≡ (m == n)
+pub at_same : (n m : ℕ) → at n m ≡ (m == n)
 at_same n m = grind (arith, nat_tests)
 
 abbrev with_here : Buffers → ℕ × Place → KeptStream

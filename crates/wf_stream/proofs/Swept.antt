@@ -1,6 +1,6 @@
 -- What is left of the store where a stream is dropped, and where all are that are not marked.
-use Rattle.std.proofs.Common.{◌≡◌, ℕ, ◌<◌, ◌≤◌, true, false, cond, ◌==◌, not, List, [], ◌∷◌, filter, length, option_map, None, Some, IsSome}
-use Rattle.std.proofs.Common.{refl, sym, ap, ◌∙◌, arith}
+use Rattle.std.proofs.Common.{◌≡◌, ℕ, ◌<◌, ◌≤◌, true, false, cond, ◌==◌, not, ◌&&◌, List, [], ◌∷◌, filter, length, option_map}
+use Rattle.std.proofs.Common.{None, Some, IsSome, refl, sym, ap, ◌∙◌, arith}
 use Rattle.std.proofs.lemmas.Bool.Decides.{nat_tests}
 use Rattle.wf_words.specs.Keyed.{is_in}
 use Rattle.wf_life.specs.Handles.{Live, IsRising, is_live, without}
@@ -8,7 +8,7 @@ use Rattle.wf_stream.specs.Streams.{KeptStream, IsNumbered, stream_at, stream_of
 use Rattle.wf_stream.specs.Streams.{without_number, first_unmarked, names_of}
 use Rattle.wf_stream.specs.CrossReferences.{stream_handles, live_streams}
 use Rattle.wf_stream.proofs.StreamTables.{change_below}
-use Rattle.wf_stream.proofs.CrossReferences.{handle_other, rest_of_streams, live_entries, rising_streams, unnamed_found}
+use Rattle.wf_stream.proofs.CrossReferences.{handle_other, number_above, rest_of_streams, live_entries, rising_streams, unnamed_found}
 use Rattle.wf_stream.proofs.CrossReferences.{killed_tied, bare_same}
 
 -- the stream of a number that has a handle is found by it
@@ -35,6 +35,22 @@ found_number low high h n (s ∷ streams) rising found some =
           let live : is_live h (live_streams streams) ≡ true = live_entries h streams ∙ found_live h n streams found_later some in
           let apart = handle_other low high h s streams rising some live in
           grind (arith, nat_tests, later, apart))
+    ] refl found
+
+-- the stream that is found by its handle has it under its number
+pub found_handle : (low high h n : ℕ) (streams : List KeptStream) → IsNumbered low streams high → number_of h streams ≡ Some n
+    → handle_at n streams ≡ Some h
+found_handle low high h n [] rising found = cc
+found_handle low high h n (s ∷ streams) rising found =
+    elim ((s.handle == h) && not (h == 0)) as (λ b. ((s.handle == h) && not (h == 0)) ≡ b
+    → option_map (λ x. x.number) (cond b (Some s) (stream_of h streams)) ≡ Some n → handle_at n (s ∷ streams) ≡ Some h) [
+      | true ↦ λ is here. (
+          let number : s.number ≡ n = cc in
+          grind (arith, nat_tests, number))
+      | false ↦ λ isnt found_later. (
+          let above = number_above s.number high h n streams rising.1 found_later in
+          let later = found_handle s.number high h n streams rising.1 found_later in
+          grind (arith, nat_tests, above, later))
     ] refl found
 
 -- a stream under no handle has no entry, as one that is not there

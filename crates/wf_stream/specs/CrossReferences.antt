@@ -29,6 +29,7 @@ store_of s =
       numbered = s.numbered;
       streams = s.streams.streams;
       marked = s.streams.marked;
+      counts = s.streams.counts;
       others = others_of s.handles.live;
     }
 

@@ -1,6 +1,7 @@
--- The buffers of a stream and how they are kept; the streams that are kept, how, and what a loan of one leaves.
+-- The buffers of a stream and how they are kept; the streams that are kept, how, their counts, and what a loan of one leaves.
 pub mod Buffers
 pub mod Inside
+pub mod Counts
 pub mod Streams
 pub mod Placed
 pub mod StreamTable

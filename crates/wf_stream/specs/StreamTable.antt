@@ -1,5 +1,5 @@
 -- How the streams are kept: a map from numbers to the places in a pool, each place with one number.
-use Rattle.std.specs.Prelude.{◌≡◌, ◌≢◌, ℕ, Bool, not, ◌||◌, ◌==◌, List, [], ◌∷◌, map, filter, unwrap_or, None}
+use Rattle.std.specs.Prelude.{◌≡◌, ◌≢◌, ℕ, ◌-◌, ◌≤◌, if◌then◌else◌, Bool, not, ◌||◌, ◌==◌, List, [], ◌∷◌, map, filter, unwrap_or, None}
 use Rattle.wf_life.specs.declared.pool.Kept.{Kept}
 use Rattle.wf_life.specs.Pool.{IsKept, kept_at, value_at, count_at}
 use Rattle.std.specs.Prelude.{Option}
@@ -7,6 +7,7 @@ use Rattle.wf_pixel.specs.declared.Format.TheVariants.{A8}
 use Rattle.wf_stream.specs.declared.streams.Place.{Place}
 use Rattle.wf_stream.specs.declared.streams.Streams.TheInside.{Inside}
 use Rattle.wf_stream.specs.Buffers.{Buffers, fresh}
+use Rattle.wf_stream.specs.Counts.{Counts}
 use Rattle.wf_stream.specs.Streams.{KeptStream, StreamTable, IsNumbered}
 
 -- the buffers under a key of the pool; each key that a place has is kept
@@ -27,8 +28,20 @@ streams_in pool places = map (kept_stream pool) places
 abbrev pub marks_of : List (ℕ × Place) → List ℕ
 marks_of places = map (λ e. e.0) (filter (λ e. e.1.marked) places)
 
+-- the count of each place is the pool's but for one, which is the scan's
+abbrev pub place_count : List (Option (Kept Buffers)) → ℕ × Place → ℕ × ℕ
+place_count pool e = (e.0, count_at e.1.key pool - 1)
+
+abbrev pub counts_in : List (Option (Kept Buffers)) → List (ℕ × Place) → Counts
+counts_in pool places = map (place_count pool) places
+
 abbrev pub stream_table : Inside → StreamTable
-stream_table s = record { streams = streams_in s.pool s.places.entries; marked = marks_of s.places.entries }
+stream_table s =
+    record {
+      streams = streams_in s.pool s.places.entries;
+      marked = marks_of s.places.entries;
+      counts = counts_in s.pool s.places.entries;
+    }
 
 -- the pool keeps a stream for each place
 abbrev pub AreKept : List (Option (Kept Buffers)) → List (ℕ × Place) → Type 0
@@ -44,10 +57,14 @@ HasNone key (e ∷ places) = (e.1.key ≢ key) × HasNone key places
 abbrev pub KeepsNoOther : List (Option (Kept Buffers)) → List (ℕ × Place) → Type 0
 KeepsNoOther pool places = (key : ℕ) → HasNone key places → kept_at key pool ≡ None
 
--- the stream of each place has this one holder
-abbrev pub AreSole : List (Option (Kept Buffers)) → List (ℕ × Place) → Type 0
-AreSole pool [] = Unit {0}
-AreSole pool (e ∷ places) = (count_at e.1.key pool ≡ 1) × AreSole pool places
+-- how often the pool counts the stream of a place at least: once for the scan, and once for a live handle
+abbrev pub least_count : Place → ℕ
+least_count place = if place.handle == 0 then 1 else 2
+
+-- the pool counts the stream of each place that often
+abbrev pub AreCounted : List (Option (Kept Buffers)) → List (ℕ × Place) → Type 0
+AreCounted pool [] = Unit {0}
+AreCounted pool (e ∷ places) = (least_count e.1 ≤ count_at e.1.key pool) × AreCounted pool places
 
 -- no two places have one key
 abbrev pub AreApart : List (ℕ × Place) → Type 0
@@ -58,5 +75,5 @@ pub record IsSound (s : Inside) : Type 0 where
   pub rising : IsNumbered 0 (streams_in s.pool s.places.entries) 4294967295
   pub kept : AreKept s.pool s.places.entries
   pub apart : AreApart s.places.entries
-  pub sole : AreSole s.pool s.places.entries
+  pub counted : AreCounted s.pool s.places.entries
   pub no_other : KeepsNoOther s.pool s.places.entries

@@ -1,7 +1,7 @@
 //! The store: the handles of all objects, and the streams by number.
 
-ghost use Rattle.std.specs.Prelude.{◌≡◌, ◌↔◌, ℕ, ◌+◌, ◌≤◌, ◌||◌, ◌==◌, [], not, map, Some, option_map, option_copied, IfOk, OnOk, OnErr};
-ghost use Rattle.std.specs.Prelude.{IsErrOf, IsSome, IsTrue, IsFalse};
+ghost use Rattle.std.specs.Prelude.{◌≡◌, ◌↔◌, ℕ, ◌+◌, ◌<◌, ◌≤◌, ◌||◌, ◌==◌, [], not, map, Some, option_map, option_copied};
+ghost use Rattle.std.specs.Prelude.{IfOk, OnOk, OnErr, IsErrOf, IsSome, IsTrue, IsFalse};
 ghost use Rattle.std.specs.Option.{option_copied_mut};
 ghost use Rattle.std.specs.Result.{result_ok};
 ghost use Rattle.std.specs.Borrow.{sem};
@@ -11,7 +11,8 @@ ghost use Rattle.wf_life.specs.Handles.{is_full, is_live, without};
 ghost use Rattle.wf_stream.specs.Buffers.{fresh};
 ghost use Rattle.wf_stream.specs.Streams.{held, empty, with_screen, with_live_stream, with_other, has_no_room, number_of, key_in, is_alive};
 ghost use Rattle.wf_stream.specs.Streams.{is_stream, count_in, killed, stream_at, stream_of, unnamed, buffers_at, IsNumbered};
-ghost use Rattle.wf_stream.specs.Streams.{first_unmarked, names_of, handle_at, without_number, swept, is_own};
+ghost use Rattle.wf_stream.specs.Streams.{first_unmarked, names_of, handle_at, without_number, swept, is_own, count_of, HaveCounts};
+ghost use Rattle.wf_stream.specs.Counts.{one_name_more, one_name_less, without_count, without_handle_name};
 
 use crate::Held;
 use crate::stream::{Stream, bytes_of};
@@ -167,19 +168,50 @@ impl Store {
         self.handles.find(handle, kind)
     }
 
-    /// Ends the life of the object that has the handle. A stream is still kept.
+    /// Ends the life of the object that has the handle. A stream is still kept, with one name fewer.
     pub fn kill(&mut self, handle: u32)
         requires { IsTrue (is_alive handle self.old) }
         ensures killed { self.new ≡ killed handle self.old }
         ensures other { IsTrue (is_live handle self.old.others) → self.new ≡ record self.old { others = without handle self.old.others } }
         ensures stream { IsSome (stream_of handle self.old.streams)
-            → self.new ≡ record self.old { streams = map (unnamed handle) self.old.streams } }
+            → self.new ≡ record self.old {
+              streams = map (unnamed handle) self.old.streams;
+              counts = without_handle_name (number_of handle self.old.streams) self.old.counts;
+            } }
     {
         let found = self.handles.find(handle, Kind::Stream);
         self.handles.kill(handle);
         if let Ok(number) = found {
-            self.streams.hand_over(number, 0);
+            self.streams.take_handle(number);
         }
+    }
+
+    /// One name more of the stream of a number, which is kept. Its count is below 4,294,967,294: the scan counts each stream once
+    /// more. Without the scan the bound is 4,294,967,295.
+    pub fn retain(&mut self, number: u32)
+        requires kept { IsSome (stream_at number self.old.streams) }
+        requires room { count_of number self.old < 4294967294 }
+        ensures { self.new ≡ record self.old { counts = one_name_more number self.old.counts } }
+    {
+        self.streams.retain(number);
+    }
+
+    /// One name fewer of the stream of a number, which is kept. Its count is 1 or more, and 2 or more while it has a live handle.
+    /// At 0 it is still kept: the scan drops it.
+    pub fn release(&mut self, number: u32)
+        requires kept { IsSome (stream_at number self.old.streams) }
+        requires some { 0 < count_of number self.old }
+        requires last { count_of number self.old ≡ 1 → handle_at number self.old.streams ≡ Some 0 }
+        ensures { self.new ≡ record self.old { counts = one_name_less number self.old.counts } }
+    {
+        self.streams.release(number);
+    }
+
+    /// How many names the stream of a number has; 0 where none is kept.
+    pub fn count(&self, number: u32) -> u32
+        ensures { result ≡ count_of number self.now }
+    {
+        self.streams.count(number)
     }
 
     /// How many objects of the kind live.
@@ -230,7 +262,7 @@ impl Store {
         self.streams.mark_own();
     }
 
-    /// Drops the streams that were not marked since the last `unmark`, and with each its live handle, if it has one.
+    /// Drops the streams that were not marked since the last `unmark`, and with each its count and its live handle, if it has one.
     pub fn sweep(&mut self)
         ensures { self.new ≡ swept self.old }
     {
@@ -243,6 +275,7 @@ impl Store {
     fn first_unmarked(&self) -> Option<(u32, u32)>
         ensures first { result ≡ option_map names_of (first_unmarked self.now.marked self.now.streams) }
         ensures numbered { IsNumbered 0 self.now.streams self.now.numbered }
+        ensures counts { HaveCounts self.now.streams self.now.counts }
     {
         self.streams.first_unmarked()
     }
@@ -251,7 +284,10 @@ impl Store {
     fn drop_stream(&mut self, number: u32, handle: u32)
         requires kept { handle_at number self.old.streams ≡ Some handle }
         requires unmarked { IsFalse (is_in number self.old.marked) }
-        ensures { self.new ≡ record self.old { streams = without_number number self.old.streams } }
+        ensures { self.new ≡ record self.old {
+          streams = without_number number self.old.streams;
+          counts = without_count number self.old.counts;
+        } }
     {
         self.streams.remove(number);
         if handle != 0 {

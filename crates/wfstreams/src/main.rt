@@ -38,6 +38,7 @@ impl Stage for Streams {
             "live" => told(alloc, Some(self.store.live(kind(words, 1)))),
             "held" => self.held(alloc),
             "out" => self.out(alloc, number(words, 1)),
+            "count" => told(alloc, Some(self.store.count(number(words, 1)))),
             _ => {
                 let changed = self.change(words);
                 format!(in alloc; "{}", if changed { "done" } else { "not done" })
@@ -102,6 +103,8 @@ impl Streams {
         match word(words, 0) {
             "acquire" => self.acquire(at),
             "kill" => self.kill(at),
+            "retain" => self.retain(at),
+            "release" => self.release(at),
             "mark" => self.mark(at),
             "mark_own" => {
                 self.store.mark_own();
@@ -134,6 +137,27 @@ impl Streams {
             self.store.kill(handle);
         }
         found
+    }
+
+    /// Gives a stream that is kept one name more, while there is room.
+    fn retain(&mut self, number: u32) -> bool {
+        let retained = self.store.get(number).is_some() && self.store.count(number) < 4_294_967_294;
+        if retained {
+            self.store.retain(number);
+        }
+        retained
+    }
+
+    /// Takes one name of a stream away, the last one only while no stream has a live handle.
+    #[tactic(auto, using(wf_stream::specs::Streams::none_live))]
+    fn release(&mut self, number: u32) -> bool {
+        let count = self.store.count(number);
+        let last = count == 1 && self.store.live(Kind::Stream) == 0;
+        let released = self.store.get(number).is_some() && (count > 1 || last);
+        if released {
+            self.store.release(number);
+        }
+        released
     }
 
     /// Marks a stream that is kept.

@@ -1,7 +1,9 @@
-use Rattle.std.proofs.Common.{true, refl}
-use Rattle.wf_stream.specs.Placed.{with_mark}
+use Rattle.std.proofs.Common.{true, [], refl, ap, ◌∙◌}
+use Rattle.wf_stream.specs.Placed.{placed, with_mark}
+use Rattle.wf_stream.specs.StreamTable.{streams_in, counts_in}
 use Rattle.wf_stream.proofs.StreamTables.{placed_kept, placed_apart}
-use Rattle.wf_stream.proofs.Lifetimes.{placed_sole, other_placed}
+use Rattle.wf_stream.proofs.Lifetimes.{found_counted, placed_counted, other_placed}
+use Rattle.wf_stream.proofs.Counted.{placed_counts}
 use Rattle.wf_stream.proofs.Marks.{mark_view, marks_marked}
 use Rattle.wf_stream.proofs.streams.Streams.mark.Goals as goal
 
@@ -16,7 +18,7 @@ invariant_of-self c =
       rising = rw (mark_view n true p es) sound.rising;
       kept = placed_kept n f p es (λ o. refl) sound.kept;
       apart = placed_apart n f es (λ o. refl) sound.apart;
-      sole = placed_sole n f p es (λ o. refl) sound.sole;
+      counted = placed_counted n f p es (λ o. refl) (λ o found. found_counted n o p es found sound.counted) sound.counted;
       no_other = other_placed n f p es (λ o. refl) sound.no_other;
     })
 
@@ -28,5 +30,6 @@ returns c =
     let kept = rw (← c.self.view_is) at c.requires in
     rw (← c.self.view_is, c.set_mark.ensures) (record {
       marked = λ m. marks_marked m n p es kept;
-      streams = mark_view n true p es;
+      rest = ap (λ ss. record { streams = ss; marked = []; counts = counts_in p (placed n (with_mark true) es) }) (mark_view n true p es)
+          ∙ ap (λ cs. record { streams = streams_in p es; marked = []; counts = cs }) (placed_counts n (with_mark true) p es (λ o. refl));
     })
