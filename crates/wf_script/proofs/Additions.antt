@@ -1,6 +1,7 @@
 -- Additions to a text: one after the other, and what is put of it.
 use Rattle.std.proofs.Common.{◌≡◌, ℕ, ◌+◌, ◌-◌, ◌^◌, ◌≤◌, ◌<◌, min, true, false, Result, Ok, Err, List, [], ◌++◌, length, sym, ap, ◌∙◌}
-use Rattle.std.proofs.Common.{append-nil, append_assoc, subst, arith, length-append}
+use Rattle.std.proofs.Common.{append-nil, append_assoc, subst, arith, length-append, flat_map, get_or, take}
+use Rattle.std.proofs.lemmas.List.{flat_map_more, take_more}
 use Rattle.wf_io.specs.Bytes.{Puts, PutsPart}
 use Rattle.wf_io.specs.Causes.{Rose}
 use Rattle.wf_io.specs.declared.writing.WriteStop.{WriteStop}
@@ -20,6 +21,15 @@ module _ {S : Type 0} (took : S → List ℕ → Type 0) (faults : S → ℕ) wh
   adds_both t u v a b c xs ys first second =
       adding (λ start added before. subst (λ (bytes : List ℕ). Added took faults start v c bytes) (append_assoc added xs ys)
       (added_by second start (added ++ xs) (added_by first start added before)))
+
+  -- what is told of the first elements of a list, and then what is told of the next one
+  pub adds_next : {X : Type 0} (f : X → List ℕ) (xs : List X) (i : ℕ) (d : X) (t u v : Text) (a b c : S) → i < length xs
+      → Adds took faults t a u b (flat_map f (take i xs)) → Adds took faults u b v c (f (get_or xs i d))
+      → Adds took faults t a v c (flat_map f (take (i + 1) xs))
+  adds_next f xs i d t u v a b c within before next =
+      subst (λ (bytes : List ℕ). Adds took faults t a v c bytes)
+      (flat_map_more f [] (take i xs) (get_or xs i d) ∙ ap (flat_map f) (sym (take_more xs i d within)))
+      (adds_both t u v a b c (flat_map f (take i xs)) (f (get_or xs i d)) before next)
 
   -- where no bytes are added
   none_more : (t u : Text) (a b : S) → ((start : S) (added : List ℕ) → Added took faults start t a added

@@ -18,6 +18,7 @@ pub mod Grammar
 pub mod Seen
 pub mod Reader
 pub mod Canonical
+pub mod Subjects
 pub mod Generator
 pub mod Breaches
 pub mod Text

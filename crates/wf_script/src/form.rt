@@ -2,8 +2,10 @@
 
 ghost use Rattle.std.specs.Prelude.{◌≡◌};
 ghost use Rattle.wf_script.specs.Forms.{binds, forms};
+ghost use Rattle.wf_script.specs.Verbs.{creates};
 ghost use Rattle.wf_script.specs.Words.{look_up};
 
+use crate::line::Verb;
 use crate::table::look_up;
 use crate::verbs::{
     Destroyed, NoHandle, OneHandle, OneNumber, ThreeHandles, TwoHandles, TwoNumbers,
@@ -95,6 +97,13 @@ const FORMS: [(&[u8], Form); 47] = [
     (b"derror", Form::Alone(NoHandle::DisplayError)),
 ];
 
+/// Whether a verb that is made for the question makes something.
+fn creates(verb: Verb) -> bool
+    ensures { result ≡ creates verb }
+{
+    verb.creates()
+}
+
 impl Form {
     /// The form of a verb's word.
     pub(crate) fn of_verb(verb: &[u8]) -> Option<Form>
@@ -108,12 +117,12 @@ impl Form {
         ensures { result ≡ binds self }
     {
         match self {
-            Form::Alone(verb) => verb.verb().creates(),
-            Form::One(verb) => verb.verb(None).creates(),
-            Form::Two(verb) => verb.verb(None, None).creates(),
-            Form::Three(verb) => verb.verb(None, None, None).creates(),
-            Form::Number(verb) => verb.verb(0).creates(),
-            Form::Numbers(verb) => verb.verb(0, 0).creates(),
+            Form::Alone(verb) => creates(verb.verb()),
+            Form::One(verb) => creates(verb.verb(None)),
+            Form::Two(verb) => creates(verb.verb(None, None)),
+            Form::Three(verb) => creates(verb.verb(None, None, None)),
+            Form::Number(verb) => creates(verb.verb(0)),
+            Form::Numbers(verb) => creates(verb.verb(0, 0)),
             Form::Stream | Form::Screen | Form::DisplaySource => true,
             Form::Stat
             | Form::Paint

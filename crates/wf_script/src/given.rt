@@ -2,8 +2,8 @@
 
 ghost use Rattle.std.specs.Prelude.{◌≡◌};
 ghost use Rattle.wf_script.specs.Forms.{arguments};
-ghost use Rattle.wf_script.specs.Given.{given};
-ghost use Rattle.wf_script.specs.Rules.{Gives};
+ghost use Rattle.wf_script.specs.Given.{Given as GivenWords, given};
+ghost use Rattle.wf_script.specs.Rules.{Finds, Gives};
 ghost use Rattle.wf_script.specs.Words.{words_in};
 
 use crate::attributes::{context_get, context_set, get, set};
@@ -13,7 +13,7 @@ use crate::display::{
 };
 use crate::form::Form;
 use crate::line::Verb;
-use crate::rule::LineFault;
+use crate::rule::{LineFault, Rule};
 use crate::streams::{frame, painting, stat, stream};
 use std::alloc::Global;
 
@@ -24,32 +24,38 @@ pub(crate) struct Given<'a> {
     pub used: [Option<&'a [u8]>; 3],
 }
 
+/// What was read without memory, where a fault may also be want of memory.
+fn without_memory<'a>(read: Result<Given<'a>, Rule>) -> Result<Given<'a>, LineFault>
+    ensures { (words : GivenWords) → Finds given read.entry words → Gives given result words }
+{
+    Ok(read?)
+}
+
 /// What the words behind a verb of this form give.
 pub(crate) fn arguments(alloc: Global, form: Form, words: &[u8]) -> Result<Given<'_>, LineFault>
     ensures { Gives given result (arguments form (words_in words.now)) }
 {
-    let given = match form {
-        Form::Alone(verb) => no_words(verb.verb(), words)?,
-        Form::One(verb) => one_handle(verb, words)?,
-        Form::Two(verb) => two_handles(verb, words)?,
-        Form::Three(verb) => three_handles(verb, words)?,
-        Form::Number(verb) => one_integer(verb, words)?,
-        Form::Numbers(verb) => two_integers(verb, words)?,
-        Form::Stream => stream(words)?,
-        Form::Stat => stat(words)?,
-        Form::Paint => painting(alloc, words)?,
-        Form::Frame => frame(alloc, words)?,
-        Form::Screen => screen(words)?,
-        Form::Set => set(words)?,
-        Form::Get => get(words)?,
-        Form::ContextSet => context_set(words)?,
-        Form::ContextGet => context_get(words)?,
-        Form::PortSet => port_set(words)?,
-        Form::PortGet => port_get(words)?,
-        Form::PipeSet => pipe_set(words)?,
-        Form::PipeGet => pipe_get(words)?,
-        Form::DisplaySource => display_source(words)?,
-        Form::BindSource => bind_source(words)?,
-    };
-    Ok(given)
+    match form {
+        Form::Alone(verb) => without_memory(no_words(verb.verb(), words)),
+        Form::One(verb) => without_memory(one_handle(verb, words)),
+        Form::Two(verb) => without_memory(two_handles(verb, words)),
+        Form::Three(verb) => without_memory(three_handles(verb, words)),
+        Form::Number(verb) => without_memory(one_integer(verb, words)),
+        Form::Numbers(verb) => without_memory(two_integers(verb, words)),
+        Form::Stream => without_memory(stream(words)),
+        Form::Stat => without_memory(stat(words)),
+        Form::Paint => painting(alloc, words),
+        Form::Frame => frame(alloc, words),
+        Form::Screen => without_memory(screen(words)),
+        Form::Set => without_memory(set(words)),
+        Form::Get => without_memory(get(words)),
+        Form::ContextSet => without_memory(context_set(words)),
+        Form::ContextGet => without_memory(context_get(words)),
+        Form::PortSet => without_memory(port_set(words)),
+        Form::PortGet => without_memory(port_get(words)),
+        Form::PipeSet => without_memory(pipe_set(words)),
+        Form::PipeGet => without_memory(pipe_get(words)),
+        Form::DisplaySource => without_memory(display_source(words)),
+        Form::BindSource => without_memory(bind_source(words)),
+    }
 }

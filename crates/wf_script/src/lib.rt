@@ -6,6 +6,7 @@ mod composition;
 mod display;
 mod fault;
 mod form;
+mod form_text;
 mod generator;
 mod given;
 mod hex;

@@ -1,8 +1,8 @@
 //! How a paint is printed.
 
-ghost use Rattle.std.specs.Prelude.{◌+◌, ◌≤◌, IsTrue};
+ghost use Rattle.std.specs.Prelude.{◌+◌, ◌≤◌, ◌++◌, IsTrue};
 ghost use Rattle.wf_image.specs.Paints.{is_paint};
-ghost use Rattle.wf_script.specs.Canonical.{paint_words};
+ghost use Rattle.wf_script.specs.Canonical.{color_words, paint_words};
 ghost use Rattle.wf_script.specs.Text.{Adds, extent};
 ghost use Rattle.wf_script.specs.Token.{spaced};
 
@@ -11,6 +11,33 @@ use crate::token::Token::{Count, Letters, Pixels, Place};
 use crate::token::add_words;
 use wf_image::Paint;
 use wf_io::Sink;
+use wf_pixel::Rgba;
+
+/// Adds the channels of a colour.
+fn add_color<K: Sink>(text: &mut Text, k: &mut K, color: Rgba)
+    ensures adds { Adds K.took K.faults text.old k.old text.new k.new (spaced (color_words color)) }
+    ensures most { extent text.new ≤ extent text.old + 32772 }
+{
+    add_words(
+        text,
+        k,
+        &[
+            Count(color.r.into()),
+            Count(color.g.into()),
+            Count(color.b.into()),
+            Count(color.a.into()),
+        ],
+    );
+}
+
+/// Adds the channels of two colours.
+fn add_colors<K: Sink>(text: &mut Text, k: &mut K, first: Rgba, second: Rgba)
+    ensures adds { Adds K.took K.faults text.old k.old text.new k.new (spaced (color_words first ++ color_words second)) }
+    ensures most { extent text.new ≤ extent text.old + 65544 }
+{
+    add_color(text, k, first);
+    add_color(text, k, second);
+}
 
 /// Adds the words of a paint.
 pub(crate) fn add_paint<K: Sink>(text: &mut Text, k: &mut K, paint: &Paint)
@@ -19,17 +46,10 @@ pub(crate) fn add_paint<K: Sink>(text: &mut Text, k: &mut K, paint: &Paint)
     ensures most { extent text.new ≤ extent text.old + 81930 }
 {
     match paint {
-        Paint::Fill { color: c } => add_words(
-            text,
-            k,
-            &[
-                Letters(b"fill"),
-                Count(c.r.into()),
-                Count(c.g.into()),
-                Count(c.b.into()),
-                Count(c.a.into()),
-            ],
-        ),
+        Paint::Fill { color } => {
+            add_words(text, k, &[Letters(b"fill")]);
+            add_color(text, k, *color);
+        }
         Paint::Rectangle { area, color: c } => add_words(
             text,
             k,
@@ -45,44 +65,14 @@ pub(crate) fn add_paint<K: Sink>(text: &mut Text, k: &mut K, paint: &Paint)
                 Count(c.a.into()),
             ],
         ),
-        Paint::Checker {
-            n,
-            first: a,
-            second: b,
-        } => add_words(
-            text,
-            k,
-            &[
-                Letters(b"checker"),
-                Count(*n),
-                Count(a.r.into()),
-                Count(a.g.into()),
-                Count(a.b.into()),
-                Count(a.a.into()),
-                Count(b.r.into()),
-                Count(b.g.into()),
-                Count(b.b.into()),
-                Count(b.a.into()),
-            ],
-        ),
-        Paint::Ramp {
-            first: a,
-            second: b,
-        } => add_words(
-            text,
-            k,
-            &[
-                Letters(b"ramp"),
-                Count(a.r.into()),
-                Count(a.g.into()),
-                Count(a.b.into()),
-                Count(a.a.into()),
-                Count(b.r.into()),
-                Count(b.g.into()),
-                Count(b.b.into()),
-                Count(b.a.into()),
-            ],
-        ),
+        Paint::Checker { n, first, second } => {
+            add_words(text, k, &[Letters(b"checker"), Count(*n)]);
+            add_colors(text, k, *first, *second);
+        }
+        Paint::Ramp { first, second } => {
+            add_words(text, k, &[Letters(b"ramp")]);
+            add_colors(text, k, *first, *second);
+        }
         Paint::Row { y, pixels } => add_words(
             text,
             k,

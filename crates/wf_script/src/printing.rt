@@ -38,7 +38,7 @@ pub fn print<K: Sink>(script: &Script, k: &mut K) -> Result<(), WriteStop>
 }
 
 /// Adds the lines of ports.
-#[tactic(auto, using(crate::proofs::Additions::adds_none, crate::proofs::Additions::adds_both, std::proofs::lemmas::List::Folds::list_all_at))]
+#[tactic(auto, using(crate::proofs::Additions::adds_none, std::proofs::lemmas::List::Folds::list_all_at))]
 fn add_ports<K: Sink>(text: &mut Text, k: &mut K, ports: &[Modes])
     requires { IsTrue (list_all may_have ports.now) }
     ensures adds { Adds K.took K.faults text.old k.old text.new k.new (flat_map port_text ports.now) }
@@ -61,7 +61,7 @@ fn add_port<K: Sink>(text: &mut Text, k: &mut K, modes: &Modes)
 }
 
 /// Adds sizes.
-#[tactic(auto, using(crate::proofs::Additions::adds_none, crate::proofs::Additions::adds_both), unfolding(crate::specs::Token::spaced))]
+#[tactic(auto, using(crate::proofs::Additions::adds_none), unfolding(crate::specs::Token::spaced))]
 fn add_sizes<K: Sink>(text: &mut Text, k: &mut K, sizes: &[Size])
     ensures adds { Adds K.took K.faults text.old k.old text.new k.new (spaced (map size_word sizes.now)) }
     ensures most { extent text.new ≤ extent text.old + 8193 * length sizes.now }
@@ -85,7 +85,7 @@ fn add_pipes<K: Sink>(text: &mut Text, k: &mut K, pipes: u32)
 }
 
 /// Adds event lines.
-#[tactic(auto, using(crate::proofs::Additions::adds_none, crate::proofs::Additions::adds_both, std::proofs::lemmas::List::Folds::list_all_at))]
+#[tactic(auto, using(crate::proofs::Additions::adds_none, std::proofs::lemmas::List::Folds::list_all_at))]
 fn add_lines<K: Sink>(text: &mut Text, k: &mut K, lines: &[Line])
     requires { IsTrue (list_all is_line lines.now) }
     ensures adds { Adds K.took K.faults text.old k.old text.new k.new (flat_map event_text lines.now) }

@@ -6,7 +6,7 @@ ghost use Rattle.wf_script.specs.Rules.{rule_number};
 use std::alloc::AllocFailed;
 
 /// The rules that a line other than the first may break, in the order in which they are looked at.
-#[derive(Clone, Copy, Debug, PartialEq, Eq)]
+#[derive(Clone, Copy)]
 pub(crate) enum Rule {
     /// Only printed ASCII and tabs stand in a line.
     Byte,
@@ -42,7 +42,7 @@ impl Rule {
 }
 
 /// Why a line is not taken.
-#[derive(Clone, Copy, Debug, PartialEq, Eq)]
+#[derive(Clone, Copy)]
 pub(crate) enum LineFault {
     Breaks(Rule),
     NoMemory,

@@ -81,7 +81,7 @@ fn add_size<K: Sink>(text: &mut Text, k: &mut K, size: Size)
 }
 
 /// Adds pixels.
-#[tactic(auto, using(crate::proofs::Additions::adds_none, crate::proofs::Additions::adds_both))]
+#[tactic(auto, using(crate::proofs::Additions::adds_none))]
 fn add_pixels<K: Sink>(text: &mut Text, k: &mut K, pixels: &[Rgba])
     ensures adds { Adds K.took K.faults text.old k.old text.new k.new (flat_map hex_pixel_word pixels.now) }
     ensures most { extent text.new ≤ extent text.old + 8 * length pixels.now }
@@ -129,7 +129,7 @@ pub(crate) fn add_word<K: Sink>(text: &mut Text, k: &mut K, token: &Token<'_>)
 }
 
 /// Adds words, each behind a space.
-#[tactic(auto, using(crate::proofs::Additions::adds_none, crate::proofs::Additions::adds_both, std::proofs::lemmas::List::Folds::list_all_at), unfolding(crate::specs::Token::spaced))]
+#[tactic(auto, using(crate::proofs::Additions::adds_none, std::proofs::lemmas::List::Folds::list_all_at), unfolding(crate::specs::Token::spaced))]
 pub(crate) fn add_words<K: Sink>(text: &mut Text, k: &mut K, tokens: &[Token<'_>])
     requires { IsTrue (list_all is_short tokens.now) }
     ensures adds { Adds K.took K.faults text.old k.old text.new k.new (spaced (map token_word tokens.now)) }

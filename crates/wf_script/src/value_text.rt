@@ -17,7 +17,7 @@ use wf_io::Sink;
 use wf_scene::{ContextAttr, ElementAttr};
 
 /// Adds numbers.
-#[tactic(auto, using(crate::proofs::Additions::adds_none, crate::proofs::Additions::adds_both), unfolding(crate::specs::Token::spaced))]
+#[tactic(auto, using(crate::proofs::Additions::adds_none), unfolding(crate::specs::Token::spaced))]
 fn add_numbers<K: Sink>(text: &mut Text, k: &mut K, numbers: &[i64])
     ensures adds { Adds K.took K.faults text.old k.old text.new k.new (spaced (map integer_word numbers.now)) }
     ensures most { extent text.new ≤ extent text.old + 8193 * length numbers.now }
