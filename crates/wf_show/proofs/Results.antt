@@ -159,7 +159,8 @@ module _ (script : PlainScript) (opened : Players) (clock : Player) (old new : L
   ends_well took form a b c writer all through filmed tail =
       let put : Puts took b c (tail_bytes (order_of closed.0)) = subst (λ o. Puts took b c (tail_bytes o)) closed.1.1 tail in
       subst (λ o. PlaysFilm took a c form script (Ok o)) (sym closed.1.1)
-      (whole_film desk script over.are_players.ticks clock old new closed.0 over.is_clock of_script fresh_old seven_old seven_new behind took form
+      (whole_film desk script over.are_players.ticks clock old new closed.0 over.is_clock of_script fresh_old seven_old seven_new behind
+      took form
       a b c writer all through filmed put)
 
   pub ends_in_tail : {K : Type 0} (took : K → List ℕ → Type 0) (form : FilmForm) (a b c : K) (writer : Writing) (written : ℕ)
@@ -171,7 +172,8 @@ module _ (script : PlainScript) (opened : Players) (clock : Player) (old new : L
       subst (λ o. PutsPart took b c writer.written (tail_bytes o) written) closed.1.1 part in
       subst (λ x. PlaysFilm took a c form script (Err x)) (sym is)
       (subst (λ o. PlaysFilm took a c form script (Err (stop.WriteFault written o))) (sym closed.1.1)
-      (cut_tail desk script over.are_players.ticks clock old new closed.0 over.is_clock of_script fresh_old seven_old seven_new behind took form
+      (cut_tail desk script over.are_players.ticks clock old new closed.0 over.is_clock of_script fresh_old seven_old seven_new behind
+      took form
       a b c writer written all through filmed put))
 
   pub ends_in_head : {K : Type 0} (took : K → List ℕ → Type 0) (form : FilmForm) (a b : K) (written : ℕ)
@@ -180,7 +182,8 @@ module _ (script : PlainScript) (opened : Players) (clock : Player) (old new : L
   ends_in_head took form a b written ended cut r is =
       subst (λ x. PlaysFilm took a b form script (Err x)) (sym is)
       (subst (λ o. PlaysFilm took a b form script (Err (stop.WriteFault written o))) (sym closed.1.1)
-      (cut_head desk script over.are_players.ticks clock old new closed.0 over.is_clock of_script fresh_old seven_old seven_new behind took form
+      (cut_head desk script over.are_players.ticks clock old new closed.0 over.is_clock of_script fresh_old seven_old seven_new behind
+      took form
       a b written opened.clock over.are_players.clock ended cut))
 
   pub ends_others : (written : ℕ) → AreEnded desk clock old new → (r : PlayStop) → r ≡ stop.WriteFault written order
@@ -188,5 +191,5 @@ module _ (script : PlainScript) (opened : Players) (clock : Player) (old new : L
   ends_others written ended r is =
       subst (λ x. OthersThrough script (Err x)) (sym is)
       (subst (λ o. OthersThrough script (Err (stop.WriteFault written o))) (sym closed.1.1)
-      (others_through desk script over.are_players.ticks clock old new closed.0 over.is_clock of_script fresh_old seven_old seven_new behind ended
-      written))
+      (others_through desk script over.are_players.ticks clock old new closed.0 over.is_clock of_script fresh_old seven_old seven_new behind
+      ended written))
