@@ -1,0 +1,6 @@
+mod Handles
+mod Moved
+mod Kept
+mod Made
+mod Opened
+mod Told

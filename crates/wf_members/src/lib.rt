@@ -1,0 +1,9 @@
+//! Which members each owner has: owners and members are told by handles.
+#![tactic(auto)]
+
+mod members;
+#[cfg(test)]
+mod tests;
+
+pub use members::Members;
+pub use wf_words::NoMemory;
