@@ -11,6 +11,7 @@ use Rattle.std.proofs.lemmas.Bool.{and_from, ltb-false}
 use Rattle.std.proofs.lemmas.List.Sums.{sum_by_push}
 use Rattle.wf_pixel.specs.Choice.{is_between}
 use Rattle.wf_life.specs.Handles.{is_full}
+use Rattle.wf_stream.specs.Counts.{Counts}
 use Rattle.wf_stream.specs.Streams.{has_no_room}
 use Rattle.wf_calls.specs.declared.code.Code.TheVariants as code
 use Rattle.wf_calls.specs.declared.call.JobKind.TheVariants as kind
@@ -46,15 +47,18 @@ sound_kept m n f keeps frame sound =
       known = sound.known;
     }
 
--- the machine without a stream's handle
-pub sound_unnamed : (m : Inside) (handle : ℕ) → IsSound m
-    → IsSound (record m { store = record m.store { streams = map (unnamed handle) m.store.streams } })
-sound_unnamed m handle sound =
+-- the machine without a stream's handle, whatever its store counts then
+abbrev pub without_handle : Inside → ℕ → Counts → Inside
+without_handle m handle counts =
+    record m { store = record m.store { streams = map (unnamed handle) m.store.streams; counts = counts } }
+
+pub sound_unnamed : (m : Inside) (handle : ℕ) (counts : Counts) → IsSound m → IsSound (without_handle m handle counts)
+sound_unnamed m handle counts sound =
     let keeps = unnamed_keeps handle in
     record {
-      fits = still_fits m.core m.store (record m.store { streams = map (unnamed handle) m.store.streams }) refl (omega arith)
+      fits = still_fits m.core m.store (without_handle m handle counts).store refl (omega arith)
           (λ k within. seen_mapped (unnamed handle) keeps k m.store.streams) sound.fits;
-      shows = still_shown m.display m.store (record m.store { streams = map (unnamed handle) m.store.streams }) refl (omega arith)
+      shows = still_shown m.display m.store (without_handle m handle counts).store refl (omega arith)
           sound.numbered (λ k within. seen_mapped (unnamed handle) keeps k m.store.streams) sound.shows;
       numbered = numbered_mapped (unnamed handle) keeps 0 m.store.numbered m.store.streams sound.numbered;
       few = sound.few;

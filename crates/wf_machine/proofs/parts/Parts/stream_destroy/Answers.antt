@@ -8,4 +8,4 @@ invariant_of-self c =
     let s = found _ c.in-Ok.field-0 c.self.inside.store.numbered c.self.inside.store.streams c.self.invariant.numbered
     c.in-Ok.ensures.number in
     subst (λ store. IsSound (record c.self.inside { store = store })) (sym (c.kill.ensures.stream (rw s.1 refl)))
-    (sound_unnamed c.self.inside _ c.self.invariant)
+    (sound_unnamed c.self.inside _ _ c.self.invariant)
