@@ -1,6 +1,6 @@
 //! Contexts and their attributes.
 
-ghost use Rattle.std.specs.Prelude.{◌≡◌, ◌==◌, false, pos, IfOk, IfSome, IsSome, IsTrue};
+ghost use Rattle.std.specs.Prelude.{◌≡◌, ◌==◌, false, pos, Ok, IfOk, IfSome, IsSome, IsTrue, OnOk};
 ghost use Rattle.wf_words.specs.Whole.{count_of};
 ghost use Rattle.wf_pixel.specs.Choice.{is_between};
 ghost use Rattle.wf_model.specs.Core.{context_destroy, context_get, context_set, is_drawable, screen_context, stream_context};
@@ -8,6 +8,7 @@ ghost use Rattle.wf_core.specs.Screens.{IsTarget, screen_seen};
 ghost use Rattle.wf_core.specs.Steps.{Asks, KeepsAll, Steps};
 ghost use Rattle.wf_objects.specs.Does.{Does, context_made};
 ghost use Rattle.wf_objects.specs.Fits.{Fits};
+ghost use Rattle.wf_objects.specs.Owners.{live_device};
 ghost use Rattle.wf_model.specs.Fitting.{IsOfPixels};
 ghost use Rattle.wf_objects.specs.Sides.{KeepsRest, core_side_of};
 
@@ -56,6 +57,7 @@ pub(crate) fn screen_target(
     requires pixels { IfSome screen (IsOfPixels store.now.streams) }
     ensures asks { Asks (λ m. screen_context device port screen m) (λ x. context_made device x.0 x.1)
         (core_side_of objects.now store.now) result }
+    ensures live { OnOk result (live_device device (core_side_of objects.now store.now) ≡ Ok tt) }
     ensures kept { IfOk result (λ x. IsTarget x.1 store.now.streams) }
 {
     objects.check_device(store, device)?;
@@ -101,6 +103,7 @@ pub(crate) fn stream_target(
 ) -> Result<Seen, Refusal>
     requires { Fits objects.now store.now }
     ensures asks { Asks (stream_context device stream) (context_made device 0) (core_side_of objects.now store.now) result }
+    ensures live { OnOk result (live_device device (core_side_of objects.now store.now) ≡ Ok tt) }
     ensures kept { IfOk result (λ seen. IsTarget seen store.now.streams) }
 {
     objects.check_device(store, device)?;

@@ -6,3 +6,4 @@ pub mod Makings
 pub mod Keeping
 pub mod Dropped
 pub mod Remainders
+pub mod Tracking

@@ -11,13 +11,13 @@ use Rattle.wf_objects.specs.Links.{link_kind, link_live, links, with_links}
 use Rattle.wf_objects.proofs.Fitting.{links_live}
 use Rattle.wf_objects.specs.Losses.{but_context, but_contexts_of}
 use Rattle.wf_words.specs.Filtered.{none_out, shorter, all_kept, any_left, filter_twice}
-use Rattle.wf_words.specs.Rising.{one_fewer, Rises, found_above}
-use Rattle.wf_words.specs.Found.{any_by, any_found, passes}
+use Rattle.wf_words.specs.Rising.{one_fewer, Rises, found_above, left_of}
+use Rattle.wf_words.specs.Found.{any_by, any_found, passes, some_at}
 use Rattle.wf_words.specs.Keyed.{change_left}
 use Rattle.wf_words.specs.Places.{get_set, within}
 use Rattle.wf_words.specs.Each.{each_at}
 use Rattle.wf_objects.proofs.Lookups.{rises_kind, rises_contexts}
-use Rattle.std.proofs.lemmas.Bool.{and_from, eq-eqb, eqb-true}
+use Rattle.std.proofs.lemmas.Bool.{and_from, and_parts, eq-eqb, eqb-true}
 use Rattle.std.proofs.lemmas.Bool.Decides.{nat_tests}
 use Rattle.wf_scene.specs.declared.element.Element.{Element}
 use Rattle.wf_scene.specs.Cached as cached
@@ -162,9 +162,29 @@ emptied core store fits h place c at handle none =
 
 -- contexts of a device
 
--- the first context of a device leaves with all that is its
+-- a context with a handle that is one of a device
+pub record IsOf (d h : ℕ) (contexts : List Context) : Type 0 where
+  pub context : Context
+  pub found : find (λ x. x.handle == context.handle) contexts ≡ Some context
+  pub owned : (context.device == d) ≡ true
+  pub handle_is : context.handle ≡ h
+
+pub one_of : (core : CoreState) (store : StoreView) → Fits core store → (d h : ℕ)
+    → list_any (λ c. (c.handle == h) && (c.device == d)) core.contexts ≡ true → IsOf d h core.contexts
+one_of core store fits d h there =
+    let c = some_at (λ x. (x.handle == h) && (x.device == d)) core.contexts there in
+    let parts = and_parts (c.0.handle == h) (c.0.device == d) (passes (λ x. (x.handle == h) && (x.device == d)) core.contexts c.0 c.1) in
+    record {
+      context = c.0;
+      found = (found_above (λ x. x.handle) (λ x. (x.handle == h) && (x.device == d)) 0 core.contexts c.0
+          (rises_contexts core store fits.handles) c.1).1;
+      owned = parts.1;
+      handle_is = eqb-true c.0.handle h parts.0;
+    }
+
+-- a context of a device leaves with all that is its
 module _ (core : CoreState) (store : StoreView) (fits : Fits core store) (d : ℕ) (c : Context)
-    (found : find (λ x. x.device == d) core.contexts ≡ Some c) where
+    (found : find (λ x. x.handle == c.handle) core.contexts ≡ Some c) (owned : (c.device == d) ≡ true) where
   rises : Rises (λ x. x.handle) 0 core.contexts
   rises = rises_contexts core store fits.handles
 
@@ -182,9 +202,9 @@ module _ (core : CoreState) (store : StoreView) (fits : Fits core store) (d : �
       by_test true equal =
           let here : ((c.handle == n) && (c.device == d)) ≡ true =
           and_from (c.handle == n) (c.device == d) (eq-eqb c.handle n (sym (eqb-true n c.handle equal)))
-          (passes (λ x. x.device == d) core.contexts c found) in
+          owned in
           and_false (not (is_of_device d (without_context c.handle core) n))
-          ∙ sym (ap not (any_by (λ x. x.device == d) (λ x. (x.handle == n) && (x.device == d)) core.contexts c
+          ∙ sym (ap not (any_by (λ x. x.handle == c.handle) (λ x. (x.handle == n) && (x.device == d)) core.contexts c
           found here))
       by_test false differs =
           and_true (not (is_of_device d (without_context c.handle core) n))
@@ -204,13 +224,12 @@ module _ (core : CoreState) (store : StoreView) (fits : Fits core store) (d : �
       (λ s. not (s.context == c.handle)) (λ s. not (is_of_device d core s.context)) (λ s. still_owned s.context)
       ss in
       ap (λ cs. of cs (gone core.sources) (gone core.masks))
-      (one_fewer (λ x. x.handle) (λ x. x.device == d) core.contexts c rises found)
+      (left_of (λ x. x.handle) (λ x. not (x.device == d)) c.handle 0 core.contexts c rises found (ap not owned))
       ∙ ap (λ ss. of (filter (λ x. not (x.device == d)) core.contexts) ss (gone core.masks)) (same core.sources)
       ∙ ap (of (filter (λ x. not (x.device == d)) core.contexts) (kept core.sources)) (same core.masks)
 
   pub contexts_fewer : length (filter (λ x. not (x.handle == c.handle)) core.contexts) < length core.contexts
-  contexts_fewer = shorter (λ x. x.handle == c.handle) core.contexts c
-      (found_above (λ x. x.handle) (λ x. x.device == d) 0 core.contexts c rises found).1
+  contexts_fewer = shorter (λ x. x.handle == c.handle) core.contexts c found
 
 -- a device without contexts has no sources or masks
 pub no_contexts : (d : ℕ) (core : CoreState) → find (λ x. x.device == d) core.contexts ≡ None → but_contexts_of d core ≡ core

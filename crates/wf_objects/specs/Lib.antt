@@ -8,4 +8,5 @@ pub mod Shows
 pub mod Losses
 pub mod Does
 pub mod Rows
+pub mod Tracks
 pub mod Inside

@@ -1,6 +1,6 @@
 //! Objects that leave with their handles. A handle of an object that left is dead, and is never given again.
 
-ghost use Rattle.std.specs.Prelude.{◌≡◌, ◌<◌, ◌==◌, length, slice_get, IfSome, IsTrue, Ok, not, filter};
+ghost use Rattle.std.specs.Prelude.{◌≡◌, ◌<◌, ◌==◌, length, slice_get, IfSome, IsTrue, IsFalse, Ok, not, filter};
 ghost use Rattle.std.specs.List.{list_any};
 ghost use Rattle.std.specs.Vec.{vec_capacity};
 ghost use Rattle.wf_life.specs.Handles.{is_live, without};
@@ -83,11 +83,13 @@ impl Objects {
     fn drop_bare_device(&mut self, store: &mut Store, device: u32)
         requires fits { Fits self.old store.old }
         requires live { IsTrue (list_any (λ x. x.handle == device) self.old.devices) }
+        requires bare { IsFalse (list_any (λ c. c.device == device) self.old.contexts) }
         ensures dropped { self.new ≡ record self.old { devices = filter (λ x. not (x.handle == device)) self.old.devices } }
         ensures loses { Loses store.old store.new }
         ensures fits { Fits self.new store.new }
     {
         drop_handle(store, device);
+        self.members.close(device);
         leave_out_device(&mut self.devices, device);
     }
 

@@ -1,6 +1,6 @@
 //! Contexts that are destroyed with all that is theirs, one object after another.
 
-ghost use Rattle.std.specs.Prelude.{◌≡◌, ◌<◌, ◌==◌, [], not, filter, find, length, option_map, position, slice_get, IfSome, IsTrue};
+ghost use Rattle.std.specs.Prelude.{◌≡◌, ◌<◌, ◌==◌, [], not, filter, find, length, option_map, IsTrue};
 ghost use Rattle.std.specs.List.{list_any};
 ghost use Rattle.std.specs.Vec.{vec_capacity};
 ghost use Rattle.wf_model.specs.Core.{without_context, without_those_of};
@@ -24,14 +24,6 @@ fn first_of(links: &[Link], context: u32) -> Option<u32>
         }
     }
     None
-}
-
-/// The place of the first context of a device.
-fn first_context(contexts: &[Context], device: u32) -> Option<usize>
-    ensures place { result ≡ position (λ c. c.device == device) contexts.now }
-    ensures within { IfSome result (λ place. place < length contexts.now) }
-{
-    contexts.iter().position(|context| context.device == device)
 }
 
 /// Leaves out the context of a handle.
@@ -81,6 +73,7 @@ impl Objects {
         ensures fits { Fits self.new store.new }
     {
         drop_handle(store, context);
+        self.members.remove(context);
         leave_out_context(&mut self.contexts, context);
     }
 
@@ -106,8 +99,8 @@ impl Objects {
         ensures loses { Loses store.old store.new }
         ensures fits { Fits self.new store.new }
     {
-        while let Some(place) = first_context(&self.contexts, device) {
-            let context = self.contexts[place].handle;
+        while let Some(context) = self.members.first(device) {
+            let place = self.live_place(context);
             self.drop_context(store, place, context);
         }
     }

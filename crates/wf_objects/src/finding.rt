@@ -75,6 +75,18 @@ impl Objects {
         Ok(())
     }
 
+    /// The place of a live context.
+    pub(crate) fn live_place(&self, context: u32) -> usize
+        requires { IsTrue (list_any (λ c. c.handle == context) self.now.contexts) }
+        ensures within { result < length self.now.contexts }
+        ensures here { StandsAt context result self.now }
+    {
+        let Some(place) = place_of(&self.contexts, context) else {
+            unreachable!()
+        };
+        place
+    }
+
     /// The place of a device's context.
     fn place_in_device(&self, store: &Store, device: u32, context: u32) -> Option<usize>
         requires { Fits self.now store.now }

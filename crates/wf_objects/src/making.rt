@@ -1,11 +1,12 @@
 //! New objects, each under the handle that comes next.
 
-ghost use Rattle.std.specs.Prelude.{◌≡◌, ◌+◌, ◌<◌, ◌++◌, ◌∷◌, [], false, length, IfOk, IsSomeAnd, IsTrue, OnOk, OnErr};
+ghost use Rattle.std.specs.Prelude.{◌≡◌, ◌+◌, ◌<◌, ◌++◌, ◌∷◌, [], false, length, Ok, IfOk, IsSomeAnd, IsTrue, OnOk, OnErr};
 ghost use Rattle.wf_pixel.specs.Choice.{is_a8};
 ghost use Rattle.wf_stream.specs.Streams.{buffers_at, is_stream, with_other};
 ghost use Rattle.wf_model.specs.Core.{blank_scene, device_new, sources_full};
 ghost use Rattle.wf_objects.specs.Does.{Does, context_made, element_made, in_place, link_made};
 ghost use Rattle.wf_objects.specs.Fits.{Fits};
+ghost use Rattle.wf_objects.specs.Owners.{live_device};
 ghost use Rattle.wf_objects.specs.Links.{link_kind, links, with_links};
 ghost use Rattle.wf_objects.specs.Sides.{core_side_of};
 ghost use Rattle.wf_model.specs.Outcome.{lacks_memory, refused_handle, without_value};
@@ -83,6 +84,7 @@ impl Objects {
             return Err(Refusal::of(Code::Limit));
         }
         let handle = mint(store, Kind::Device, 0)?;
+        self.members.open(handle);
         self.devices.push_reserved(Device {
             handle,
             register: None,
@@ -100,6 +102,7 @@ impl Objects {
         target: Seen,
     ) -> Result<u32, Refusal>
         requires fits { Fits self.old store.old }
+        requires live { live_device device (core_side_of self.old store.old) ≡ Ok tt }
         requires kept { IsSomeAnd (buffers_at target.stream store.old.streams) (λ b. (b.size ≡ target.size) × (is_a8 b.format ≡ false)) }
         ensures { Does (context_made device port target) self.old self.new store.old store.new result }
     {
@@ -110,6 +113,7 @@ impl Objects {
             return Err(Refusal::of(Code::OutOfMemory));
         };
         let handle = mint(store, Kind::Context, device)?;
+        self.members.add(device, handle);
         self.contexts.push_reserved(Context {
             handle,
             device,

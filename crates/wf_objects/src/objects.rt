@@ -7,6 +7,7 @@ ghost use Rattle.wf_objects.specs.Links.{links};
 use crate::rows::{Context, Device, Link};
 use std::alloc::Global;
 use std::marker::Model;
+use wf_members::Members;
 use wf_words::NoMemory;
 
 /// How many devices live at most.
@@ -22,7 +23,7 @@ pub(crate) const MOST_SOURCES: usize = 256;
 pub(crate) const MOST_ELEMENTS: u32 = 64;
 
 /// The objects of composition: devices, contexts, sources and masks, each by rising handle. A context has its elements in
-/// its cached scene. All room is taken when they are made.
+/// its cached scene. Beside them the members tell which contexts each device has. All room is taken when they are made.
 #[derive(Drop)]
 pub struct Objects {
     pub(crate) alloc: Global,
@@ -30,6 +31,7 @@ pub struct Objects {
     pub(crate) contexts: Vec<Context>,
     pub(crate) sources: Vec<Link>,
     pub(crate) masks: Vec<Link>,
+    pub(crate) members: Members,
 }
 
 impl Model for Objects {
@@ -37,11 +39,11 @@ impl Model for Objects {
 
     ghost Value = { CoreState };
 
-    ghost use Rattle.wf_objects.specs.Inside.{tables_of, IsRoomy};
+    ghost use Rattle.wf_objects.specs.Inside.{tables_of, IsKept};
 
     ghost view = { tables_of };
 
-    ghost invariant = { IsRoomy };
+    ghost invariant = { IsKept };
 }
 
 impl Objects {
@@ -55,6 +57,7 @@ impl Objects {
             contexts: Vec::with_capacity(alloc, MOST_CONTEXTS)?,
             sources: Vec::with_capacity(alloc, MOST_SOURCES)?,
             masks: Vec::with_capacity(alloc, MOST_SOURCES)?,
+            members: Members::new(alloc, MOST_CONTEXTS as u32, MOST_DEVICES as u32)?,
         })
     }
 

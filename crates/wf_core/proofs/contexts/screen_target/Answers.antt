@@ -22,3 +22,6 @@ returns-then-has_port-clause-asks c = λ m.
     port_used a.device a.port a.screen a.objects.now a.store.now seen c.in_ok-check_device.ensures
     (screen_is a.screen a.store.now.streams seen c.in_ok-target.ensures) used m
     ∙ ap (λ r. Err r) (sym c.of.ensures)
+
+pub returns-clause-live : goal.returns-clause-live
+returns-clause-live c = sym c.in_ok-check_device.ensures

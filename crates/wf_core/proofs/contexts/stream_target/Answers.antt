@@ -17,3 +17,6 @@ returns-then-has_target-clause-asks c = λ m.
     target_used a.device a.stream a.objects.now a.store.now c.in-Some.target c.in_ok-check_device.ensures c.in-Some.ensures.seen
     (sym c.is_drawable.ensures ∙ c.if-not-is_drawable.false) (sym c.has_target.ensures ∙ c.if-has_target.true) m
     ∙ ap (λ r. Err r) (sym c.of-then-has_target.ensures)
+
+pub returns-clause-live : goal.returns-clause-live
+returns-clause-live c = sym c.in_ok-check_device.ensures

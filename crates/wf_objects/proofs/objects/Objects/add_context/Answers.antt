@@ -8,8 +8,43 @@ use Rattle.wf_model.specs.Objects.{Context, CoreState}
 use Rattle.wf_model.specs.Core.{blank_scene}
 use Rattle.wf_objects.specs.Does.{Does, context_made}
 use Rattle.wf_objects.specs.Fits.{ContextFits}
+use Rattle.wf_objects.specs.Inside.{tables_of}
+use Rattle.wf_objects.proofs.Lookups.{device_lives}
+use Rattle.wf_objects.proofs.Tracking.{context_tracked, contexts_room, fresh_context, is_nobodys, live_open}
 use Rattle.wf_objects.proofs.Makings.{context_fits, creates}
 use Rattle.wf_objects.proofs.objects.Objects.add_context.Goals as goal
+
+pub add-requires-clause-is_open : goal.add-requires-clause-is_open
+add-requires-clause-is_open c =
+    let s = c.self.inside in
+    let a = c.args in
+    live_open s.members (tables_of s) a.self.now c.self.invariant.tracked c.self.view_is a.device
+    (device_lives a.device a.self.now a.store.now c.requires.live)
+
+pub add-requires-clause-nobodys : goal.add-requires-clause-nobodys
+add-requires-clause-nobodys c =
+    let s = c.self.inside in
+    let a = c.args in
+    rw c.in_ok-handle.ensures.handle (is_nobodys s.members (tables_of s) a.self.now c.self.invariant.tracked c.self.view_is
+    (a.store.now.made + 1) (fresh_context a.self.now a.store.now c.requires.fits.handles))
+
+pub add-requires-clause-room : goal.add-requires-clause-room
+add-requires-clause-room c =
+    let s = c.self.inside in
+    contexts_room s.members (tables_of s) c.args.self.now c.self.invariant.tracked c.self.view_is
+    (omega (arith, c.if-len-ge-MOST_CONTEXTS.false, c.len.ensures, ap (λ k. length k.contexts) c.self.view_is))
+
+pub invariant_of-self : goal.invariant_of-self
+invariant_of-self c =
+    let s = c.self.inside in
+    record {
+      devices = c.self.invariant.devices;
+      contexts = omega (arith, c.self.invariant.contexts, c.push_reserved.ensures.capacity);
+      sources = c.self.invariant.sources;
+      masks = c.self.invariant.masks;
+      tracked = rw c.push_reserved.ensures.items
+          (context_tracked s.members s.devices.items s.contexts.items c.self.invariant.tracked _ _ c.add.ensures);
+    }
 
 pub returns : goal.returns
 returns c =

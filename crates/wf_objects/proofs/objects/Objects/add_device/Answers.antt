@@ -6,8 +6,35 @@ use Rattle.wf_stream.specs.Streams.{with_other}
 use Rattle.wf_model.specs.Objects.{CoreState}
 use Rattle.wf_model.specs.Core.{device_new}
 use Rattle.wf_objects.specs.Does.{Does}
+use Rattle.wf_objects.specs.Inside.{tables_of}
+use Rattle.wf_objects.proofs.Tracking.{dead_shut, device_tracked, devices_room, fresh_device}
 use Rattle.wf_objects.proofs.Makings.{creates, device_fits}
 use Rattle.wf_objects.proofs.objects.Objects.add_device.Goals as goal
+
+pub open-requires-clause-closed : goal.open-requires-clause-closed
+open-requires-clause-closed c =
+    let s = c.self.inside in
+    rw c.in_ok-handle.ensures.handle (dead_shut s.members (tables_of s) c.args.self.now c.self.invariant.tracked c.self.view_is
+    (c.args.store.now.made + 1) (fresh_device c.args.self.now c.args.store.now c.requires.handles))
+
+pub open-requires-clause-room : goal.open-requires-clause-room
+open-requires-clause-room c =
+    let s = c.self.inside in
+    devices_room s.members (tables_of s) c.args.self.now c.self.invariant.tracked c.self.view_is
+    (omega (arith, c.if-len-ge-MOST_DEVICES.false, c.len.ensures, ap (λ k. length k.devices) c.self.view_is))
+
+pub invariant_of-self : goal.invariant_of-self
+invariant_of-self c =
+    let s = c.self.inside in
+    record {
+      devices = omega (arith, c.self.invariant.devices, c.push_reserved.ensures.capacity);
+      contexts = c.self.invariant.contexts;
+      sources = c.self.invariant.sources;
+      masks = c.self.invariant.masks;
+      tracked = rw c.push_reserved.ensures.items
+          (device_tracked s.members s.devices.items s.contexts.items c.self.invariant.tracked _
+          (record { handle = c.in_ok-handle.handle; register = None }) c.open.ensures);
+    }
 
 pub returns : goal.returns
 returns c =

@@ -1,4 +1,4 @@
-use Rattle.std.proofs.Common.{◌≡◌, ◌∙◌, ◌+◌, false, length, set, subst, sym, ap, arith, Ok}
+use Rattle.std.proofs.Common.{◌≡◌, ◌∙◌, ◌+◌, false, length, set, subst, sym, ap, arith, Ok, refl}
 use Rattle.std.specs.Prelude.{nat_le}
 use Rattle.std.proofs.lemmas.Bool.{lt-leb}
 use Rattle.wf_words.specs.Each.{each_at}
@@ -7,9 +7,11 @@ use Rattle.wf_stream.specs.Streams.{with_other}
 use Rattle.wf_scene.specs.Cached as cached
 use Rattle.wf_objects.specs.Does.{Does, element_made, in_place}
 use Rattle.wf_objects.specs.Fits.{HasElements}
+use Rattle.wf_objects.specs.Inside.{tables_of}
 use Rattle.wf_objects.specs.Rows.{context_of}
 use Rattle.wf_objects.proofs.Makings.{element_creates, fresh}
 use Rattle.wf_objects.proofs.Owners.{standing}
+use Rattle.wf_objects.proofs.Tracking.{written}
 use Rattle.wf_objects.proofs.objects.Objects.add_element.Goals as goal
 
 pub add-requires-clause-fresh : goal.add-requires-clause-fresh
@@ -20,6 +22,20 @@ add-requires-clause-fresh c =
     ap (λ n. cached.has_element n x.cached) c.in_ok-handle.ensures.handle
     ∙ fresh a.self.now a.store.now c.requires.fits x
     (each_at (HasElements a.store.now.others) a.self.now.contexts a.place x c.requires.fits.handles.elements at)
+
+pub invariant_of-self : goal.invariant_of-self
+invariant_of-self c =
+    let a = c.args in
+    let s = c.self.inside in
+    let x = context_of c.behind-self-3.inside in
+    let at = standing _ a.self.now a.place _ x c.self.view_is c.requires.within c.index_mut.ensures.value c.behind-self-3.view_is in
+    record {
+      devices = c.self.invariant.devices;
+      contexts = c.self.invariant.contexts;
+      sources = c.self.invariant.sources;
+      masks = c.self.invariant.masks;
+      tracked = written s.members (tables_of s) a.self.now a.place x _ c.self.invariant.tracked c.self.view_is at refl refl;
+    }
 
 pub returns : goal.returns
 returns c =

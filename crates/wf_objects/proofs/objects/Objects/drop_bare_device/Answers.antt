@@ -1,5 +1,9 @@
-use Rattle.std.proofs.Common.{refl}
+use Rattle.std.proofs.Common.{◌≡◌, ◌==◌, true, refl, subst, sym, arith}
+use Rattle.std.specs.List.{list_any}
+use Rattle.wf_words.specs.Rising.{Rises}
 use Rattle.wf_life.specs.declared.Kind.TheVariants as kind
+use Rattle.wf_objects.specs.Inside.{tables_of}
+use Rattle.wf_objects.proofs.Tracking.{device_untracked, live_open, no_members, rises_devices}
 use Rattle.wf_objects.proofs.Dropped.{device_dropped, device_under, loses}
 use Rattle.wf_life.specs.Living.{lives}
 use Rattle.wf_objects.proofs.objects.Objects.drop_bare_device.Goals as goal
@@ -8,6 +12,31 @@ pub drop_handle-requires : goal.drop_handle-requires
 drop_handle-requires c =
     let a = c.args in
     lives a.device kind.Device a.store.now.others (device_under a.self.now a.store.now c.requires.fits a.device c.requires.live)
+
+pub close-requires-clause-is_open : goal.close-requires-clause-is_open
+close-requires-clause-is_open c =
+    let s = c.self.inside in
+    live_open s.members (tables_of s) c.args.self.now c.self.invariant.tracked c.self.view_is c.args.device c.requires.live
+
+pub close-requires-clause-bare : goal.close-requires-clause-bare
+close-requires-clause-bare c =
+    let s = c.self.inside in
+    no_members s.members (tables_of s) c.args.self.now c.self.invariant.tracked c.self.view_is c.args.device c.requires.bare
+
+pub invariant_of-self : goal.invariant_of-self
+invariant_of-self c =
+    let s = c.self.inside in
+    let a = c.args in
+    record {
+      devices = omega (arith, c.self.invariant.devices, c.leave_out_device.ensures.capacity);
+      contexts = c.self.invariant.contexts;
+      sources = c.self.invariant.sources;
+      masks = c.self.invariant.masks;
+      tracked = rw c.leave_out_device.ensures.left
+          (device_untracked s.members s.devices.items s.contexts.items c.self.invariant.tracked _ a.device c.close.ensures
+          (subst (λ k. Rises (λ x. x.handle) 0 k.devices) (sym c.self.view_is) (rises_devices a.self.now a.store.now c.requires.fits.handles))
+          (subst (λ k. list_any (λ x. x.handle == a.device) k.devices ≡ true) (sym c.self.view_is) c.requires.live));
+    }
 
 pub returns-clause-loses : goal.returns-clause-loses
 returns-clause-loses c =

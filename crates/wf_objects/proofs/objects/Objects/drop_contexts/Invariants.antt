@@ -4,8 +4,8 @@ use Rattle.wf_objects.specs.Losses.{Loses, but_contexts_of}
 use Rattle.wf_objects.proofs.objects.Objects.drop_contexts.Given as goal
 
 -- objects and store fit, only handles went, and what went was of the device
-abbrev pub invariant-loop-place : goal.invariant-loop-place
-invariant-loop-place l =
+abbrev pub invariant-loop-context : goal.invariant-loop-context
+invariant-loop-context l =
     record {
       fits : Fits l.self l.store;
       loses : Loses l.fn.store l.store;
@@ -13,5 +13,5 @@ invariant-loop-place l =
     }
 
 -- one goes each time
-abbrev pub decreases-loop-place : goal.decreases-loop-place
-decreases-loop-place l = length l.self.contexts
+abbrev pub decreases-loop-context : goal.decreases-loop-context
+decreases-loop-context l = length l.self.contexts

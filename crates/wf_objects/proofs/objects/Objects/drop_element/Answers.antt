@@ -2,12 +2,14 @@ use Rattle.std.proofs.Common.{◌≡◌, ◌∙◌, refl, sym, slice_get, Some, 
 use Rattle.wf_life.specs.declared.Kind.TheVariants as kind
 use Rattle.wf_scene.specs.Cached.{forget, has_element}
 use Rattle.wf_model.specs.Composition.{with_cached}
+use Rattle.wf_objects.specs.Inside.{tables_of}
 use Rattle.wf_objects.specs.Rows.{context_of}
 use Rattle.wf_objects.proofs.Dropped.{InContext, element_dropped, element_under, loses}
 use Rattle.wf_life.specs.Living.{lives}
 use Rattle.wf_objects.proofs.Owners.{standing}
 use Rattle.wf_words.specs.Places.{within}
 use Rattle.wf_objects.proofs.Scenes.{placed_is}
+use Rattle.wf_objects.proofs.Tracking.{written}
 use Rattle.wf_objects.proofs.objects.Objects.drop_element.Goals as goal
 use Rattle.wf_objects.proofs.objects.Objects.drop_element.Goals.{After-forget}
 
@@ -36,6 +38,20 @@ under c =
     let a = c.args in
     let has : has_element a.element c.behind-self.inside.cached ≡ true = (let there = at c in rw there at c.requires.lives) in
     element_under a.self.now a.store.now c.requires.fits a.element a.place (context_of c.behind-self.inside) (at c) has
+
+pub invariant_of-self : goal.invariant_of-self
+invariant_of-self c =
+    let a = c.args in
+    let s = c.self.inside in
+    let x = context_of c.behind-self.inside in
+    let at = standing _ a.self.now a.place _ x c.self.view_is c.requires.within c.index_mut.ensures.value c.behind-self.view_is in
+    record {
+      devices = c.self.invariant.devices;
+      contexts = c.self.invariant.contexts;
+      sources = c.self.invariant.sources;
+      masks = c.self.invariant.masks;
+      tracked = written s.members (tables_of s) a.self.now a.place x _ c.self.invariant.tracked c.self.view_is at refl refl;
+    }
 
 pub returns-clause-dropped : goal.returns-clause-dropped
 returns-clause-dropped c =
