@@ -1,6 +1,6 @@
-//! What no clause says: that the calls that take memory succeed where memory is at hand. And how many events lines make.
+//! What no clause says: that the calls that take memory succeed where memory is at hand.
 
-use crate::{Program, quota, serial};
+use crate::{Program, serial};
 use std::alloc::Global;
 use std::test::Fail;
 use wf_film::FilmForm;
@@ -29,14 +29,5 @@ fn calls_have_memory(rt: HostRuntime) -> Result<(), Fail> {
         .ok_or("a stop")?;
     let came = (clock.place(), order.turns().len(), film.bytes().len());
     assert_eq!(rt; came, (Some(0), 7, 70));
-    Ok(())
-}
-
-#[test]
-fn events_of_lines_at_most(rt: HostRuntime) -> Result<(), Fail> {
-    let script = shared(rt.alloc())?;
-    for (client, want) in [(0, 41), (1, 2), (2, 2), (3, 0)] {
-        assert_eq!(rt; quota(&script, client), want, "of client {client}");
-    }
     Ok(())
 }
