@@ -15,6 +15,7 @@ use Rattle.wf_script.specs.declared.line.Verb.TheVariants as verb
 use Rattle.wf_calls.specs.declared.call.Call.TheVariants as call
 use Rattle.wf_film.specs.declared.form.FilmForm.TheVariants as forms
 use Rattle.wf_turn.specs.Play.{film}
+use Rattle.wf_turn.specs.Quota.{quota}
 
 abbrev line : ℕ → Verb → Line
 line client v = record { client = client; name = None; verb = v }
@@ -176,3 +177,13 @@ not_at_creation begins =
     let next : next (program created 0) ≡ Some (waiting (call.BeginPort (pos 1))) =
     subst (λ p. next p ≡ Some (waiting (call.BeginPort (pos 1)))) (sym is) begins.asks.next_is in
     absurd cc
+
+-- the events that lines of each client make at most: client 0 makes a stream and ticks, client 1 writes a frame, client 2 takes a
+-- write buffer, paints it and posts it, and client 3 has no line
+abbrev shared : List Line
+shared =
+    new_stream ∷ line 2 (verb.Acquire s) ∷ line 1 (verb.Frame s (Fill grey)) ∷ line 2 (verb.Paint (Fill grey)) ∷ line 0 verb.Tick
+    ∷ line 2 verb.Post ∷ []
+
+shared_quotas : map (quota shared) (0 ∷ 1 ∷ 2 ∷ 3 ∷ []) ≡ 41 ∷ 2 ∷ 2 ∷ 0 ∷ []
+shared_quotas = refl

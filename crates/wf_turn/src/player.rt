@@ -1,6 +1,7 @@
 //! Plays a script serially: the events of each line stand together, in the order of the file.
 
-ghost use Rattle.std.specs.Prelude.{◌≡◌, ◌+◌, ◌-◌, ◌*◌, ◌<◌, ◌≤◌, ◌^◌, [], map, length, vec_capacity, IfErr, IsTrue, None, OnErr, OnOk};
+ghost use Rattle.std.specs.Prelude.{◌≡◌, ◌+◌, ◌-◌, ◌*◌, ◌<◌, ◌≤◌, ◌^◌, [], map, length, vec_capacity};
+ghost use Rattle.std.specs.Prelude.{IfErr, IfOk, IsTrue, None, OnErr, OnOk};
 ghost use Rattle.std.specs.List.{list_all};
 ghost use Rattle.wf_io.specs.Causes.{HasCause};
 ghost use Rattle.wf_script.specs.Script.{may_tick};
@@ -70,9 +71,33 @@ pub fn serial_by<K: Sink, P: Painter>(
     ensures file_order { IsInFileOrder script.now result }
     ensures caused { IsCaused (K.faults k.old) (K.faults k.new) result }
 {
-    let most = most_turns(script.lines());
     // The show stays where it was opened: it is large.
-    match &mut Show::open(alloc, script) {
+    write_opened(
+        alloc,
+        &mut Show::open(alloc, script),
+        script,
+        form,
+        k,
+        painter,
+    )
+}
+
+/// Writes the film of a script's show, if it was opened.
+fn write_opened<K: Sink, P: Painter>(
+    alloc: Global,
+    opened: &mut Result<Show, NoMemory>,
+    script: &Script,
+    form: FilmForm,
+    k: &mut K,
+    painter: &mut P,
+) -> Result<Order, PlayStop>
+    requires { IfOk opened.old (λ show. show ≡ opening_show script.now) }
+    ensures plays { PlaysFilm K.took k.old k.new form script.now result }
+    ensures file_order { IsInFileOrder script.now result }
+    ensures caused { IsCaused (K.faults k.old) (K.faults k.new) result }
+{
+    let most = most_turns(script.lines());
+    match opened {
         Ok(show) => match Vec::with_capacity(alloc, most) {
             Ok(played) => write_film(show, form, k, painter, played),
             Err(_) => Err(PlayStop::NoMemory),

@@ -17,7 +17,7 @@ ghost use Rattle.wf_turn.specs.Turns.{is_over, opening_show};
 
 use crate::program::{Program, unasked};
 use crate::retaking::{OUT_OF_MEMORY, retake};
-use crate::show::{OTHERS, hand_on, put_job};
+use crate::show::{hand_on, open_programs, put_job};
 use crate::stage::Wanted;
 use std::alloc::Global;
 use std::marker::Model;
@@ -115,11 +115,7 @@ impl<'a> Replayer<'a> {
         ensures replayer { IfOk result IsReplayer }
     {
         let machine = Machine::open(alloc, script.ports())?;
-        let clock = Program::new(alloc, script, 0)?;
-        let mut others = Vec::with_capacity(alloc, OTHERS.into())?;
-        for behind in 0..OTHERS {
-            others.push_reserved(Program::new(alloc, script, behind + 1)?);
-        }
+        let (clock, others) = open_programs(alloc, script)?;
         Ok(Replayer {
             machine,
             clock,

@@ -1,6 +1,6 @@
 //! Plays an order again, and writes its film.
 
-ghost use Rattle.std.specs.Prelude.{◌≡◌, ◌-◌, ◌<◌, ◌≤◌, ◌^◌, OnOk, length};
+ghost use Rattle.std.specs.Prelude.{◌≡◌, ◌-◌, ◌<◌, ◌≤◌, ◌^◌, IfOk, OnOk, length};
 ghost use Rattle.wf_turn.specs.Playing.{script_of};
 ghost use Rattle.wf_turn.specs.Replayed.{Enters, IsEntryCaused, IsReplayCaused, IsReplayer, PlaysAgain, PlaysAll};
 ghost use Rattle.wf_turn.specs.Turns.{opening_show};
@@ -65,7 +65,32 @@ pub fn replay_by<K: Sink, P: Painter>(
     ensures caused { IsReplayCaused (K.faults k.old) (K.faults k.new) result }
 {
     // The replayer stays where it was opened: it is large.
-    match &mut Replayer::open(alloc, script) {
+    write_opened(
+        &mut Replayer::open(alloc, script),
+        script,
+        order,
+        form,
+        k,
+        painter,
+    )
+}
+
+/// Plays an order again by a script's replayer, if it was opened, and writes its film.
+fn write_opened<K: Sink, P: Painter>(
+    opened: &mut Result<Replayer, NoMemory>,
+    script: &Script,
+    order: &Order,
+    form: FilmForm,
+    k: &mut K,
+    painter: &mut P,
+) -> Result<(), ReplayStop>
+    requires opened { IfOk opened.old (λ replayer. replayer ≡ opening_show script.now) }
+    requires replayer { IfOk opened.old IsReplayer }
+    requires few { length order.now < 2 ^ 32 }
+    ensures plays { PlaysAgain K.took k.old k.new form script.now order.now result }
+    ensures caused { IsReplayCaused (K.faults k.old) (K.faults k.new) result }
+{
+    match opened {
         Ok(replayer) => write_again(replayer, order, form, k, painter),
         Err(_) => Err(ReplayStop::NoMemory),
     }

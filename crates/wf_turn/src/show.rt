@@ -2,6 +2,7 @@
 
 ghost use Rattle.std.specs.Prelude.{◌≡◌, ◌+◌, ◌-◌, ◌*◌, ◌<◌, ◌≤◌, ◌^◌, ◌&&◌, not, if◌then◌else◌, ◌∷◌, map, slice_get, option_map, length};
 ghost use Rattle.std.specs.Prelude.{flat_map, Some, IfOk, IfErr, IfSome, IsSomeAnd, IsTrue, OnOk, All, true};
+ghost use Rattle.std.specs.List.{range_with_len};
 ghost use Rattle.wf_film.specs.Film.{frame_bytes};
 ghost use Rattle.wf_io.specs.Bytes.{Puts, PutsPart};
 ghost use Rattle.wf_io.specs.Causes.{HasCause};
@@ -9,7 +10,7 @@ ghost use Rattle.wf_machine.specs.Object.{IsPaintable};
 ghost use Rattle.wf_turn.specs.Play.{earlier, first_client};
 ghost use Rattle.wf_turn.specs.Playing.{ArePainted, HoldsPaintable, IsReady, StandsOwn, TakesTurnAt, Turned, has_work, may_turn, shown_by};
 ghost use Rattle.wf_turn.specs.Playing.{with_paint};
-ghost use Rattle.wf_turn.specs.Program.{in_setup, place_of, taught};
+ghost use Rattle.wf_turn.specs.Program.{in_setup, place_of, program, taught};
 ghost use Rattle.wf_turn.specs.Ready.{IsWork};
 ghost use Rattle.wf_turn.specs.Serial.{IsFirst};
 ghost use Rattle.wf_turn.specs.Turns.{opening_show, shown};
@@ -28,7 +29,7 @@ use wf_script::Script;
 use wf_words::NoMemory;
 
 /// How many clients there are beside the clock.
-pub(crate) const OTHERS: u8 = 7;
+const OTHERS: u8 = 7;
 
 /// The machine, the program of the clock, which is client 0, and those of the other clients of a script, the place
 /// where each turn puts its call, and how many turns there were.
@@ -128,6 +129,29 @@ fn take_turn_of(
     }
 }
 
+/// The programs of the clients beside the clock, before their first calls.
+fn open_others<'a>(alloc: Global, script: &'a Script) -> Result<Vec<Program<'a>>, NoMemory>
+    ensures { IfOk result (λ others. others.items ≡ map (program script.now) (range_with_len 1 7)) }
+{
+    let mut others = Vec::with_capacity(alloc, OTHERS.into())?;
+    for behind in 0..OTHERS {
+        others.push_reserved(Program::new(alloc, script, behind + 1)?);
+    }
+    Ok(others)
+}
+
+/// The programs of the clock and of the other clients, before their first calls.
+pub(crate) fn open_programs<'a>(
+    alloc: Global,
+    script: &'a Script,
+) -> Result<(Program<'a>, Vec<Program<'a>>), NoMemory>
+    ensures { IfOk result (λ programs. programs.0 ∷ programs.1.items ≡ map (program script.now) (range_with_len 0 8)) }
+{
+    let clock = Program::new(alloc, script, 0)?;
+    let others = open_others(alloc, script)?;
+    Ok((clock, others))
+}
+
 impl<'a> Show<'a> {
     /// The machine before the first call, and the programs before theirs. What it moves is off the stack when it returns.
     #[inline(never)]
@@ -135,11 +159,7 @@ impl<'a> Show<'a> {
         ensures { IfOk result (λ show. show ≡ opening_show script.now) }
     {
         let machine = Machine::open(alloc, script.ports())?;
-        let clock = Program::new(alloc, script, 0)?;
-        let mut others = Vec::with_capacity(alloc, OTHERS.into())?;
-        for behind in 0..OTHERS {
-            others.push_reserved(Program::new(alloc, script, behind + 1)?);
-        }
+        let (clock, others) = open_programs(alloc, script)?;
         Ok(Show {
             machine,
             clock,

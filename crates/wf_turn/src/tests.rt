@@ -1,6 +1,6 @@
-//! What no clause says: that the calls that take memory succeed where memory is at hand. And how many events lines make.
+//! What no clause says: that the calls that take memory succeed where memory is at hand.
 
-use crate::{Program, quota, replay, replay_by, serial, serial_by};
+use crate::{Program, replay, replay_by, serial, serial_by};
 use std::alloc::Global;
 use std::test::Fail;
 use wf_film::FilmForm;
@@ -74,14 +74,5 @@ fn replays_have_memory(rt: HostRuntime) -> Result<(), Fail> {
     .ok()
     .ok_or("a stop")?;
     assert_eq!(rt; film.bytes().len(), 3 * 70);
-    Ok(())
-}
-
-#[test]
-fn events_of_lines_at_most(rt: HostRuntime) -> Result<(), Fail> {
-    let script = shared(rt.alloc())?;
-    for (client, want) in [(0, 41), (1, 2), (2, 2), (3, 0)] {
-        assert_eq!(rt; quota(&script, client), want, "of client {client}");
-    }
     Ok(())
 }
