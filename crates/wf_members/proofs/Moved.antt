@@ -74,7 +74,8 @@ module _ (n list : ℕ) (lists : List (List ℕ)) (within : list < length lists)
   pub itself_in : (i : ℕ) → is_in n (list_at i (moved n list lists)) ≡ (i == list)
   itself_in i =
       elim (cases_eq i list) [
-        | inl same ↦ rw (moved_here i same, eq-eqb i list same) (or_left (n == n) (is_in n (without n (list_at list lists))) (eq-eqb n n refl))
+        | inl same ↦ rw (moved_here i same, eq-eqb i list same) (or_left (n == n) (is_in n (without n (list_at list lists)))
+            (eq-eqb n n refl))
         | inr other ↦ rw (moved_other i other, ne_eqb i list other) (without_itself n (list_at i lists))
       ]
 

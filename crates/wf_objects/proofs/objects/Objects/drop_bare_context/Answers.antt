@@ -30,7 +30,8 @@ invariant_of-self c =
       masks = c.self.invariant.masks;
       tracked = rw c.leave_out_context.ensures.left
           (context_untracked s.members s.devices.items s.contexts.items c.self.invariant.tracked _ a.context c.remove.ensures
-          (subst (λ k. Rises (λ x. x.handle) 0 k.contexts) (sym c.self.view_is) (rises_contexts a.self.now a.store.now c.requires.fits.handles))
+          (subst (λ k. Rises (λ x. x.handle) 0 k.contexts) (sym c.self.view_is)
+          (rises_contexts a.self.now a.store.now c.requires.fits.handles))
           (subst (λ k. list_any (λ x. x.handle == a.context) k.contexts ≡ true) (sym c.self.view_is) c.requires.live));
     }
 

@@ -34,7 +34,8 @@ invariant_of-self c =
       masks = c.self.invariant.masks;
       tracked = rw c.leave_out_device.ensures.left
           (device_untracked s.members s.devices.items s.contexts.items c.self.invariant.tracked _ a.device c.close.ensures
-          (subst (λ k. Rises (λ x. x.handle) 0 k.devices) (sym c.self.view_is) (rises_devices a.self.now a.store.now c.requires.fits.handles))
+          (subst (λ k. Rises (λ x. x.handle) 0 k.devices) (sym c.self.view_is)
+          (rises_devices a.self.now a.store.now c.requires.fits.handles))
           (subst (λ k. list_any (λ x. x.handle == a.device) k.devices ≡ true) (sym c.self.view_is) c.requires.live));
     }
 
