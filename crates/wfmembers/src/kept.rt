@@ -12,26 +12,26 @@ pub struct Kept {
     members: Members,
     opened: u32,
     count: u32,
-    most_owners: u32,
+    owners: u32,
     most: u32,
     ghost opened_counted: { open_count members ≡ opened },
     ghost members_counted: { member_count members ≡ count },
-    ghost owners_limited: { most_owners members ≡ most_owners },
+    ghost owners_limited: { most_owners members ≡ owners },
     ghost members_limited: { most_members members ≡ most },
 }
 
 impl Kept {
     /// Room for so many members and owners, or None where there is no memory for them.
-    pub fn new(alloc: Global, most: u32, most_owners: u32) -> Option<Kept> {
-        if most_owners == u32::MAX {
+    pub fn new(alloc: Global, most: u32, owners: u32) -> Option<Kept> {
+        if owners == u32::MAX {
             return None;
         }
-        match Members::new(alloc, most, most_owners) {
+        match Members::new(alloc, most, owners) {
             Ok(members) => Some(Kept {
                 members,
                 opened: 0,
                 count: 0,
-                most_owners,
+                owners,
                 most,
             }),
             Err(_) => None,
@@ -45,7 +45,7 @@ impl Kept {
 
     /// Opens an owner that is not open, if there is room.
     pub fn open(&mut self, owner: u32) -> bool {
-        if owner == 0 || self.members.is_open(owner) || self.opened >= self.most_owners {
+        if owner == 0 || self.members.is_open(owner) || self.opened >= self.owners {
             return false;
         }
         self.members.open(owner);
