@@ -62,6 +62,7 @@ fn made(objects: &mut Objects, store: &mut Store) -> Result<[u32; 4], Refusal>
     let none = Refusal::of(Code::BadHandle);
     let device = objects.add_device(store)?;
     let target = target(store).ok_or(none)?;
+    objects.check_device(store, device)?;
     let context = objects.add_context(store, device, 0, target)?;
     let place = objects.context_place(store, device, context)?;
     let element = objects.add_element(store, place)?;
