@@ -1,8 +1,10 @@
 //! The program `wfbench`: with the word `paint` it prints how long filling a canvas of 1024 by 1024 pixels takes,
 //! beside std's fill of as many bytes; with the word `picture`, what a pixel of a picture takes; with the word `rows`, how
-//! much sooner a picture is painted by several threads. With any other words it prints nothing.
+//! much sooner a picture is painted by several threads; with the word `order`, what calls on the order of elements take, by
+//! links and in vectors. With any other words it prints nothing.
 #![tactic(auto)]
 
+mod order;
 mod pictures;
 mod scenes;
 
@@ -66,6 +68,7 @@ enum Asked {
     Paints,
     Pictures,
     Rows,
+    Order,
     Nothing,
 }
 
@@ -75,6 +78,7 @@ fn read_words(rt: &(impl Env + AllocGlobal)) -> io::Result<Asked> {
         Some(word) if word.as_str() == "paint" => Asked::Paints,
         Some(word) if word.as_str() == "picture" => Asked::Pictures,
         Some(word) if word.as_str() == "rows" => Asked::Rows,
+        Some(word) if word.as_str() == "order" => Asked::Order,
         _ => Asked::Nothing,
     })
 }
@@ -84,6 +88,7 @@ fn main(rt: HostRuntime) -> ExitCode {
         Ok(Asked::Paints) => print_times(&rt),
         Ok(Asked::Pictures) => pictures::print_times(&rt),
         Ok(Asked::Rows) => pictures::print_rows(&rt),
+        Ok(Asked::Order) => order::print_times(&rt),
         Ok(Asked::Nothing) => Ok(()),
         Err(error) => Err(error),
     };
