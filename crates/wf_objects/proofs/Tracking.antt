@@ -2,6 +2,7 @@
 use Rattle.std.proofs.Common.{◌≡◌, ℕ, ◌+◌, ◌<◌, Bool, true, false, not, cond, ◌&&◌, ◌||◌, ◌==◌, List, [], ◌∷◌, ◌++◌, length, map, filter}
 use Rattle.std.proofs.Common.{find, is_some, set, slice_get, Option, Some, None, refl, sym, ap, subst, ◌∙◌, if◌then◌else◌, arith}
 use Rattle.std.specs.List.{list_any}
+use Rattle.std.specs.Vec.{with_item}
 use Rattle.std.proofs.Math.Bool.{or-false, or-true}
 use Rattle.std.proofs.lemmas.Bool.{and_from, and_parts, both_ways, eq-eqb, eqb-true, false_from_ne_true, ne_eqb}
 use Rattle.std.proofs.lemmas.List.{length_push}
@@ -22,7 +23,9 @@ use Rattle.wf_members.specs.Calls.{Adds, Closes, HasNone, Opens, Removes}
 use Rattle.wf_stream.specs.Streams.{StoreView}
 use Rattle.wf_calls.specs.declared.code.Code.{Code}
 use Rattle.wf_model.specs.Objects.{Context, CoreState, Device}
+use Rattle.wf_objects.specs.declared.objects.Objects.TheInside.{Inside}
 use Rattle.wf_objects.specs.Fits.{HandlesFit, context_live, device_live}
+use Rattle.wf_objects.specs.Inside.{IsKept, tables_of}
 use Rattle.wf_objects.specs.Tracks.{Tracks}
 use Rattle.wf_objects.proofs.Lookups.{rises_kind}
 
@@ -273,11 +276,24 @@ module _ (m : Membership) (ds : List Device) (cs : List Context) (old : Tracks m
             (λ other. rw other (is_in-without n h xs (same_way h n ∙ other)))
 
 -- the context at a place is written, which keeps its handle and its device
-pub written : (m : Membership) (view core : CoreState) (place : ℕ) (x y : Context) → Tracks m view.devices view.contexts → view ≡ core
+written : (m : Membership) (view core : CoreState) (place : ℕ) (x y : Context) → Tracks m view.devices view.contexts → view ≡ core
     → slice_get core.contexts place ≡ Some x → y.handle ≡ x.handle → y.device ≡ x.device
     → Tracks m view.devices (set view.contexts place y)
 written m view core place x y old is at handle device =
     tracked_in m view.devices view.contexts old place x y (subst (λ k. slice_get k.contexts place ≡ Some x) (sym is) at) handle device
+
+-- the same of all tables
+pub kept_in : (s : Inside) (core : CoreState) (place : ℕ) (x y : Context) → IsKept s → tables_of s ≡ core
+    → slice_get core.contexts place ≡ Some x → y.handle ≡ x.handle → y.device ≡ x.device
+    → IsKept (record s { contexts = with_item s.contexts place y })
+kept_in s core place x y kept is at handle device =
+    record {
+      devices = kept.devices;
+      contexts = kept.contexts;
+      sources = kept.sources;
+      masks = kept.masks;
+      tracked = written s.members (tables_of s) core place x y kept.tracked is at handle device;
+    }
 
 -- a device that lives is open, and one that has no contexts has no members
 

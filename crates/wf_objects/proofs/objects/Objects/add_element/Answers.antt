@@ -7,11 +7,10 @@ use Rattle.wf_stream.specs.Streams.{with_other}
 use Rattle.wf_scene.specs.Cached as cached
 use Rattle.wf_objects.specs.Does.{Does, element_made, in_place}
 use Rattle.wf_objects.specs.Fits.{HasElements}
-use Rattle.wf_objects.specs.Inside.{tables_of}
 use Rattle.wf_objects.specs.Rows.{context_of}
 use Rattle.wf_objects.proofs.Makings.{element_creates, fresh}
 use Rattle.wf_objects.proofs.Owners.{standing}
-use Rattle.wf_objects.proofs.Tracking.{written}
+use Rattle.wf_objects.proofs.Tracking.{kept_in}
 use Rattle.wf_objects.proofs.objects.Objects.add_element.Goals as goal
 
 pub add-requires-clause-fresh : goal.add-requires-clause-fresh
@@ -26,16 +25,9 @@ add-requires-clause-fresh c =
 pub invariant_of-self : goal.invariant_of-self
 invariant_of-self c =
     let a = c.args in
-    let s = c.self.inside in
     let x = context_of c.behind-self-3.inside in
     let at = standing _ a.self.now a.place _ x c.self.view_is c.requires.within c.index_mut.ensures.value c.behind-self-3.view_is in
-    record {
-      devices = c.self.invariant.devices;
-      contexts = c.self.invariant.contexts;
-      sources = c.self.invariant.sources;
-      masks = c.self.invariant.masks;
-      tracked = written s.members (tables_of s) a.self.now a.place x _ c.self.invariant.tracked c.self.view_is at refl refl;
-    }
+    kept_in c.self.inside a.self.now a.place x _ c.self.invariant c.self.view_is at refl refl
 
 pub returns : goal.returns
 returns c =

@@ -2,14 +2,13 @@ use Rattle.std.proofs.Common.{◌≡◌, ◌∙◌, refl, sym, slice_get, Some, 
 use Rattle.wf_life.specs.declared.Kind.TheVariants as kind
 use Rattle.wf_scene.specs.Cached.{forget, has_element}
 use Rattle.wf_model.specs.Composition.{with_cached}
-use Rattle.wf_objects.specs.Inside.{tables_of}
 use Rattle.wf_objects.specs.Rows.{context_of}
 use Rattle.wf_objects.proofs.Dropped.{InContext, element_dropped, element_under, loses}
 use Rattle.wf_life.specs.Living.{lives}
 use Rattle.wf_objects.proofs.Owners.{standing}
 use Rattle.wf_words.specs.Places.{within}
 use Rattle.wf_objects.proofs.Scenes.{placed_is}
-use Rattle.wf_objects.proofs.Tracking.{written}
+use Rattle.wf_objects.proofs.Tracking.{kept_in}
 use Rattle.wf_objects.proofs.objects.Objects.drop_element.Goals as goal
 use Rattle.wf_objects.proofs.objects.Objects.drop_element.Goals.{After-forget}
 
@@ -42,16 +41,9 @@ under c =
 pub invariant_of-self : goal.invariant_of-self
 invariant_of-self c =
     let a = c.args in
-    let s = c.self.inside in
     let x = context_of c.behind-self.inside in
     let at = standing _ a.self.now a.place _ x c.self.view_is c.requires.within c.index_mut.ensures.value c.behind-self.view_is in
-    record {
-      devices = c.self.invariant.devices;
-      contexts = c.self.invariant.contexts;
-      sources = c.self.invariant.sources;
-      masks = c.self.invariant.masks;
-      tracked = written s.members (tables_of s) a.self.now a.place x _ c.self.invariant.tracked c.self.view_is at refl refl;
-    }
+    kept_in c.self.inside a.self.now a.place x _ c.self.invariant c.self.view_is at refl refl
 
 pub returns-clause-dropped : goal.returns-clause-dropped
 returns-clause-dropped c =

@@ -1,26 +1,18 @@
 use Rattle.std.proofs.Common.{set, subst, sym, Ok, refl}
 use Rattle.wf_model.specs.Core.{with_active}
 use Rattle.wf_objects.specs.Does.{Does, changed, in_place}
-use Rattle.wf_objects.specs.Inside.{tables_of}
 use Rattle.wf_objects.specs.Rows.{context_of}
 use Rattle.wf_objects.proofs.Owners.{standing}
 use Rattle.wf_objects.proofs.Scenes.{activates}
-use Rattle.wf_objects.proofs.Tracking.{written}
+use Rattle.wf_objects.proofs.Tracking.{kept_in}
 use Rattle.wf_objects.proofs.objects.Objects.set_active.Goals as goal
 
 pub invariant_of-self : goal.invariant_of-self
 invariant_of-self c =
     let a = c.args in
-    let s = c.self.inside in
     let x = context_of c.behind-self.inside in
     let at = standing _ a.self.now a.place _ x c.self.view_is c.requires.within c.index_mut.ensures.value c.behind-self.view_is in
-    record {
-      devices = c.self.invariant.devices;
-      contexts = c.self.invariant.contexts;
-      sources = c.self.invariant.sources;
-      masks = c.self.invariant.masks;
-      tracked = written s.members (tables_of s) a.self.now a.place x _ c.self.invariant.tracked c.self.view_is at refl refl;
-    }
+    kept_in c.self.inside a.self.now a.place x _ c.self.invariant c.self.view_is at refl refl
 
 pub returns : goal.returns
 returns c =

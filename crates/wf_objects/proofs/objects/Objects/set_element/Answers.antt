@@ -4,12 +4,11 @@ use Rattle.wf_scene.specs.Values.{component}
 use Rattle.wf_model.specs.Core.{linked}
 use Rattle.wf_objects.specs.Does.{Does, element_set, in_place}
 use Rattle.wf_objects.specs.Sides.{core_side_of}
-use Rattle.wf_objects.specs.Inside.{tables_of}
 use Rattle.wf_objects.specs.Rows.{context_of}
 use Rattle.wf_objects.proofs.Keeping.{set_keeps}
 use Rattle.wf_objects.proofs.Owners.{standing}
 use Rattle.wf_objects.proofs.Scenes.{edits, linked_first}
-use Rattle.wf_objects.proofs.Tracking.{written}
+use Rattle.wf_objects.proofs.Tracking.{kept_in}
 use Rattle.wf_objects.proofs.objects.Objects.set_element.Goals as goal
 
 pub set-requires-clause-live : goal.set-requires-clause-live
@@ -22,16 +21,9 @@ set-requires-clause-live c =
 pub invariant_of-self : goal.invariant_of-self
 invariant_of-self c =
     let a = c.args in
-    let s = c.self.inside in
     let x = context_of c.behind-self-2.inside in
     let at = standing _ a.self.now a.place _ x c.self.view_is c.requires.within c.index_mut.ensures.value c.behind-self-2.view_is in
-    record {
-      devices = c.self.invariant.devices;
-      contexts = c.self.invariant.contexts;
-      sources = c.self.invariant.sources;
-      masks = c.self.invariant.masks;
-      tracked = written s.members (tables_of s) a.self.now a.place x _ c.self.invariant.tracked c.self.view_is at refl refl;
-    }
+    kept_in c.self.inside a.self.now a.place x _ c.self.invariant c.self.view_is at refl refl
 
 pub returns : goal.returns
 returns c =
