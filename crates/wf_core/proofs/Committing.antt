@@ -57,10 +57,10 @@ module _ (core : CoreState) (store : StoreView) (fits : Fits core store) (place 
         in_owned place taken core core store store (Err r)
         (refuses (in_place place taken) core store r fits (rw (stands, told (Err r) is) refl)) d h at here
 
-    pub commit_taken : (s : Scene) → Ok s ≡ fault_as_refusal (consistent (sight_in store) scene) → (left : CoreState)
-        → Does (in_place place (changed (with_committed s))) core left store store (Ok 0)
-        → Does (λ _. commit d h) core left store store (Ok 0)
-    commit_taken s is left does =
-        in_owned place taken core left store store (Ok 0)
-        (as_other (in_place place taken) (in_place place (changed (with_committed s))) core left store store (Ok 0)
+    pub commit_taken : (s : Scene) → Ok s ≡ fault_as_refusal (consistent (sight_in store) scene) → (left : CoreState) (now : StoreView)
+        → Does (in_place place (changed (with_committed s))) core left store now (Ok 0)
+        → Does (λ _. commit d h) core left store now (Ok 0)
+    commit_taken s is left now does =
+        in_owned place taken core left store now (Ok 0)
+        (as_other (in_place place taken) (in_place place (changed (with_committed s))) core left store now (Ok 0)
         (λ m. rw (stands, told (Ok s) is) refl) does) d h at here

@@ -4,3 +4,5 @@ pub mod Layering
 pub mod Committing
 pub mod Screens
 pub mod Denials
+pub mod Answering
+pub mod Destroying

@@ -3,6 +3,8 @@ use Rattle.std.specs.Prelude.{◌≡◌, ℕ, Bool, List, IfSome, IsSome, IsTrue
 use Rattle.wf_words.specs.Refusals.{◌>>=◌}
 use Rattle.wf_pixel.specs.Choice.{is_between}
 use Rattle.wf_stream.specs.Streams.{KeptStream, StoreView}
+use Rattle.wf_stream.specs.Names.{Recounts}
+use Rattle.wf_model.specs.Names.{core_names}
 use Rattle.wf_calls.specs.Codes.{is_out_of_memory}
 use Rattle.wf_calls.specs.Replies.{bare, told}
 use Rattle.wf_calls.specs.declared.call.Call.{Call}
@@ -14,7 +16,8 @@ use Rattle.wf_model.specs.Objects.{CoreState}
 use Rattle.wf_model.specs.Outcome.{Outcome}
 use Rattle.wf_objects.specs.Fits.{Fits}
 use Rattle.wf_model.specs.Fitting.{IsOfPixels}
-use Rattle.wf_objects.specs.Sides.{core_side_of}
+use Rattle.wf_objects.specs.Does.{Does}
+use Rattle.wf_objects.specs.Sides.{KeepsRest, core_side_of, with_streams}
 
 -- nothing of the store changed
 abbrev pub KeepsAll : StoreView → StoreView → Type 0
@@ -25,15 +28,29 @@ abbrev pub Asks : {A : Type 0} → (Bool → CoreSide → Outcome CoreSide) → 
     → Result A Refusal → Type 0
 Asks plain made w found = (m : Bool) → plain m w ≡ (found >>= (λ x. made x m w))
 
--- a call that names a device: it leaves and answers what the plain call does, where want of memory is told by the answer;
--- so much of the store is kept; objects and store fit again; and nothing comes with the reply
+-- a call that names a device: it leaves and answers what the plain call does before streams are dropped, where want of memory is
+-- told by the answer; so much of the store is kept; the names of the objects became those that are left; objects and store fit
+-- again; and nothing comes with the reply
 pub record Steps (device : ℕ) (plain : Bool → CoreSide → Outcome CoreSide) (Keeps : StoreView → StoreView
     → Type 0) (core left : CoreState) (store now : StoreView) (reply : Reply) : Type 0 where
   pub step : core_answer device (core_side_of core store) (plain (is_out_of_memory reply.code) (core_side_of core store))
-      ≡ (core_side_of left now, told reply)
+      ≡ (core_side_of left (with_streams store.streams now), told reply)
   pub kept : Keeps store now
+  pub names : Recounts (core_names core) (core_names left) store now
   pub fits : Fits left now
   pub bare : reply ≡ bare (told reply)
+
+-- what was done is answered: the call steps so from where it was made
+abbrev pub StepsOn : ℕ → CoreState → CoreState → StoreView → Result ℕ Refusal → Reply → Type 0
+StepsOn device done left now result reply =
+    (plain : Bool → CoreSide → Outcome CoreSide) (core : CoreState) (store : StoreView) → Does plain core done store now result
+    → Steps device plain KeepsRest core left store now reply
+
+-- the same of what changed nothing of the store
+abbrev pub KeepsAnswer : ℕ → CoreState → CoreState → StoreView → Result ℕ Refusal → Reply → Type 0
+KeepsAnswer device done left now result reply =
+    (plain : Bool → CoreSide → Outcome CoreSide) (core : CoreState) → Does plain core done now now result
+    → Steps device plain KeepsAll core left now now reply
 
 -- a screen is given for a port from 1 to 4 alone
 abbrev pub IsOfPort : Call → Option ℕ → Type 0

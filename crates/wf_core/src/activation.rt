@@ -5,7 +5,7 @@ ghost use Rattle.wf_core.specs.Steps.{KeepsAll, Steps};
 ghost use Rattle.wf_objects.specs.Does.{Does};
 ghost use Rattle.wf_objects.specs.Fits.{Fits};
 
-use crate::answers::answer;
+use crate::answers::reply;
 use crate::composition::Core;
 use wf_calls::{Refusal, Reply};
 use wf_objects::Objects;
@@ -33,7 +33,7 @@ impl Core {
         ensures { Steps device (λ _. activate device context) KeepsAll self.old self.new store.old store.new result }
     {
         let done = try_set_active(&mut self.objects, store, device, context, true);
-        Reply::bare(answer(&mut self.objects, store, device, done))
+        reply(&mut self.objects, store, device, done)
     }
 
     /// Makes a context inactive. One that is inactive stays so.
@@ -42,6 +42,6 @@ impl Core {
         ensures { Steps device (λ _. deactivate device context) KeepsAll self.old self.new store.old store.new result }
     {
         let done = try_set_active(&mut self.objects, store, device, context, false);
-        Reply::bare(answer(&mut self.objects, store, device, done))
+        reply(&mut self.objects, store, device, done)
     }
 }

@@ -1,13 +1,9 @@
 //! Answers: a value, or the refusal, which the register of a live device takes.
 
-ghost use Rattle.std.specs.Prelude.{◌≡◌};
-ghost use Rattle.wf_calls.specs.Codes.{is_out_of_memory};
-ghost use Rattle.wf_model.specs.Composition.{core_answer};
-ghost use Rattle.wf_objects.specs.Fits.{Fits};
-ghost use Rattle.wf_objects.specs.Sides.{core_side_of};
-ghost use Rattle.wf_model.specs.Outcome.{done_by, lacks_memory};
+ghost use Rattle.wf_calls.specs.Replies.{bare};
+ghost use Rattle.wf_core.specs.Steps.{KeepsAnswer, StepsOn};
 
-use wf_calls::{Answer, Refusal};
+use wf_calls::{Answer, Refusal, Reply};
 use wf_objects::Objects;
 use wf_stream::Store;
 
@@ -18,11 +14,8 @@ pub(crate) fn answer(
     device: u32,
     done: Result<u32, Refusal>,
 ) -> Answer
-    requires { Fits objects.old store.now }
-    ensures answered { core_answer device (core_side_of objects.old store.now) (done_by done (core_side_of objects.old store.now))
-        ≡ (core_side_of objects.new store.now, result) }
-    ensures memory { is_out_of_memory result.code ≡ lacks_memory done }
-    ensures fits { Fits objects.new store.now }
+    ensures steps { StepsOn device objects.old objects.new store.now done (bare result) }
+    ensures stays { KeepsAnswer device objects.old objects.new store.now done (bare result) }
 {
     match done {
         Ok(value) => Answer::done(value),
@@ -31,4 +24,17 @@ pub(crate) fn answer(
             Answer::refused(refused)
         }
     }
+}
+
+/// The same, as a reply with which nothing comes.
+pub(crate) fn reply(
+    objects: &mut Objects,
+    store: &Store,
+    device: u32,
+    done: Result<u32, Refusal>,
+) -> Reply
+    ensures steps { StepsOn device objects.old objects.new store.now done result }
+    ensures stays { KeepsAnswer device objects.old objects.new store.now done result }
+{
+    Reply::bare(answer(objects, store, device, done))
 }

@@ -6,13 +6,16 @@ ghost use Rattle.wf_life.specs.Handles.{key_of};
 ghost use Rattle.wf_stream.specs.Streams.{is_stream};
 ghost use Rattle.wf_scene.specs.Consistent.{consistent};
 ghost use Rattle.wf_scene.specs.Layers.{is_placed_layer};
+ghost use Rattle.wf_stream.specs.Names.{HasRoom, NamesFit};
+ghost use Rattle.wf_model.specs.Names.{core_names};
 ghost use Rattle.wf_model.specs.Core.{commit, fault_as_refusal};
 ghost use Rattle.wf_objects.specs.Does.{Does};
 ghost use Rattle.wf_objects.specs.Sights.{seen_key, sight_in};
-ghost use Rattle.wf_core.specs.Steps.{KeepsAll, Steps};
+ghost use Rattle.wf_core.specs.Steps.{Steps};
+ghost use Rattle.wf_objects.specs.Sides.{KeepsRest};
 ghost use Rattle.wf_objects.specs.Fits.{Fits};
 
-use crate::answers::answer;
+use crate::answers::reply;
 use crate::composition::Core;
 use crate::streams::seen_by_number;
 use wf_calls::{Code, Refusal, Reply};
@@ -65,12 +68,14 @@ fn committed(cached: &Cached, store: &Store) -> Result<Scene, Refusal>
 
 pub(crate) fn try_commit(
     objects: &mut Objects,
-    store: &Store,
+    store: &mut Store,
     device: u32,
     context: u32,
 ) -> Result<u32, Refusal>
-    requires { Fits objects.old store.now }
-    ensures { Does (λ _. commit device context) objects.old objects.new store.now store.now result }
+    requires fits { Fits objects.old store.old }
+    requires names { NamesFit (core_names objects.old) store.old }
+    requires room { HasRoom store.old }
+    ensures { Does (λ _. commit device context) objects.old objects.new store.old store.new result }
 {
     let place = objects.context_place(store, device, context)?;
     match committed(objects.cached(place), store) {
@@ -85,10 +90,12 @@ impl Core {
     /// place * 16 + rule: the place of the first bad element, from 1 at the bottom, and the first rule that it breaks. It
     /// takes no memory.
     pub fn commit(&mut self, store: &mut Store, device: u32, context: u32) -> Reply
-        requires { Fits self.old store.old }
-        ensures { Steps device (λ _. commit device context) KeepsAll self.old self.new store.old store.new result }
+        requires fits { Fits self.old store.old }
+        requires names { NamesFit (core_names self.old) store.old }
+        requires room { HasRoom store.old }
+        ensures { Steps device (λ _. commit device context) KeepsRest self.old self.new store.old store.new result }
     {
         let done = try_commit(&mut self.objects, store, device, context);
-        Reply::bare(answer(&mut self.objects, store, device, done))
+        reply(&mut self.objects, store, device, done)
     }
 }

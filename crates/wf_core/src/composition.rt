@@ -1,8 +1,7 @@
 //! The objects of composition.
 
-ghost use Rattle.std.specs.Prelude.{◌≡◌, ℕ, ◌||◌, [], IfOk, IsSome};
-ghost use Rattle.wf_words.specs.Keyed.{is_in};
-ghost use Rattle.wf_stream.specs.Streams.{StoreView, stream_at};
+ghost use Rattle.std.specs.Prelude.{◌≡◌, ◌≤◌, IfOk, length};
+ghost use Rattle.wf_stream.specs.Streams.{StoreView};
 ghost use Rattle.wf_model.specs.Composition.{change_register, recorded};
 ghost use Rattle.wf_model.specs.Names.{core_names};
 ghost use Rattle.wf_model.specs.Objects.{no_objects};
@@ -13,7 +12,6 @@ use std::alloc::Global;
 use std::marker::Model;
 use wf_calls::Code;
 use wf_objects::{Objects, Shown};
-use wf_stream::Store;
 use wf_words::NoMemory;
 
 /// The objects of composition: devices, contexts, sources and masks, each by rising handle. A context has its elements in
@@ -63,13 +61,10 @@ impl Core {
         self.objects.record(device, code);
     }
 
-    /// Marks the streams that the objects name: the live sources and masks, and the live contexts by their targets and by
-    /// the layers of their committed scenes.
-    pub fn mark(&self, store: &mut Store)
-        ensures marked { (n : ℕ) → IsSome (stream_at n store.old.streams)
-            → is_in n store.new.marked ≡ (is_in n store.old.marked || is_in n (core_names self.now)) }
-        ensures rest { record store.new { marked = [] } ≡ record store.old { marked = [] } }
+    /// There are few names of streams: 256 sources and masks each, and 16 contexts with a target and 32 layers.
+    pub fn few_names(&self)
+        ensures { length (core_names self.now) ≤ 1552 }
     {
-        self.objects.mark(store);
+        self.objects.few_names();
     }
 }

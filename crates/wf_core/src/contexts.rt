@@ -3,6 +3,8 @@
 ghost use Rattle.std.specs.Prelude.{◌≡◌, ◌==◌, false, pos, Ok, IfOk, IfSome, IsSome, IsTrue, OnOk};
 ghost use Rattle.wf_words.specs.Whole.{count_of};
 ghost use Rattle.wf_pixel.specs.Choice.{is_between};
+ghost use Rattle.wf_stream.specs.Names.{HasRoom, NamesFit};
+ghost use Rattle.wf_model.specs.Names.{core_names};
 ghost use Rattle.wf_model.specs.Core.{context_destroy, context_get, context_set, is_drawable, screen_context, stream_context};
 ghost use Rattle.wf_core.specs.Screens.{IsTarget, screen_seen};
 ghost use Rattle.wf_core.specs.Steps.{Asks, KeepsAll, Steps};
@@ -12,7 +14,7 @@ ghost use Rattle.wf_objects.specs.Owners.{live_device};
 ghost use Rattle.wf_model.specs.Fitting.{IsOfPixels};
 ghost use Rattle.wf_objects.specs.Sides.{KeepsRest, core_side_of};
 
-use crate::answers::answer;
+use crate::answers::reply;
 use crate::composition::Core;
 use crate::streams::{seen_by_handle, seen_by_number};
 use wf_calls::{Code, Refusal, Reply};
@@ -77,6 +79,8 @@ pub(crate) fn try_screen_context(
     screen: Option<u32>,
 ) -> Result<u32, Refusal>
     requires fits { Fits objects.old store.old }
+    requires names { NamesFit (core_names objects.old) store.old }
+    requires room { HasRoom store.old }
     requires declared { IsSome screen → IsTrue (is_between (pos 1) (pos 4) port) }
     requires pixels { IfSome screen (IsOfPixels store.old.streams) }
     ensures { Does (λ m. screen_context device port screen m) objects.old objects.new store.old store.new result }
@@ -125,7 +129,9 @@ pub(crate) fn try_stream_context(
     device: u32,
     stream: u32,
 ) -> Result<u32, Refusal>
-    requires { Fits objects.old store.old }
+    requires fits { Fits objects.old store.old }
+    requires names { NamesFit (core_names objects.old) store.old }
+    requires room { HasRoom store.old }
     ensures { Does (stream_context device stream) objects.old objects.new store.old store.new result }
 {
     match stream_target(objects, store, device, stream) {
@@ -140,7 +146,8 @@ pub(crate) fn try_context_destroy(
     device: u32,
     context: u32,
 ) -> Result<u32, Refusal>
-    requires { Fits objects.old store.old }
+    requires fits { Fits objects.old store.old }
+    requires names { NamesFit (core_names objects.old) store.old }
     ensures { Does (λ _. context_destroy device context) objects.old objects.new store.old store.new result }
 {
     let place = objects.context_place(store, device, context)?;
@@ -190,33 +197,38 @@ impl Core {
         screen: Option<u32>,
     ) -> Reply
         requires fits { Fits self.old store.old }
+        requires names { NamesFit (core_names self.old) store.old }
+        requires room { HasRoom store.old }
         requires declared { IsSome screen → IsTrue (is_between (pos 1) (pos 4) port) }
         requires pixels { IfSome screen (IsOfPixels store.old.streams) }
         ensures { Steps device (λ m. screen_context device port screen m) KeepsRest self.old self.new store.old store.new result }
     {
         let done = try_screen_context(&mut self.objects, store, device, port, screen);
-        Reply::bare(answer(&mut self.objects, store, device, done))
+        reply(&mut self.objects, store, device, done)
     }
 
     /// Makes an off-screen context, which draws into the stream of a live handle, and answers the context's handle.
     /// BadHandle is no live stream; Unsupported a stream that is neither premultiplied nor without alpha; InUse a stream
     /// into which a context draws; Limit a 17th context, or that all handles were given.
     pub fn stream_context(&mut self, store: &mut Store, device: u32, stream: u32) -> Reply
-        requires { Fits self.old store.old }
+        requires fits { Fits self.old store.old }
+        requires names { NamesFit (core_names self.old) store.old }
+        requires room { HasRoom store.old }
         ensures { Steps device (stream_context device stream) KeepsRest self.old self.new store.old store.new result }
     {
         let done = try_stream_context(&mut self.objects, store, device, stream);
-        Reply::bare(answer(&mut self.objects, store, device, done))
+        reply(&mut self.objects, store, device, done)
     }
 
-    /// Destroys a context with its elements, sources and masks. BadHandle is no context of the device. The streams are
-    /// still kept.
+    /// Destroys a context with its elements, sources and masks. BadHandle is no context of the device. A stream that it named
+    /// last is dropped.
     pub fn context_destroy(&mut self, store: &mut Store, device: u32, context: u32) -> Reply
-        requires { Fits self.old store.old }
+        requires fits { Fits self.old store.old }
+        requires names { NamesFit (core_names self.old) store.old }
         ensures { Steps device (λ _. context_destroy device context) KeepsRest self.old self.new store.old store.new result }
     {
         let done = try_context_destroy(&mut self.objects, store, device, context);
-        Reply::bare(answer(&mut self.objects, store, device, done))
+        reply(&mut self.objects, store, device, done)
     }
 
     /// Sets an attribute of a context: its rotation or its background. IllegalArgument is a number outside its range.
@@ -232,7 +244,7 @@ impl Core {
         ensures { Steps device (λ _. context_set device context attr value) KeepsAll self.old self.new store.old store.new result }
     {
         let done = try_context_set(&mut self.objects, store, device, context, attr, value);
-        Reply::bare(answer(&mut self.objects, store, device, done))
+        reply(&mut self.objects, store, device, done)
     }
 
     /// One number of an attribute of a context, by its index from 0.
@@ -248,6 +260,6 @@ impl Core {
         ensures { Steps device (λ _. context_get device context attr index) KeepsAll self.old self.new store.old store.new result }
     {
         let done = try_context_get(&self.objects, store, device, context, attr, index);
-        Reply::bare(answer(&mut self.objects, store, device, done))
+        reply(&mut self.objects, store, device, done)
     }
 }

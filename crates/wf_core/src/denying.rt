@@ -11,7 +11,7 @@ ghost use Rattle.wf_core.specs.Steps.{IsGiven, KeepsAll, Steps};
 ghost use Rattle.wf_objects.specs.Does.{Does};
 ghost use Rattle.wf_objects.specs.Fits.{Fits};
 
-use crate::answers::answer;
+use crate::answers::reply;
 use crate::composition::Core;
 use crate::contexts::{screen_target, stream_target};
 use crate::sources::linked_stream;
@@ -123,6 +123,6 @@ impl Core {
         ensures { Steps (device_of call.now) (λ _. core_call screen true call.now) KeepsAll self.old self.new store.now store.now result }
     {
         let denied = deny(&self.objects, store, call, screen);
-        Reply::bare(answer(&mut self.objects, store, call.device(), denied))
+        reply(&mut self.objects, store, call.device(), denied)
     }
 }

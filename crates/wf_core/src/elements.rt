@@ -7,7 +7,7 @@ ghost use Rattle.wf_objects.specs.Does.{Does};
 ghost use Rattle.wf_objects.specs.Fits.{Fits};
 ghost use Rattle.wf_objects.specs.Sides.{KeepsRest};
 
-use crate::answers::answer;
+use crate::answers::reply;
 use crate::composition::Core;
 use wf_calls::{Code, Refusal, Reply};
 use wf_objects::{Objects, by_scene};
@@ -135,7 +135,7 @@ impl Core {
         ensures { Steps device (λ m. element_new device context m) KeepsRest self.old self.new store.old store.new result }
     {
         let done = try_element_new(&mut self.objects, store, device, context);
-        Reply::bare(answer(&mut self.objects, store, device, done))
+        reply(&mut self.objects, store, device, done)
     }
 
     /// Destroys an element, which leaves the order too. BadHandle is no element of the device.
@@ -144,7 +144,7 @@ impl Core {
         ensures { Steps device (λ _. element_destroy device element) KeepsRest self.old self.new store.old store.new result }
     {
         let done = try_element_destroy(&mut self.objects, store, device, element);
-        Reply::bare(answer(&mut self.objects, store, device, done))
+        reply(&mut self.objects, store, device, done)
     }
 
     /// Sets an attribute of an element. BadHandle is a source or a mask that is neither 0 nor one of the device;
@@ -161,7 +161,7 @@ impl Core {
         ensures { Steps device (λ _. element_set device element attr value) KeepsAll self.old self.new store.old store.new result }
     {
         let done = try_element_set(&mut self.objects, store, device, element, attr, value);
-        Reply::bare(answer(&mut self.objects, store, device, done))
+        reply(&mut self.objects, store, device, done)
     }
 
     /// One number of an attribute of an element, by its index from 0. A negative one is answered in two's complement.
@@ -177,7 +177,7 @@ impl Core {
         ensures { Steps device (λ _. element_get device element attr index) KeepsAll self.old self.new store.old store.new result }
     {
         let done = try_element_get(&self.objects, store, device, element, attr, index);
-        Reply::bare(answer(&mut self.objects, store, device, done))
+        reply(&mut self.objects, store, device, done)
     }
 
     /// Puts or moves an element directly above another, or to the bottom where that is 0. BadHandle is no element of the
@@ -193,7 +193,7 @@ impl Core {
         ensures { Steps device (λ _. element_insert device element below) KeepsAll self.old self.new store.old store.new result }
     {
         let done = try_element_insert(&mut self.objects, store, device, element, below);
-        Reply::bare(answer(&mut self.objects, store, device, done))
+        reply(&mut self.objects, store, device, done)
     }
 
     /// Takes an inserted element out of the order. It lives on.
@@ -202,7 +202,7 @@ impl Core {
         ensures { Steps device (λ _. element_remove device element) KeepsAll self.old self.new store.old store.new result }
     {
         let done = try_element_remove(&mut self.objects, store, device, element);
-        Reply::bare(answer(&mut self.objects, store, device, done))
+        reply(&mut self.objects, store, device, done)
     }
 
     /// The element directly above an inserted one, or 0.
@@ -211,7 +211,7 @@ impl Core {
         ensures { Steps device (λ _. element_above device element) KeepsAll self.old self.new store.old store.new result }
     {
         let done = try_element_above(&self.objects, store, device, element);
-        Reply::bare(answer(&mut self.objects, store, device, done))
+        reply(&mut self.objects, store, device, done)
     }
 
     /// The element directly below an inserted one, or 0.
@@ -220,6 +220,6 @@ impl Core {
         ensures { Steps device (λ _. element_below device element) KeepsAll self.old self.new store.old store.new result }
     {
         let done = try_element_below(&self.objects, store, device, element);
-        Reply::bare(answer(&mut self.objects, store, device, done))
+        reply(&mut self.objects, store, device, done)
     }
 }

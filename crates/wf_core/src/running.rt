@@ -3,6 +3,8 @@
 ghost use Rattle.std.specs.Prelude.{IsTrue};
 ghost use Rattle.wf_calls.specs.Parts.{device_of, is_of_core, part_of};
 ghost use Rattle.wf_calls.specs.Replies.{bare};
+ghost use Rattle.wf_stream.specs.Names.{HasRoom, NamesFit};
+ghost use Rattle.wf_model.specs.Names.{core_names};
 ghost use Rattle.wf_model.specs.Core.{core_call};
 ghost use Rattle.wf_core.specs.Steps.{IsGiven, Steps};
 ghost use Rattle.wf_objects.specs.Does.{Does};
@@ -35,6 +37,8 @@ fn carry_out(
     screen: Option<u32>,
 ) -> Result<u32, Refusal>
     requires fits { Fits objects.old store.old }
+    requires names { NamesFit (core_names objects.old) store.old }
+    requires room { HasRoom store.old }
     requires ours { IsTrue (is_of_core (part_of call.now)) }
     requires given { IsGiven call.now screen store.old.streams }
     ensures { Does (λ m. core_call screen m call.now) objects.old objects.new store.old store.new result }
@@ -125,6 +129,8 @@ impl Core {
     /// Runs a call of composition: it does and answers what the method of its name does.
     pub fn run(&mut self, store: &mut Store, call: &Call, screen: Option<u32>) -> Answer
         requires fits { Fits self.old store.old }
+        requires names { NamesFit (core_names self.old) store.old }
+        requires room { HasRoom store.old }
         requires ours { IsTrue (is_of_core (part_of call.now)) }
         requires given { IsGiven call.now screen store.old.streams }
         ensures { Steps (device_of call.now) (λ m. core_call screen m call.now) KeepsRest self.old self.new store.old store.new

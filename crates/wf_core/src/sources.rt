@@ -3,6 +3,8 @@
 ghost use Rattle.std.specs.Prelude.{◌≡◌, IfOk, IsSomeAnd};
 ghost use Rattle.wf_pixel.specs.Choice.{is_a8};
 ghost use Rattle.wf_stream.specs.Streams.{buffers_at};
+ghost use Rattle.wf_stream.specs.Names.{HasRoom, NamesFit};
+ghost use Rattle.wf_model.specs.Names.{core_names};
 ghost use Rattle.wf_model.specs.Core.{mask_destroy, mask_new, source_destroy, source_new};
 ghost use Rattle.wf_core.specs.Links.{is_unfit, link_destroy, link_new};
 ghost use Rattle.wf_core.specs.Steps.{Asks, Steps};
@@ -10,7 +12,7 @@ ghost use Rattle.wf_objects.specs.Does.{Does, link_made};
 ghost use Rattle.wf_objects.specs.Fits.{Fits};
 ghost use Rattle.wf_objects.specs.Sides.{KeepsRest, core_side_of};
 
-use crate::answers::answer;
+use crate::answers::reply;
 use crate::composition::Core;
 use crate::streams::seen_by_handle;
 use wf_calls::{Code, Refusal, Reply};
@@ -60,7 +62,9 @@ pub(crate) fn try_link_new(
     context: u32,
     stream: u32,
 ) -> Result<u32, Refusal>
-    requires { Fits objects.old store.old }
+    requires fits { Fits objects.old store.old }
+    requires names { NamesFit (core_names objects.old) store.old }
+    requires room { HasRoom store.old }
     ensures { Does (link_new mask device context stream) objects.old objects.new store.old store.new result }
 {
     match linked_stream(objects, store, mask, device, context, stream) {
@@ -76,7 +80,8 @@ pub(crate) fn try_link_destroy(
     device: u32,
     link: u32,
 ) -> Result<u32, Refusal>
-    requires { Fits objects.old store.old }
+    requires fits { Fits objects.old store.old }
+    requires names { NamesFit (core_names objects.old) store.old }
     ensures { Does (λ _. link_destroy mask device link) objects.old objects.new store.old store.new result }
 {
     objects.check_link_owned(store, mask, device, link)?;
@@ -88,40 +93,46 @@ impl Core {
     /// Makes a source of a context, whose handle it answers. BadHandle is no context of the device or no live stream;
     /// Unsupported a stream for masks; Limit a 257th source or mask, or that all handles were given.
     pub fn source_new(&mut self, store: &mut Store, device: u32, context: u32, stream: u32) -> Reply
-        requires { Fits self.old store.old }
+        requires fits { Fits self.old store.old }
+        requires names { NamesFit (core_names self.old) store.old }
+        requires room { HasRoom store.old }
         ensures { Steps device (λ m. source_new device context stream m) KeepsRest self.old self.new store.old store.new result }
     {
         let done = try_link_new(&mut self.objects, store, false, device, context, stream);
-        Reply::bare(answer(&mut self.objects, store, device, done))
+        reply(&mut self.objects, store, device, done)
     }
 
     /// Makes a mask of a context, whose handle it answers. It is refused as a source is, but that Unsupported is a stream
     /// that is not for masks.
     pub fn mask_new(&mut self, store: &mut Store, device: u32, context: u32, stream: u32) -> Reply
-        requires { Fits self.old store.old }
+        requires fits { Fits self.old store.old }
+        requires names { NamesFit (core_names self.old) store.old }
+        requires room { HasRoom store.old }
         ensures { Steps device (λ m. mask_new device context stream m) KeepsRest self.old self.new store.old store.new result }
     {
         let done = try_link_new(&mut self.objects, store, true, device, context, stream);
-        Reply::bare(answer(&mut self.objects, store, device, done))
+        reply(&mut self.objects, store, device, done)
     }
 
-    /// Destroys a source. BadHandle is no source of the device. Its stream is still kept, and a committed scene may show
-    /// it.
+    /// Destroys a source. BadHandle is no source of the device. Its stream is dropped where that was its last name; a
+    /// committed scene that shows it is another.
     pub fn source_destroy(&mut self, store: &mut Store, device: u32, source: u32) -> Reply
-        requires { Fits self.old store.old }
+        requires fits { Fits self.old store.old }
+        requires names { NamesFit (core_names self.old) store.old }
         ensures { Steps device (λ _. source_destroy device source) KeepsRest self.old self.new store.old store.new result }
     {
         let done = try_link_destroy(&mut self.objects, store, false, device, source);
-        Reply::bare(answer(&mut self.objects, store, device, done))
+        reply(&mut self.objects, store, device, done)
     }
 
-    /// Destroys a mask. BadHandle is no mask of the device. Its stream is still kept, and a committed scene may show
-    /// through it.
+    /// Destroys a mask. BadHandle is no mask of the device. Its stream is dropped where that was its last name; a committed
+    /// scene that shows through it is another.
     pub fn mask_destroy(&mut self, store: &mut Store, device: u32, mask: u32) -> Reply
-        requires { Fits self.old store.old }
+        requires fits { Fits self.old store.old }
+        requires names { NamesFit (core_names self.old) store.old }
         ensures { Steps device (λ _. mask_destroy device mask) KeepsRest self.old self.new store.old store.new result }
     {
         let done = try_link_destroy(&mut self.objects, store, true, device, mask);
-        Reply::bare(answer(&mut self.objects, store, device, done))
+        reply(&mut self.objects, store, device, done)
     }
 }

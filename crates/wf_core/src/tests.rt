@@ -2,7 +2,9 @@
 
 ghost use Rattle.std.specs.Prelude.{pos, IfOk, IfSome, IsTrue};
 ghost use Rattle.wf_pixel.specs.Choice.{is_between};
+ghost use Rattle.wf_model.specs.Names.{core_names};
 ghost use Rattle.wf_objects.specs.Fits.{Fits};
+ghost use Rattle.wf_objects.specs.Ours.{AreOurs};
 ghost use Rattle.wf_model.specs.Fitting.{IsOfPixels};
 
 use crate::{Core, NoMemory};
@@ -20,7 +22,8 @@ fn told(reply: Reply) -> (Code, u32) {
 /// No objects, and a store with the screen, a stream 1 of one pixel, a stream 2 for masks of 5 by 2, and a stream 3 that a context
 /// may draw into.
 fn staged(alloc: Global) -> Result<(Core, Store), NoMemory>
-    ensures { IfOk result (λ both. Fits both.0 both.1) }
+    ensures fits { IfOk result (λ both. Fits both.0 both.1) }
+    ensures ours { IfOk result (λ both. AreOurs (core_names both.0) both.1) }
 {
     let mut store = Store::new(alloc);
     store.screen(Size { w: 4, h: 2 })?;
@@ -50,24 +53,37 @@ fn screen(store: &Store) -> Option<u32>
 /// Makes the context of a port, which shows the screen.
 fn screened(core: &mut Core, store: &mut Store, device: u32, port: i64) -> (Code, u32)
     requires fits { Fits core.old store.old }
+    requires ours { AreOurs (core_names core.old) store.old }
     requires declared { IsTrue (is_between (pos 1) (pos 4) port) }
-    ensures { Fits core.new store.new }
+    ensures fits { Fits core.new store.new }
+    ensures ours { AreOurs (core_names core.new) store.new }
 {
+    core.few_names();
     let screen = screen(store);
     told(core.screen_context(store, device, port, screen))
+}
+
+/// Makes a device, two contexts, an element, a source and a mask.
+fn made(core: &mut Core, store: &mut Store) -> [(Code, u32); 6]
+    requires fits { Fits core.old store.old }
+    requires ours { AreOurs (core_names core.old) store.old }
+{
+    let device = told(core.device_new(store));
+    let context = screened(core, store, 4, 1);
+    core.few_names();
+    let off_screen = told(core.stream_context(store, 4, 3));
+    let element = told(core.element_new(store, 4, 5));
+    core.few_names();
+    let source = told(core.source_new(store, 4, 5, 1));
+    core.few_names();
+    let mask = told(core.mask_new(store, 4, 5, 2));
+    [device, context, off_screen, element, source, mask]
 }
 
 #[test]
 fn creations_have_memory(rt: HostRuntime) -> Result<(), Fail> {
     let (mut core, mut store) = staged(rt.alloc())?;
-    let device = told(core.device_new(&mut store));
-    let context = screened(&mut core, &mut store, 4, 1);
-    let off_screen = told(core.stream_context(&mut store, 4, 3));
-    let element = told(core.element_new(&mut store, 4, 5));
-    let source = told(core.source_new(&mut store, 4, 5, 1));
-    let mask = told(core.mask_new(&mut store, 4, 5, 2));
-    let made = [device, context, off_screen, element, source, mask];
     let want = [4, 5, 6, 7, 8, 9].map(|handle| (Code::Ok, handle));
-    assert_eq!(rt; made, want);
+    assert_eq!(rt; made(&mut core, &mut store), want);
     Ok(())
 }

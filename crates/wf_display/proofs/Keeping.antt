@@ -93,7 +93,7 @@ each_given : {A B : Type 0} (P : A → Type 0) (Q : B → Type 0) (f : ℕ → A
 each_given P Q f from n [] all = tt
 each_given P Q f from n (x ∷ xs) all = (from n x all.0, each_given P Q f from (n + 1) xs all.1)
 
-as_many_given : {A B : Type 0} (f : ℕ → A → B) (n : ℕ) (xs : List A) → length (each_from f n xs) ≡ length xs
+pub as_many_given : {A B : Type 0} (f : ℕ → A → B) (n : ℕ) (xs : List A) → length (each_from f n xs) ≡ length xs
 as_many_given f n [] = refl
 as_many_given f n (x ∷ xs) = ap suc (as_many_given f (n + 1) xs)
 

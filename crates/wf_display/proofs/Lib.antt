@@ -2,6 +2,8 @@ pub mod Rects
 pub mod Styles
 pub mod Setting
 pub mod Keeping
+pub mod NameCounts
+pub mod Renaming
 pub mod Making
 pub mod Layering
 pub mod Opened

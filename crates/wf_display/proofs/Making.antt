@@ -1,11 +1,12 @@
 -- Sources that are made and destroyed: what is found of their streams, and what is left fits.
-use Rattle.std.proofs.Common.{◌≡◌, ◌∙◌, ℕ, ◌+◌, Bool, true, false, not, ◌==◌, List, [], ◌∷◌, ◌++◌, filter, map}
-use Rattle.std.proofs.Common.{Option, Some, None, is_some, Ok, option_map, refl, sym, ap}
+use Rattle.std.proofs.Common.{◌≡◌, ◌∙◌, ℕ, ◌+◌, ◌<◌, Bool, true, false, not, ◌==◌, List, [], ◌∷◌, ◌++◌, filter, map}
+use Rattle.std.proofs.Common.{Option, Some, None, is_some, Ok, Err, option_map, refl, sym, ap, subst, arith}
 use Rattle.std.specs.Prelude.{ℤ, IsSomeAnd}
 use Rattle.wf_words.specs.Each.{each_filtered, each_more}
 use Rattle.wf_words.specs.Filtered.{count_left, more_left, more_passed}
 use Rattle.wf_words.specs.Found.{any_found}
 use Rattle.wf_words.specs.Refusals.{◌>>=◌}
+use Rattle.wf_words.specs.Rising.{Rises, rises_filter, rises_map}
 use Rattle.wf_words.specs.Whole.{count_of}
 use Rattle.wf_pixel.specs.Choice.{is_a8}
 use Rattle.wf_life.specs.declared.Kind.{Kind}
@@ -13,17 +14,26 @@ use Rattle.wf_life.specs.declared.Kind.TheVariants as kind
 use Rattle.wf_life.specs.Handles.{Live, is_full, is_live, live_count, rises_live, rising_more, rising_without, same_kind, without}
 use Rattle.wf_life.specs.Living.{IsUnder, count_stays, left_out, live, lives, object_under, taken_out}
 use Rattle.wf_stream.specs.Buffers.{Buffers}
+use Rattle.wf_stream.specs.Counts.{counted, times}
+use Rattle.wf_stream.specs.Names.{IsReleasable, NamesFit, Recounts, but_names, releasable}
 use Rattle.wf_stream.specs.Streams.{IsNumbered, KeptStream, StoreView, buffers_at, number_of, stream_of, with_other}
 use Rattle.wf_calls.specs.declared.code.Code.TheVariants as code
+use Rattle.wf_calls.specs.declared.reply.Refusal.{Refusal}
+use Rattle.wf_calls.specs.Replies.{refusal}
 use Rattle.wf_model.specs.declared.display.DisplaySource.{DisplaySource}
 use Rattle.wf_model.specs.Composition.{by_handle}
 use Rattle.wf_model.specs.DisplaySides.{on_display, pipeline, source_at}
+use Rattle.wf_model.specs.Names.{display_names}
 use Rattle.wf_model.specs.Outcome.{refuse, refused_handle}
 use Rattle.wf_model.specs.Pipelines.{all_sources, display_source, display_source_destroy, pixel_stream, without_source}
 use Rattle.wf_model.specs.State.{DisplayState}
 use Rattle.wf_display.specs.Does.{Does}
 use Rattle.wf_display.specs.Fits.{Fits, ShowsPixels, source_live}
+use Rattle.wf_display.specs.Named.{named_fits}
 use Rattle.wf_display.specs.Sides.{display_side_of}
+use Rattle.wf_display.proofs.NameCounts.{in_parts, source_less, source_more, source_named}
+use Rattle.wf_display.proofs.Renaming.{told_as}
+use Rattle.wf_display.proofs.Setting.{counted_does, same_fits}
 
 -- the stream of a live handle, by its number
 module _ (handle n high : ℕ) (streams : List KeptStream) (rising : IsNumbered 0 streams high) (is : Some n ≡ number_of handle streams) where
@@ -58,6 +68,17 @@ passes_handle made given = of_test (is_full made) given
     of_test true given = absurd cc
     of_test false given = refl
 
+-- and a refusal is that of the call
+pub refuses_handle : {A : Type 0} (made : ℕ) (refused : Bool) (r : Refusal) (x : A) → Err r ≡ refused_handle made refused
+    → (refuse code.Limit (is_full made) >>= (λ _. refuse code.OutOfMemory refused >>= (λ _. Ok x))) ≡ Err r
+refuses_handle made refused r x given = of_test (is_full made) refused given
+  where
+    of_test : (b c : Bool) → Err r ≡ (refuse code.Limit b >>= (λ _. refuse code.OutOfMemory c))
+        → (refuse code.Limit b >>= (λ _. refuse code.OutOfMemory c >>= (λ _. Ok x))) ≡ Err r
+    of_test true c given = (let same : r ≡ refusal code.Limit = cc in ap Err (sym same))
+    of_test false true given = (let same : r ≡ refusal code.OutOfMemory = cc in ap Err (sym same))
+    of_test false false given = absurd cc
+
 -- a source is made for a pipeline that was found, of a stream of pixels
 module _ (d : DisplayState) (store : StoreView) (fits : Fits d store) (l : ℤ) (handle n : ℕ)
     (pipeline_found : (x : _) × (pipeline l d ≡ Ok x)) (stream : pixel_stream handle store.streams ≡ Ok n)
@@ -73,44 +94,52 @@ module _ (d : DisplayState) (store : StoreView) (fits : Fits d store) (l : ℤ) 
   now = with_other kind.DisplaySource n store
 
   -- the other kinds are counted as before
-  counted : (k : Kind) → same_kind kind.DisplaySource k ≡ false → live_count k now.others ≡ live_count k store.others
-  counted k other = count_left (λ x. same_kind x.kind k) store.others (live kind.DisplaySource (store.made + 1) n) other
+  others_counted : (k : Kind) → same_kind kind.DisplaySource k ≡ false → live_count k now.others ≡ live_count k store.others
+  others_counted k other = count_left (λ x. same_kind x.kind k) store.others (live kind.DisplaySource (store.made + 1) n) other
 
-  pub source_does : Does (display_source l handle) d left store now (Ok (store.made + 1))
-  source_does =
+  source_fits : Fits left now
+  source_fits =
       record {
-        case = rw (pipeline_found.1, stream, room, passes_handle store.made given)
-            (ap (λ count. Ok (
-              record { made = store.made + 1; streams = store.streams; display = left; composition_sources = count },
-              store.made + 1,
-            )) (sym (ap (λ k. k + live_count kind.Mask now.others) (counted kind.Source refl)
-            ∙ ap (λ k. live_count kind.Source store.others + k) (counted kind.Mask refl))));
-        refused = tt;
-        untouched = tt;
-        kept = record {
-          streams = refl;
-          numbered = refl;
-          others = more_left (λ x. not (same_kind x.kind kind.DisplaySource)) store.others (live kind.DisplaySource
-              (store.made + 1) n) refl;
+        handles = record {
+          rising = rising_more 0 store.made store.others kind.DisplaySource n fits.handles.rising;
+          sources = more_passed (λ x. same_kind x.kind kind.DisplaySource) store.others (live kind.DisplaySource (store.made + 1) n) refl
+              ∙ ap (λ xs. xs ++ live kind.DisplaySource (store.made + 1) n ∷ []) fits.handles.sources
+              ∙ sym (map_more d.sources);
         };
-        fits = record {
-          handles = record {
-            rising = rising_more 0 store.made store.others kind.DisplaySource n fits.handles.rising;
-            sources = more_passed (λ x. same_kind x.kind kind.DisplaySource) store.others (live kind.DisplaySource (store.made + 1) n) refl
-                ∙ ap (λ xs. xs ++ live kind.DisplaySource (store.made + 1) n ∷ []) fits.handles.sources
-                ∙ sym (map_more d.sources);
-          };
-          streams = record {
-            screens = fits.streams.screens;
-            sources = each_more (ShowsPixels store.streams) d.sources new fits.streams.sources pixels;
-            pipelines = fits.streams.pipelines;
-          };
+        streams = record {
+          screens = fits.streams.screens;
+          sources = each_more (ShowsPixels store.streams) d.sources new fits.streams.sources pixels;
+          pipelines = fits.streams.pipelines;
         };
       }
     where
       map_more : (xs : List DisplaySource) → map source_live (xs ++ new ∷ []) ≡ map source_live xs ++ source_live new ∷ []
       map_more [] = refl
       map_more (x ∷ xs) = ap (λ ys. source_live x ∷ ys) (map_more xs)
+
+  -- its stream has one name more
+  source_names_are : (m : ℕ) → times m (display_names d) + times m (n ∷ []) ≡ times m (display_names left)
+  source_names_are m =
+      let old = in_parts m d in
+      let more = in_parts m left in
+      let one = source_more m d.sources new in
+      omega (arith, old, more, one)
+
+  pub source_does : (named : StoreView) → but_names named ≡ but_names now → named.streams ≡ store.streams
+      → Recounts [] (n ∷ []) now named → Does (display_source l handle) d left store named (Ok (store.made + 1))
+  source_does named rest streams changed =
+      counted_does (display_source l handle) d left store named (store.made + 1) now.others (store.made + 1)
+      (rw (pipeline_found.1, stream, room, passes_handle store.made given)
+      (ap (λ count. Ok (
+        record { made = store.made + 1; streams = store.streams; display = left; composition_sources = count },
+        store.made + 1,
+      )) (sym (ap (λ k. k + live_count kind.Mask now.others) (others_counted kind.Source refl)
+      ∙ ap (λ k. live_count kind.Source store.others + k) (others_counted kind.Mask refl)))))
+      (more_left (λ x. not (same_kind x.kind kind.DisplaySource)) store.others (live kind.DisplaySource (store.made + 1) n) refl)
+      rest
+      (told_as store named (store.made + 1) now.others [] (n ∷ []) (display_names d) (display_names left) changed
+      (λ m some. (let are = source_names_are m in omega (arith, are))))
+      (same_fits left now named rest streams source_fits)
 
 -- a source that lives is destroyed
 module _ (d : DisplayState) (store : StoreView) (fits : Fits d store) (h : ℕ) (some : is_some (source_at h d.sources) ≡ true) where
@@ -133,45 +162,62 @@ module _ (d : DisplayState) (store : StoreView) (fits : Fits d store) (h : ℕ) 
   abbrev pub dead : StoreView
   dead = record store { others = without h store.others }
 
-  found_source : (x : DisplaySource) × (source_at h d.sources ≡ Some x)
-  found_source = of_source (source_at h d.sources) refl some
-    where
-      of_source : (o : Option DisplaySource) → source_at h d.sources ≡ o → is_some o ≡ true
-          → (x : DisplaySource) × (source_at h d.sources ≡ Some x)
-      of_source None at there = absurd cc
-      of_source (Some x) at there = (x, at)
-
-  pub destroy_does : Does (λ _. on_display (display_source_destroy h)) d (without_source h d) store dead (Ok 0)
-  destroy_does =
+  dead_fits : Fits (without_source h d) dead
+  dead_fits =
       record {
-        case = rw (found_source.1)
-            (ap (λ count. Ok (
-              record {
-                made = store.made;
-                streams = store.streams;
-                display = without_source h d;
-                composition_sources = count;
-              },
-              0,
-            )) (sym (ap (λ k. k + live_count kind.Mask dead.others) (counts kind.Source refl)
-            ∙ ap (λ k. live_count kind.Source store.others + k) (counts kind.Mask refl))));
-        refused = tt;
-        untouched = tt;
-        kept = record {
-          streams = refl;
-          numbered = refl;
-          others = stays (λ x. not (same_kind x.kind kind.DisplaySource))
-              (λ x is. ap (λ i. not (same_kind i kind.DisplaySource)) is);
+        handles = record {
+          rising = rising_without h 0 store.made store.others fits.handles.rising;
+          sources = taken_out (λ x. same_kind x.kind kind.DisplaySource) source_live h d.sources store.others fits.handles.sources;
         };
-        fits = record {
-          handles = record {
-            rising = rising_without h 0 store.made store.others fits.handles.rising;
-            sources = taken_out (λ x. same_kind x.kind kind.DisplaySource) source_live h d.sources store.others fits.handles.sources;
-          };
-          streams = record {
-            screens = fits.streams.screens;
-            sources = each_filtered (ShowsPixels store.streams) (λ s. not (s.handle == h)) d.sources fits.streams.sources;
-            pipelines = fits.streams.pipelines;
-          };
+        streams = record {
+          screens = fits.streams.screens;
+          sources = each_filtered (ShowsPixels store.streams) (λ s. not (s.handle == h)) d.sources fits.streams.sources;
+          pipelines = fits.streams.pipelines;
         };
       }
+
+  -- the handles of the sources rise
+  sources_rise : Rises (λ s. s.handle) 0 d.sources
+  sources_rise =
+      rises_map (λ (l : Live). l.handle) source_live 0 d.sources
+      (subst (λ ls. Rises (λ (l : Live). l.handle) 0 ls) fits.handles.sources
+      (rises_filter (λ (l : Live). l.handle) (λ l. same_kind l.kind kind.DisplaySource) 0 store.others
+      (rises_live 0 store.made store.others fits.handles.rising)))
+
+  module _ (s : DisplaySource) (found : source_at h d.sources ≡ Some s) (named : NamesFit (display_names d) store) where
+    -- its stream has one name fewer
+    names_left : (n : ℕ) → times n (display_names (without_source h d)) + times n (s.stream ∷ []) ≡ times n (display_names d)
+    names_left n =
+        let old = in_parts n d in
+        let left = in_parts n (without_source h d) in
+        let less = source_less n h 0 d.sources s sources_rise found in
+        omega (arith, old, left, less)
+
+    -- the names are counted when the handle is dead
+    dead_named : NamesFit (display_names d) dead
+    dead_named = record { counted = named.counted; named = named.named }
+
+    -- so the name of the stream can end
+    pub stream_released : 0 < s.stream → IsReleasable s.stream dead
+    stream_released some =
+        let there = source_named h d.sources s found in
+        let whole = in_parts s.stream d in
+        releasable s.stream (display_names d) dead dead_named some (omega (arith, there, whole))
+
+    pub destroy_does : (now : StoreView) → counted 0 now.counts ≡ counted 0 store.counts → but_names now ≡ but_names dead
+        → Recounts (s.stream ∷ []) [] dead now
+        → Does (λ _. on_display (display_source_destroy h)) d (without_source h d) store now (Ok 0)
+    destroy_does now zero_same rest changed =
+        counted_does (λ _. on_display (display_source_destroy h)) d (without_source h d) store now store.made (without h store.others) 0
+        (rw found
+        (ap (λ count. Ok (
+          record { made = store.made; streams = store.streams; display = without_source h d; composition_sources = count },
+          0,
+        )) (sym (ap (λ k. k + live_count kind.Mask dead.others) (counts kind.Source refl)
+        ∙ ap (λ k. live_count kind.Source store.others + k) (counts kind.Mask refl)))))
+        (stays (λ x. not (same_kind x.kind kind.DisplaySource)) (λ x is. ap (λ i. not (same_kind i kind.DisplaySource)) is))
+        rest
+        (told_as store now store.made dead.others (s.stream ∷ []) [] (display_names d) (display_names (without_source h d)) changed
+        (λ n some. (let left = names_left n in omega (arith, left))))
+        (named_fits dead now (s.stream ∷ []) [] dead_named.counted changed zero_same (without_source h d) (display_names d) dead_named rest
+        (λ n some. (let left = names_left n in omega (arith, left))) dead_fits)

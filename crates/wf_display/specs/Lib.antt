@@ -2,6 +2,7 @@
 pub mod Display
 pub mod Inside
 pub mod Fits
+pub mod Named
 pub mod Sides
 pub mod Places
 pub mod Does

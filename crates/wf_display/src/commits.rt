@@ -1,14 +1,19 @@
 //! Commits: what is cached of all that they take becomes committed, or nothing changes.
 
-ghost use Rattle.std.specs.Prelude.{◌≡◌, ◌≤◌, None, length, if◌then◌else◌};
+ghost use Rattle.std.specs.Prelude.{◌≡◌, ◌≤◌, ◌++◌, None, flat_map, length, map, if◌then◌else◌};
+ghost use Rattle.wf_stream.specs.Names.{HasRoom, NamesFit, Recounts, but_names};
+ghost use Rattle.wf_stream.specs.Streams.{count_of};
+ghost use Rattle.wf_model.specs.Names.{display_names, pipeline_names};
 ghost use Rattle.wf_model.specs.Numbered.{each_from};
 ghost use Rattle.wf_model.specs.DisplayCommits.{bound, commit_device, commit_display, commit_pipe, commit_port, committed};
 ghost use Rattle.wf_model.specs.DisplayCommits.{committed_pipeline, committed_port, fault_from, takes_pipeline, takes_port};
-ghost use Rattle.wf_display.specs.Does.{Does, KeepsAll, Steps};
+ghost use Rattle.wf_display.specs.Does.{Does, Steps};
 ghost use Rattle.wf_display.specs.Fits.{Fits};
+ghost use Rattle.wf_display.specs.Sides.{KeepsRest};
 
 use crate::checking::requested_stream;
 use crate::display::Display;
+use crate::naming::rename;
 use wf_calls::{Code, Refusal, Reply, Transition};
 use wf_model::{DisplaySource, Extent, Pipeline, Port, PortStyle};
 use wf_stream::Store;
@@ -112,31 +117,51 @@ fn commit_ports(ports: &mut [Port], extent: Extent)
     }
 }
 
-/// Commits the pipelines that are taken.
-fn commit_pipelines(pipelines: &mut [Pipeline], sources: &[DisplaySource], extent: Extent)
-    requires { length pipelines.old ≤ 8 }
-    ensures { pipelines.new ≡ each_from (λ l x. if takes_pipeline extent l x then committed_pipeline sources.now x else x) 1 pipelines.old }
+/// Commits the pipelines that are taken, and counts their names.
+fn commit_pipelines(
+    store: &mut Store,
+    pipelines: &mut [Pipeline],
+    sources: &[DisplaySource],
+    extent: Extent,
+)
+    requires few { length pipelines.old ≤ 8 }
+    requires names { NamesFit (map (λ s. s.stream) sources.now ++ flat_map pipeline_names pipelines.old) store.old }
+    requires room { HasRoom store.old }
+    ensures names { Recounts (flat_map pipeline_names pipelines.old) (flat_map pipeline_names pipelines.new) store.old store.new }
+    ensures none { count_of 0 store.new ≡ count_of 0 store.old }
+    ensures rest { but_names store.new ≡ but_names store.old }
+    ensures pipelines { pipelines.new ≡ each_from (λ l x. if takes_pipeline extent l x then committed_pipeline sources.now x else x) 1
+        pipelines.old }
 {
     for place in 0..pipelines.len() {
-        pipelines[place] = taken_pipeline(extent, place as u32 + 1, sources, &pipelines[place]);
+        let old = pipelines[place];
+        let new = taken_pipeline(extent, place as u32 + 1, sources, &old);
+        rename(store, old, new);
+        pipelines[place] = new;
     }
 }
 
 impl Display {
     /// Commits all that is taken, which keeps the rules.
-    fn take(&mut self, store: &Store, extent: Extent)
-        requires fits { Fits self.old store.now }
-        requires sound { fault_from extent store.now.streams self.old.sources 1 self.old.pipelines ≡ None }
+    fn take(&mut self, store: &mut Store, extent: Extent)
+        requires fits { Fits self.old store.old }
+        requires names { NamesFit (display_names self.old) store.old }
+        requires room { HasRoom store.old }
+        requires sound { fault_from extent store.old.streams self.old.sources 1 self.old.pipelines ≡ None }
         ensures taken { self.new ≡ committed extent self.old }
-        ensures fits { Fits self.new store.now }
+        ensures names { Recounts (display_names self.old) (display_names self.new) store.old store.new }
+        ensures rest { but_names store.new ≡ but_names store.old }
+        ensures fits { Fits self.new store.new }
     {
         commit_ports(&mut self.ports, extent);
-        commit_pipelines(&mut self.pipelines, &self.sources, extent);
+        commit_pipelines(store, &mut self.pipelines, &self.sources, extent);
     }
 
-    pub(crate) fn try_commit(&mut self, store: &Store, extent: Extent) -> Result<u32, Refusal>
-        requires { Fits self.old store.now }
-        ensures { Does (λ _. commit_display extent) self.old self.new store.now store.now result }
+    pub(crate) fn try_commit(&mut self, store: &mut Store, extent: Extent) -> Result<u32, Refusal>
+        requires fits { Fits self.old store.old }
+        requires names { NamesFit (display_names self.old) store.old }
+        requires room { HasRoom store.old }
+        ensures { Does (λ _. commit_display extent) self.old self.new store.old store.new result }
     {
         if let Some(fault) = self.first_fault(store, extent) {
             return Err(Refusal {
@@ -148,17 +173,21 @@ impl Display {
         Ok(0)
     }
 
-    pub(crate) fn try_commit_port(&mut self, store: &Store, port: i64) -> Result<u32, Refusal>
-        requires { Fits self.old store.now }
-        ensures { Does (λ _. commit_port port) self.old self.new store.now store.now result }
+    pub(crate) fn try_commit_port(&mut self, store: &mut Store, port: i64) -> Result<u32, Refusal>
+        requires fits { Fits self.old store.old }
+        requires names { NamesFit (display_names self.old) store.old }
+        requires room { HasRoom store.old }
+        ensures { Does (λ _. commit_port port) self.old self.new store.old store.new result }
     {
         let place = self.port_place(port)?;
         self.try_commit(store, Extent::Port(place as u32 + 1))
     }
 
-    pub(crate) fn try_commit_pipe(&mut self, store: &Store, pipe: i64) -> Result<u32, Refusal>
-        requires { Fits self.old store.now }
-        ensures { Does (λ _. commit_pipe pipe) self.old self.new store.now store.now result }
+    pub(crate) fn try_commit_pipe(&mut self, store: &mut Store, pipe: i64) -> Result<u32, Refusal>
+        requires fits { Fits self.old store.old }
+        requires names { NamesFit (display_names self.old) store.old }
+        requires room { HasRoom store.old }
+        ensures { Does (λ _. commit_pipe pipe) self.old self.new store.old store.new result }
     {
         let place = self.pipeline_place(pipe)?;
         self.try_commit(store, Extent::Pipeline(place as u32 + 1))
@@ -167,8 +196,10 @@ impl Display {
     /// Commits every port and every pipeline, as a whole or not at all. Inconsistency has the value pipeline * 16 + rule: the
     /// first pipeline that breaks a rule, and the first rule that it breaks. It takes no memory.
     pub fn commit_device(&mut self, store: &mut Store) -> Reply
-        requires { Fits self.old store.old }
-        ensures { Steps (λ _. commit_device) KeepsAll self.old self.new store.old store.new result }
+        requires fits { Fits self.old store.old }
+        requires names { NamesFit (display_names self.old) store.old }
+        requires room { HasRoom store.old }
+        ensures { Steps (λ _. commit_device) KeepsRest self.old self.new store.old store.new result }
     {
         let done = self.try_commit(store, Extent::Device);
         Reply::bare(self.answer(store, done))
@@ -177,8 +208,10 @@ impl Display {
     /// Commits a port, which is counted from 1, and each pipeline whose cached or committed port it is, as a whole or not at
     /// all. BadHandle is no port; Inconsistency as for the entire device.
     pub fn commit_port(&mut self, store: &mut Store, port: i64) -> Reply
-        requires { Fits self.old store.old }
-        ensures { Steps (λ _. commit_port port) KeepsAll self.old self.new store.old store.new result }
+        requires fits { Fits self.old store.old }
+        requires names { NamesFit (display_names self.old) store.old }
+        requires room { HasRoom store.old }
+        ensures { Steps (λ _. commit_port port) KeepsRest self.old self.new store.old store.new result }
     {
         let done = self.try_commit_port(store, port);
         Reply::bare(self.answer(store, done))
@@ -187,8 +220,10 @@ impl Display {
     /// Commits a pipeline, which is counted from 1, and no attribute of a port, as a whole or not at all. BadHandle is no
     /// pipeline; Inconsistency as for the entire device.
     pub fn commit_pipe(&mut self, store: &mut Store, pipe: i64) -> Reply
-        requires { Fits self.old store.old }
-        ensures { Steps (λ _. commit_pipe pipe) KeepsAll self.old self.new store.old store.new result }
+        requires fits { Fits self.old store.old }
+        requires names { NamesFit (display_names self.old) store.old }
+        requires room { HasRoom store.old }
+        ensures { Steps (λ _. commit_pipe pipe) KeepsRest self.old self.new store.old store.new result }
     {
         let done = self.try_commit_pipe(store, pipe);
         Reply::bare(self.answer(store, done))

@@ -7,7 +7,7 @@ mod commits;
 mod denying;
 mod display;
 mod finding;
-mod marking;
+mod naming;
 mod opening;
 mod pipelines;
 mod ports;

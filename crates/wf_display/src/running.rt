@@ -1,11 +1,13 @@
 //! Every call of the display, by one table.
 
 ghost use Rattle.std.specs.Prelude.{◌≡◌};
+ghost use Rattle.wf_stream.specs.Names.{HasRoom, NamesFit};
 ghost use Rattle.wf_calls.specs.Parts.{part_of};
 ghost use Rattle.wf_calls.specs.Replies.{bare};
 ghost use Rattle.wf_model.specs.Core.{register_number};
 ghost use Rattle.wf_model.specs.DisplayCalls.{display_call, display_error};
 ghost use Rattle.wf_model.specs.DisplaySides.{on_display};
+ghost use Rattle.wf_model.specs.Names.{display_names};
 ghost use Rattle.wf_display.specs.Does.{Does, KeepsAll, Steps};
 ghost use Rattle.wf_display.specs.Fits.{Fits};
 ghost use Rattle.wf_display.specs.Sides.{KeepsRest};
@@ -47,6 +49,8 @@ impl Display {
     /// Carries a call of the display out, or refuses it.
     fn carry_out(&mut self, store: &mut Store, call: &Call) -> Result<u32, Refusal>
         requires fits { Fits self.old store.old }
+        requires names { NamesFit (display_names self.old) store.old }
+        requires room { HasRoom store.old }
         requires ours { part_of call.now ≡ Part.Display }
         ensures { Does (λ m. display_call m call.now) self.old self.new store.old store.new result }
     {
@@ -77,6 +81,8 @@ impl Display {
     /// Runs a call of the display: it does and answers what the method of its name does.
     pub fn run(&mut self, store: &mut Store, call: &Call) -> Answer
         requires fits { Fits self.old store.old }
+        requires names { NamesFit (display_names self.old) store.old }
+        requires room { HasRoom store.old }
         requires ours { part_of call.now ≡ Part.Display }
         ensures { Steps (λ m. display_call m call.now) KeepsRest self.old self.new store.old store.new (bare result) }
     {

@@ -1,8 +1,11 @@
 //! What a port shows.
 
-ghost use Rattle.std.specs.Prelude.{◌≡◌, ◌≤◌, ◌<◌, ◌+◌, ◌∷◌, ◌++◌, filter_map, is_some, length, map, option_map, option_to_list};
+ghost use Rattle.std.specs.Prelude.{◌≡◌, ◌≤◌, ◌<◌, ◌+◌, ◌∷◌, ◌++◌, filter_map, flat_map, is_some, length, map, option_map, option_to_list};
 ghost use Rattle.std.specs.Option.{option_copied};
 ghost use Rattle.wf_words.specs.Keyed.{nth};
+ghost use Rattle.wf_stream.specs.Names.{HasRoom, NamesFit, Recounts, but_names};
+ghost use Rattle.wf_stream.specs.Streams.{count_of};
+ghost use Rattle.wf_model.specs.Names.{display_names, pipeline_names};
 ghost use Rattle.wf_model.specs.Display.{begun_display, begun_pipeline, is_lit, pipeline_layer, port_scene, scene_of_port};
 ghost use Rattle.wf_model.specs.Display.{screen_layer, whole_of};
 ghost use Rattle.wf_display.specs.Display.{IsDisplay};
@@ -10,6 +13,7 @@ ghost use Rattle.wf_display.specs.Fits.{Fits};
 
 use crate::checking::bound_stream;
 use crate::display::Display;
+use crate::naming::rename;
 use crate::ports::{mode_size, shown_size};
 use arrayvec::ArrayVec;
 use wf_model::{Pipeline, Port};
@@ -98,12 +102,21 @@ fn begun_pipeline(number: u32, pipeline: &Pipeline) -> Pipeline
     }
 }
 
-/// Pipelines at a frame of a port.
-fn begin_pipelines(number: u32, pipelines: &mut [Pipeline])
-    ensures { pipelines.new ≡ map (begun_pipeline number) pipelines.old }
+/// Pipelines at a frame of a port, whose names are counted.
+fn begin_pipelines(store: &mut Store, number: u32, pipelines: &mut [Pipeline])
+    requires few { length pipelines.old ≤ 8 }
+    requires names { NamesFit (flat_map pipeline_names pipelines.old) store.old }
+    requires room { HasRoom store.old }
+    ensures names { Recounts (flat_map pipeline_names pipelines.old) (flat_map pipeline_names pipelines.new) store.old store.new }
+    ensures none { count_of 0 store.new ≡ count_of 0 store.old }
+    ensures rest { but_names store.new ≡ but_names store.old }
+    ensures pipelines { pipelines.new ≡ map (begun_pipeline number) pipelines.old }
 {
     for place in 0..pipelines.len() {
-        pipelines[place] = begun_pipeline(number, &pipelines[place]);
+        let old = pipelines[place];
+        let new = begun_pipeline(number, &old);
+        rename(store, old, new);
+        pipelines[place] = new;
     }
 }
 
@@ -168,11 +181,14 @@ impl Display {
 
     /// Makes the streams that wait at a port's pipelines current, as the beginning of its frame does.
     pub fn begin(&mut self, store: &mut Store, port: u32)
-        requires { Fits self.old store.old }
+        requires fits { Fits self.old store.old }
+        requires names { NamesFit (display_names self.old) store.old }
+        requires room { HasRoom store.old }
         ensures begun { self.new ≡ begun_display port self.old }
-        ensures kept { store.new ≡ store.old }
+        ensures names { Recounts (display_names self.old) (display_names self.new) store.old store.new }
+        ensures rest { but_names store.new ≡ but_names store.old }
         ensures fits { Fits self.new store.new }
     {
-        begin_pipelines(port, &mut self.pipelines);
+        begin_pipelines(store, port, &mut self.pipelines);
     }
 }

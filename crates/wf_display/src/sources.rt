@@ -3,7 +3,9 @@
 ghost use Rattle.std.specs.Prelude.{◌≡◌, ◌+◌, ◌==◌, false, filter, not, IfOk, IsSomeAnd, OnErr, OnOk};
 ghost use Rattle.std.specs.Vec.{vec_capacity};
 ghost use Rattle.wf_pixel.specs.Choice.{is_a8};
+ghost use Rattle.wf_stream.specs.Names.{HasRoom, NamesFit};
 ghost use Rattle.wf_stream.specs.Streams.{buffers_at, with_other};
+ghost use Rattle.wf_model.specs.Names.{display_names};
 ghost use Rattle.wf_model.specs.DisplaySides.{on_display};
 ghost use Rattle.wf_model.specs.Pipelines.{all_sources, display_source, display_source_destroy, pixel_stream};
 ghost use Rattle.wf_model.specs.Outcome.{lacks_memory, refused_handle, without_value};
@@ -15,7 +17,7 @@ use crate::display::Display;
 use crate::finding::source_at;
 use wf_calls::{Code, Refusal, Reply};
 use wf_model::DisplaySource;
-use wf_stream::{Kind, MakeStop, Store};
+use wf_stream::{Kind, MakeStop, Store, begin_name, end_name};
 
 /// How many sources and masks live at most, those of composition included.
 pub(crate) const MOST_SOURCES: usize = 256;
@@ -75,7 +77,9 @@ impl Display {
         pipe: i64,
         stream: u32,
     ) -> Result<u32, Refusal>
-        requires { Fits self.old store.old }
+        requires fits { Fits self.old store.old }
+        requires names { NamesFit (display_names self.old) store.old }
+        requires room { HasRoom store.old }
         ensures { Does (display_source pipe stream) self.old self.new store.old store.new result }
     {
         let place = self.pipeline_place(pipe)?;
@@ -84,6 +88,7 @@ impl Display {
             return Err(Refusal::of(Code::Limit));
         }
         let handle = mint(store, number)?;
+        begin_name(store, number);
         self.sources.push_reserved(DisplaySource {
             handle,
             pipeline: place as u32 + 1,
@@ -97,30 +102,35 @@ impl Display {
         store: &mut Store,
         source: u32,
     ) -> Result<u32, Refusal>
-        requires { Fits self.old store.old }
+        requires fits { Fits self.old store.old }
+        requires names { NamesFit (display_names self.old) store.old }
         ensures { Does (λ _. on_display (display_source_destroy source)) self.old self.new store.old store.new result }
     {
-        if source_at(&self.sources, source).is_none() {
+        let Some(found) = source_at(&self.sources, source) else {
             return Err(Refusal::of(Code::BadHandle));
-        }
+        };
         store.kill(source);
         leave_out(&mut self.sources, source);
+        end_name(store, found.stream);
         Ok(0)
     }
 
     /// Makes a source of a pipeline, whose handle it answers. BadHandle is no pipeline, or no live stream; NotSupported a
     /// stream for masks; Limit a 257th source or mask, or that all handles were given.
     pub fn display_source(&mut self, store: &mut Store, pipe: i64, stream: u32) -> Reply
-        requires { Fits self.old store.old }
+        requires fits { Fits self.old store.old }
+        requires names { NamesFit (display_names self.old) store.old }
+        requires room { HasRoom store.old }
         ensures { Steps (display_source pipe stream) KeepsRest self.old self.new store.old store.new result }
     {
         let done = self.try_display_source(store, pipe, stream);
         Reply::bare(self.answer(store, done))
     }
 
-    /// Destroys a source. BadHandle is no live source. Its stream is still kept, and what is bound stays bound.
+    /// Destroys a source. BadHandle is no live source. Its stream has one name fewer, and what is bound stays bound.
     pub fn display_source_destroy(&mut self, store: &mut Store, source: u32) -> Reply
-        requires { Fits self.old store.old }
+        requires fits { Fits self.old store.old }
+        requires names { NamesFit (display_names self.old) store.old }
         ensures { Steps (λ _. on_display (display_source_destroy source)) KeepsRest self.old self.new store.old store.new result }
     {
         let done = self.try_display_source_destroy(store, source);

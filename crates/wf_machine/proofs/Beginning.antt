@@ -5,7 +5,7 @@ use Rattle.wf_machine.proofs.Common.{Buffers, acquired, KeptStream, StoreView, I
 use Rattle.wf_machine.proofs.Common.{Content, DisplayState, Running, State, CoreState, content_shape, drawing, Beginning, is_running}
 use Rattle.wf_machine.proofs.Common.{job_of, latch}
 use Rattle.wf_machine.proofs.Common.{latched_among, newest_images, scene_streams, start, layer_names, Images, Frame, Inside, AllFit}
-use Rattle.wf_machine.proofs.Common.{KindFits, PortsFit, contents_of, IsSound, state_of, AreShapedAs, IsAnswer, IsOfSomePort, SameImage}
+use Rattle.wf_machine.proofs.Common.{KindFits, PortsFit, contents_of, Holds, state_of, AreShapedAs, IsAnswer, IsOfSomePort, SameImage}
 use Rattle.wf_machine.proofs.Common.{modes_of, running_of, sizes_of}
 use Rattle.std.proofs.Common.{flat_map}
 use Rattle.wf_calls.specs.declared.call.JobKind.TheVariants as kind
@@ -13,10 +13,11 @@ use Rattle.wf_model.specs.Frames.{running_of as shape_of_job}
 use Rattle.wf_model.specs.Picture.{Fits}
 use Rattle.wf_machine.proofs.Begun.{all_latched, all_numbered, taken_once}
 use Rattle.wf_machine.proofs.Latches.{numbered_latch}
-use Rattle.wf_machine.proofs.Mapped.{SeenSame, bytes_mapped, changed_at, changed_keeps, latch_keeps, numbered_mapped, seen_mapped}
-use Rattle.wf_machine.proofs.StillComposed.{still_fits}
-use Rattle.wf_machine.proofs.StillShown.{still_shown}
+use Rattle.wf_machine.proofs.Mapped.{bytes_mapped, changed_at, changed_keeps, latch_keeps, numbered_mapped, seen_mapped}
 use Rattle.wf_machine.proofs.StillFitting.{acquired_keeps, all_kept, shape_kept}
+use Rattle.wf_model.specs.Named.{SeenSame}
+use Rattle.wf_objects.specs.Named.{still_fits}
+use Rattle.wf_display.specs.Named.{still_shown, zero_unseen}
 
 -- streams while a frame draws, of which the write buffer of a context's target is out
 
@@ -74,7 +75,7 @@ pub record HasBegun (was now : Inside) (b : Beginning) (frame : Frame) (contents
       b.scene.size b.format b.kind
 
 module _ (was now : Inside) (b : Beginning) (frame : Frame) (contents : Images) (begun : HasBegun was now b frame contents)
-    (sound : IsSound was) where
+    (sound : Holds was) where
   abbrev names : List ℕ
   names = scene_streams b.scene
 
@@ -117,13 +118,14 @@ module _ (was now : Inside) (b : Beginning) (frame : Frame) (contents : Images) 
       let fit = subst (λ cs. AllFit cs streams) no_contents sound.streams in
       all_latched names was.store.numbered streams sound.numbered shaped_now fit
 
-  pub sound_begun : IsSound now
+  pub sound_begun : Holds now
   sound_begun =
       record {
         fits = rw begun.core (still_fits was.core was.store now.store others_now (omega (arith, made_now))
             (λ n within. rw streams_are (begun_seen b.kind names n streams)) sound.fits);
-        shows = rw begun.display (still_shown was.display was.store now.store others_now (omega (arith, made_now)) sound.numbered
-            (λ n within. rw streams_are (begun_seen b.kind names n streams)) sound.shows);
+        shows = rw begun.display (still_shown was.display was.store now.store others_now (omega (arith, made_now))
+            (zero_unseen 0 was.store.numbered was.store.streams now.store.streams sound.numbered) (λ n within. rw streams_are
+            (begun_seen b.kind names n streams)) sound.shows);
         numbered = rw (streams_are, numbered_now) (drawn_numbered b.kind was.store.numbered (latch names streams) latched_numbered);
         few = omega (arith, as_many, sound.few);
         modes = begun.modes ∙ sound.modes ∙ ap modes_of (sym begun.display);

@@ -4,7 +4,7 @@ use Rattle.wf_machine.proofs.Common.{sym, ap, subst, ◌∙◌, arith, find, opt
 use Rattle.wf_machine.proofs.Common.{Bitmap, image_of, Buffers, HasShape, latched, newest, KeptStream, IsNumbered, buffers_at, stream_at}
 use Rattle.wf_machine.proofs.Common.{Content, content_shape, latch, latched_among, newest_images, newest_of, Images, AreAtHome}
 use Rattle.wf_machine.proofs.Common.{AreShapedAs, IsShapedAs, Inside, AllFit, AreNumbered, AreOnce, IsRead, StreamFits}
-use Rattle.wf_machine.proofs.Common.{content_at, contents_of, IsSound, running_of, by_number, NoneTwice, once_none_twice}
+use Rattle.wf_machine.proofs.Common.{content_at, contents_of, Holds, running_of, by_number, NoneTwice, once_none_twice}
 use Rattle.wf_machine.proofs.Latches.{image_newest, latched_keeps}
 use Rattle.wf_machine.proofs.Mapped.{found_mapped, latch_keeps}
 
@@ -160,7 +160,7 @@ pub all_home : (streams : List KeptStream) → AllFit [] streams → AreAtHome s
 all_home [] fit = tt
 all_home (s ∷ streams) fit = (fit.0.read, all_home streams fit.1)
 
-pub home_without : (m : Inside) → m.frame ≡ None → IsSound m → AreAtHome m.store.streams
+pub home_without : (m : Inside) → m.frame ≡ None → Holds m → AreAtHome m.store.streams
 home_without m free sound =
     all_home m.store.streams
     (subst (λ f. AllFit (contents_of (option_map running_of f)) m.store.streams) free sound.streams)

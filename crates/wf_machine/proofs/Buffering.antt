@@ -1,9 +1,13 @@
 -- Calls on the buffers of streams, as the plain machine answers them.
 use Rattle.wf_machine.proofs.Common.{◌≡◌, ℕ, true, false, not, ◌&&◌, List, Option, Some, None, refl, sym, ap, ◌∙◌, option_map, and_parts}
-use Rattle.wf_machine.proofs.Common.{eqb-true, Size, Format, Rgba8, Rgba8Pre, Rgbx8, A8, same_format, same_size, Canvas, Buffers, acquired}
+use Rattle.wf_machine.proofs.Common.{Reply, map, stream_step, unnamed, eqb-true, Size, Format, Rgba8, Rgba8Pre, Rgbx8, A8, same_format}
+use Rattle.wf_machine.proofs.Common.{same_size, Canvas, Buffers, acquired}
 use Rattle.wf_machine.proofs.Common.{is_blocked, KeptStream, IsNumbered, stream_at, stream_of, State, bare, done, refusal, refused}
 use Rattle.wf_machine.proofs.Common.{acquirable, acquire_step, canvas_back, canvas_of, is_out_at_client, with_stream, is_target}
 use Rattle.wf_stream.specs.Streams.{number_of}
+use Rattle.wf_calls.specs.Replies.{gives_back_canvas}
+use Rattle.wf_calls.specs.declared.reply.Answer.{Answer}
+use Rattle.wf_model.specs.Streams.{stream_destroy}
 use Rattle.wf_calls.specs.declared.code.Code.TheVariants as code
 use Rattle.wf_calls.specs.declared.reply.Payload.TheVariants as payload
 use Rattle.wf_model.specs.Streams.{is_out_of}
@@ -37,10 +41,30 @@ module _ (handle : ℕ) (h : State) where
         )
     given home free = rw (at, free, home) refl
 
+-- the handle of a stream dies where it lives, and else the call is refused
+
+pub destroyed : (handle : ℕ) (h : State) (s : KeptStream) → stream_of handle h.streams ≡ Some s
+    → stream_step h (stream_destroy handle h) ≡ (record h { streams = map (unnamed handle) h.streams }, bare (done 0))
+destroyed handle h s at = rw at refl
+
+pub no_stream : (handle : ℕ) (h : State) (a : Answer) → None ≡ number_of handle h.streams → a ≡ refused (refusal code.BadHandle)
+    → stream_step h (stream_destroy handle h) ≡ (h, bare a)
+no_stream handle h a none is = of_stream (stream_of handle h.streams) refl none ∙ ap (λ r. (h, bare r)) (sym is)
+  where
+    of_stream : (o : Option KeptStream) → stream_of handle h.streams ≡ o → None ≡ option_map (λ s. s.number) o
+        → stream_step h (stream_destroy handle h) ≡ (h, bare (refused (refusal code.BadHandle)))
+    of_stream None at same = rw at refl
+    of_stream (Some s) at same = absurd cc
+
 -- a canvas that is out at a client comes back to its stream
 pub comes_back : (canvas : Canvas) (f : Buffers → Buffers) (h : State) → is_out_at_client canvas h ≡ true
     → canvas_back canvas f h ≡ (with_stream canvas.stream f h, bare (done 0))
 comes_back canvas f h out = rw out refl
+
+-- any other stays with its caller
+pub stays_out : (canvas : Canvas) (f : Buffers → Buffers) (h : State) (r : Reply) → is_out_at_client canvas h ≡ false
+    → r ≡ gives_back_canvas canvas → canvas_back canvas f h ≡ (h, r)
+stays_out canvas f h r home is = (rw home refl) ∙ ap (λ x. (h, x)) (sym is)
 
 pub size_is : (s t : Size) → same_size s t ≡ true → s ≡ t
 size_is s t same =

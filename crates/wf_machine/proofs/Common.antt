@@ -29,10 +29,9 @@ pub use Rattle.wf_image.specs.declared.canvas.Canvas.{Canvas}
 pub use Rattle.wf_life.specs.Handles.{Live}
 pub use Rattle.wf_machine.specs.Fitting.{AllFit, AreNumbered, AreOnce, FrameFits, IsComposable, IsDue, IsOfMode, IsOfTarget, IsRead}
 pub use Rattle.wf_machine.specs.Fitting.{KindFits, PortFits, PortsFit, StreamFits, away_of, content_at, contents_of, is_of_running}
-pub use Rattle.wf_machine.specs.Fitting.{mode_of}
-pub use Rattle.wf_machine.specs.Inside.{IsSound, state_of}
+pub use Rattle.wf_machine.specs.Inside.{Holds, IsSound, state_of}
 pub use Rattle.wf_machine.specs.Latching.{AreAtHome, AreAwaited, AreShapedAs, Awaits, IsShapedAs}
-pub use Rattle.wf_machine.specs.Object.{IsAct, IsAnswer, IsOfSomePort, IsSettled, IsStep, SameImage}
+pub use Rattle.wf_machine.specs.Object.{IsAct, IsAnswer, IsOfSomePort, IsSettled, IsStep, SameImage, settled_so}
 pub use Rattle.wf_machine.specs.Ports.{HoldsBut, IsFrameImage, running_of, sizes_of}
 pub use Rattle.wf_machine.specs.Starting.{IsReady, MayStart, beginning_of}
 pub use Rattle.wf_machine.specs.declared.frame.Frame.{Frame}
@@ -56,7 +55,6 @@ pub use Rattle.wf_model.specs.Streams.{stream_new, stream_step, with_stream}
 pub use Rattle.wf_model.specs.declared.Content.{Content}
 pub use Rattle.wf_objects.specs.Fits.{ContextFits, Fits}
 pub use Rattle.wf_model.specs.Fitting.{IsOfPixels, LayerFits}
-pub use Rattle.wf_stream.specs.Marks.{Marks}
 pub use Rattle.wf_objects.specs.Shows.{next_shown}
 pub use Rattle.wf_pixel.specs.Choice.{has_sides, is_a8, is_side, same_format, same_size}
 pub use Rattle.wf_pixel.specs.Place.{IsDrawn}

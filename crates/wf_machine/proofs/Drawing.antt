@@ -7,7 +7,7 @@ use Rattle.wf_machine.proofs.Common.{running_of, FrameFits, IsOfTarget, KindFits
 use Rattle.wf_calls.specs.declared.call.JobKind.TheVariants as kind
 use Rattle.wf_machine.proofs.Latches.{KeepsShape}
 use Rattle.wf_machine.proofs.Mapped.{KeepsStream, buffers_mapped, changed_at, changed_keeps, home_among, home_keeps, unnamed_keeps}
-use Rattle.wf_machine.proofs.StillComposed.{in_first}
+use Rattle.wf_model.specs.Named.{in_first}
 
 module _ (g : KeptStream → KeptStream) (keeps : KeepsStream g) where
   -- a write buffer that is out stays out, of the stream of a number

@@ -5,13 +5,26 @@ use Rattle.wf_machine.proofs.Common.{option_map, IfSome, eqb-true, nat_tests, le
 use Rattle.wf_machine.proofs.Common.{KeptStream, StoreView, IsNumbered, buffers_at, held, stream_at, JobKind, Content, Size, Frame, State}
 use Rattle.wf_machine.proofs.Common.{opening, screen, all_names, core_names, display_names, frame_names, kept, own_names}
 use Rattle.wf_machine.proofs.Common.{settle, target_names, Modes, Ports, Inside, AllFit, FrameFits, IsOfTarget, KindFits, contents_of}
-use Rattle.wf_machine.proofs.Common.{IsSound, state_of, IsSettled, running_of, sizes_of}
+use Rattle.wf_machine.proofs.Common.{Holds, state_of, IsSettled, running_of, sizes_of}
 use Rattle.wf_calls.specs.declared.call.JobKind.TheVariants as kind
 use Rattle.wf_model.specs.Names.{pipeline_names}
 use Rattle.wf_model.specs.State.{initial_port}
-use Rattle.wf_machine.proofs.StillShown.{still_shown}
 use Rattle.wf_machine.proofs.Opening.{screens}
-use Rattle.wf_machine.proofs.StillComposed.{in_back, in_first, in_front, still_fits}
+use Rattle.wf_model.specs.Kept.{modes_of}
+use Rattle.wf_model.specs.Named.{KeepsNamed, in_back, in_first, in_front}
+use Rattle.wf_model.specs.Objects.{CoreState}
+use Rattle.wf_model.specs.State.{DisplayState}
+use Rattle.wf_objects.specs.Fits.{Fits}
+use Rattle.wf_display.specs.Fits.{Fits as Shows}
+use Rattle.wf_objects.specs.Named.{still_fits}
+use Rattle.wf_display.specs.Named.{still_shown, zero_unseen}
+
+-- no stream has the number 0
+pub none_at_zero : (low high : ℕ) (ss : List KeptStream) → IsNumbered low ss high → stream_at 0 ss ≡ None
+none_at_zero low high [] rising = refl
+none_at_zero low high (s ∷ ss) rising =
+    let apart : (s.number == 0) ≡ false = grind (arith, nat_tests, rising.0) in
+    rw apart (none_at_zero s.number high ss rising.1)
 
 -- the streams whose numbers are in a list
 abbrev pub among : List ℕ → List KeptStream → List KeptStream
@@ -37,7 +50,7 @@ numbered_lower : (low under high : ℕ) (ss : List KeptStream) → under ≤ low
 numbered_lower low under high [] least rising = omega (arith, rising)
 numbered_lower low under high (s ∷ ss) least rising = (omega (arith, rising.0), rising.1)
 
-numbered_among : (ns : List ℕ) (low high : ℕ) (ss : List KeptStream) → IsNumbered low ss high → IsNumbered low (among ns ss) high
+pub numbered_among : (ns : List ℕ) (low high : ℕ) (ss : List KeptStream) → IsNumbered low ss high → IsNumbered low (among ns ss) high
 numbered_among ns low high [] rising = rising
 numbered_among ns low high (s ∷ ss) rising =
     let later = numbered_among ns s.number high ss rising.1 in
@@ -65,13 +78,13 @@ fit_among ns cs (s ∷ ss) fit = elim (is_in s.number ns) as (λ b. AllFit cs (c
 
 -- the names of a state
 
-core_named : (h : State) (n : ℕ) → is_in n (core_names h.core) ≡ true → is_in n (all_names h) ≡ true
+pub core_named : (h : State) (n : ℕ) → is_in n (core_names h.core) ≡ true → is_in n (all_names h) ≡ true
 core_named h n within =
     in_front n ((flat_map own_names h.streams ++ core_names h.core) ++ display_names h.display) (frame_names h.frame)
     (in_front n (flat_map own_names h.streams ++ core_names h.core) (display_names h.display)
     (in_back n (flat_map own_names h.streams) (core_names h.core) within))
 
-display_named : (h : State) (n : ℕ) → is_in n (display_names h.display) ≡ true → is_in n (all_names h) ≡ true
+pub display_named : (h : State) (n : ℕ) → is_in n (display_names h.display) ≡ true → is_in n (all_names h) ≡ true
 display_named h n within =
     in_front n ((flat_map own_names h.streams ++ core_names h.core) ++ display_names h.display) (frame_names h.frame)
     (in_back n (flat_map own_names h.streams ++ core_names h.core) (display_names h.display) within)
@@ -94,36 +107,49 @@ frame_among ns modes ss (Some f) named fits = of_kind f.kind
         (sym (seen_among ns target ss (named target (in_first target [])))) fits
     of_kind (kind.Port port) named fits = fits
 
+-- what holds of the machine where its objects changed, and then the streams without a name were dropped; h is the machine's state
+-- before they were
+module _ (m : Inside) (holds : Holds m) (core : CoreState) (display : DisplayState) (store : StoreView) (h : State)
+    (frame_is : h.frame ≡ option_map running_of m.frame) (streams : store.streams ≡ among (all_names h) m.store.streams) where
+  -- the streams that these names stand for are as they were
+  pub named_seen : (ns : List ℕ) → ((n : ℕ) → is_in n ns ≡ true → is_in n (all_names h) ≡ true)
+      → KeepsNamed ns m.store.streams store.streams
+  named_seen ns among_all n within b found =
+      (b, ap (buffers_at n) streams ∙ seen_among (all_names h) n m.store.streams (among_all n within) ∙ found, refl, refl)
+
+  pub holds_left : Fits core store → Shows display store → modes_of display ≡ modes_of m.display → store.numbered ≡ m.store.numbered
+      → Holds (record m { core = core; display = display; store = store })
+  holds_left fits shows modes numbered =
+      let ns = all_names h in
+      let ss = m.store.streams in
+      let named : (n : ℕ) → is_in n (frame_names (option_map running_of m.frame)) ≡ true → is_in n ns ≡ true =
+      λ n within. frame_named h n (ap (λ o. is_in n (frame_names o)) frame_is ∙ within) in
+      record {
+        fits = fits;
+        shows = shows;
+        numbered = rw (streams, numbered) (numbered_among ns 0 m.store.numbered ss holds.numbered);
+        few = holds.few;
+        modes = holds.modes ∙ sym modes;
+        ports = holds.ports;
+        small = rw streams (omega (arith, holds.small, bytes_among ns ss));
+        streams = rw streams (fit_among ns (contents_of (option_map running_of m.frame)) ss holds.streams);
+        frame = rw streams (frame_among ns (map sizes_of m.ports.items) ss m.frame named holds.frame);
+        once = holds.once;
+        known = rw numbered holds.known;
+      }
+
 -- the machine without the streams that nothing names
 pub sound_settled : (m : Inside) (store : StoreView) → store.streams ≡ kept (state_of m) → store.others ≡ m.store.others
-    → store.made ≡ m.store.made → store.numbered ≡ m.store.numbered → IsSound m → IsSound (record m { store = store })
-sound_settled m store streams others made numbered sound =
-    let ns = all_names (state_of m) in
-    let ss = m.store.streams in
-    record {
-      fits = still_fits m.core m.store store others (omega (arith, made))
-          (λ n within b found. (b, ap (buffers_at n) streams ∙ seen_among ns n ss (core_named (state_of m) n within) ∙ found, refl, refl))
-          sound.fits;
-      shows = still_shown m.display m.store store others (omega (arith, made)) sound.numbered
-          (λ n within b found. (
-            b,
-            ap (buffers_at n) streams ∙ seen_among ns n ss (display_named (state_of m) n within)
-                ∙ found,
-            refl,
-            refl,
-          ))
-          sound.shows;
-      numbered = rw (streams, numbered) (numbered_among ns 0 m.store.numbered ss sound.numbered);
-      few = sound.few;
-      modes = sound.modes;
-      ports = sound.ports;
-      small = rw streams (omega (arith, sound.small, bytes_among ns ss));
-      streams = rw streams (fit_among ns (contents_of (option_map running_of m.frame)) ss sound.streams);
-      frame = rw streams (frame_among ns (map sizes_of m.ports.items) ss m.frame (frame_named (state_of m))
-          sound.frame);
-      once = sound.once;
-      known = rw numbered sound.known;
-    }
+    → store.made ≡ m.store.made → store.numbered ≡ m.store.numbered → Holds m → Holds (record m { store = store })
+sound_settled m store streams others made numbered holds =
+    let h = state_of m in
+    holds_left m holds m.core m.display store h refl streams
+    (still_fits m.core m.store store others (omega (arith, made))
+    (named_seen m holds m.core m.display store h refl streams (core_names m.core) (core_named h)) holds.fits)
+    (still_shown m.display m.store store others (omega (arith, made))
+    (zero_unseen 0 m.store.numbered m.store.streams store.streams holds.numbered)
+    (named_seen m holds m.core m.display store h refl streams (display_names m.display) (display_named h)) holds.shows)
+    refl numbered
 
 -- dropping twice is dropping once
 

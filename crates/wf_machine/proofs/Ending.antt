@@ -7,8 +7,9 @@ use Rattle.wf_machine.proofs.Common.{posted, KeptStream, StoreView, IsNumbered, 
 use Rattle.wf_machine.proofs.Common.{Content, DisplayState, Running, State, brought_home, delivered, end, has_shape, home_if}
 use Rattle.wf_machine.proofs.Common.{is_of_frame, CoreState, bare, done, Images, Frame, Inside, AllFit, AreOnce, FrameFits, IsDue, IsOfMode}
 use Rattle.wf_machine.proofs.Common.{IsOfTarget, IsRead, KindFits, PortsFit, StreamFits, away_of, content_at, contents_of}
-use Rattle.wf_machine.proofs.Common.{is_of_running, IsSound, state_of, AreAwaited, Awaits, HoldsBut, running_of, sizes_of}
-use Rattle.wf_machine.proofs.Common.{by_number, mode_of, modes_of}
+use Rattle.wf_machine.proofs.Common.{is_of_running, Holds, state_of, AreAwaited, Awaits, HoldsBut, running_of, sizes_of}
+use Rattle.wf_machine.proofs.Common.{by_number, false, modes_of}
+use Rattle.wf_calls.specs.Replies.{gives_back_job}
 use Rattle.wf_calls.specs.declared.call.JobKind.TheVariants as kind
 use Rattle.wf_model.specs.Frames.{end_frame, same_kind}
 use Rattle.wf_machine.specs.declared.port.Port as declared
@@ -16,13 +17,14 @@ use Rattle.wf_machine.proofs.Buffering.{format_is, size_is}
 use Rattle.wf_machine.proofs.Beginning.{seen_twice}
 use Rattle.wf_machine.proofs.Drawing.{frame_home}
 use Rattle.wf_machine.proofs.Latches.{KeepsShape}
-use Rattle.wf_machine.proofs.Mapped.{SeenSame, bytes_mapped, changed_at, changed_keeps, home_among, home_keeps, numbered_mapped}
+use Rattle.wf_machine.proofs.Mapped.{bytes_mapped, changed_at, changed_keeps, home_among, home_keeps, numbered_mapped}
 use Rattle.wf_machine.proofs.Mapped.{seen_mapped}
 use Rattle.wf_machine.proofs.Shapes.{AreOf, Apart, IsOfShape, all_of, none_there}
-use Rattle.wf_machine.proofs.StillComposed.{still_fits}
-use Rattle.wf_machine.proofs.StillShown.{still_shown}
 use Rattle.wf_machine.proofs.StillFitting.{all_kept, posted_keeps, shape_kept}
 use Rattle.wf_machine.proofs.PortFrames.{at_place}
+use Rattle.wf_model.specs.Named.{SeenSame}
+use Rattle.wf_objects.specs.Named.{still_fits}
+use Rattle.wf_display.specs.Named.{still_shown, zero_unseen}
 
 -- what a Job shares with the running frame that it is of
 pub record IsEnd (job : Job) (f : Running) : Type 0 where
@@ -134,6 +136,20 @@ pub was_running : (m : Inside) (job : Job) (s : State) → state_of m ≡ s → 
     → is_of_running job (option_map running_of m.frame) ≡ true
 was_running m job s seen is = ap (λ t. is_of_running job t.frame) seen ∙ is
 
+-- any other Job comes back
+pub stays_running : (job : Job) (h : State) (r : Reply) → is_of_running job h.frame ≡ false → r ≡ gives_back_job job
+    → end job h ≡ (h, r)
+stays_running job h r other is = of_frame h.frame refl other ∙ ap (λ x. (h, x)) (sym is)
+  where
+    of_frame : (o : Option Running) → h.frame ≡ o → is_of_running job o ≡ false → end job h ≡ (h, gives_back_job job)
+    of_frame None free not_of = rw free refl
+    of_frame (Some f) runs not_of = rw (runs, not_of) refl
+
+-- no frame runs that a Job is of
+pub none_of : (m : Inside) (job : Job) → m.frame ≡ None → is_of_running job (option_map running_of m.frame) ≡ true → ⊥
+none_of m job free is =
+    absurd (let no : false ≡ true = sym (ap (λ o. is_of_running job (option_map running_of o)) free) ∙ is in cc)
+
 -- the kinds of a Job and of its frame are one
 same_kind_is : (j k : JobKind) → same_kind j k ≡ true → k ≡ j
 same_kind_is (kind.Context handle target) (kind.Context other into) is =
@@ -157,7 +173,7 @@ none_away f handle target is k (p ∷ ps) fit =
       none_away f handle target is (k + 1) ps fit.1,
     )
 
-module _ (m : Inside) (job : Job) (is : is_of_running job (option_map running_of m.frame) ≡ true) (sound : IsSound m) where
+module _ (m : Inside) (job : Job) (is : is_of_running job (option_map running_of m.frame) ≡ true) (sound : Holds m) where
   abbrev f : Frame
   f = (running_frame m job is).0
 
@@ -195,6 +211,18 @@ module _ (m : Inside) (job : Job) (is : is_of_running job (option_map running_of
       subst (λ o. IfSome o (FrameFits modes m.store.streams)) runs sound.frame in
       subst (λ k. KindFits modes f.mode home f.size f.format k) kind_is
       (frame_home job.contents modes m.store.streams (Some f) runs_so)
+
+  -- the frame that ran
+  same_frame : (g : Frame) → m.frame ≡ Some g → f ≡ g
+  same_frame g ran = (let same : Some f ≡ Some g = sym runs ∙ ran in cc)
+
+  pub ran_kind : (g : Frame) → m.frame ≡ Some g → g.kind ≡ job.kind
+  ran_kind g ran = subst (λ x. x.kind ≡ job.kind) (same_frame g ran) kind_is
+
+  pub ran_fits : (g : Frame) → m.frame ≡ Some g
+      → KindFits modes g.mode (brought_home job.contents m.store.streams) g.size g.format job.kind
+  ran_fits g ran =
+      subst (λ x. KindFits modes x.mode (brought_home job.contents m.store.streams) x.size x.format job.kind) (same_frame g ran) fits_home
 
   ports_fit : PortsFit (Some f) 1 m.ports.items
   ports_fit = subst (λ o. PortsFit o 1 m.ports.items) runs sound.ports
@@ -235,9 +263,8 @@ module _ (m : Inside) (job : Job) (is : is_of_running job (option_map running_of
       of_place (Some sizes) shape =
           (record { some = shape.some; within = shape.within; size_is = image_size ∙ shape.size_is }, image_format ∙ fits.1)
 
-  pub ending_due : (mode : ℕ) → mode ≡ mode_of m.frame → IsDue home m.ports.items mode job.kind job.image
-  ending_due mode is = subst (λ n. IsDue home m.ports.items n job.kind job.image) (sym (is
-      ∙ ap mode_of runs)) (of_kind job.kind kind_is fits_home)
+  pub ending_due : (g : Frame) → m.frame ≡ Some g → IsDue home m.ports.items g.mode job.kind job.image
+  ending_due g ran = subst (λ x. IsDue home m.ports.items x.mode job.kind job.image) (same_frame g ran) (of_kind job.kind kind_is fits_home)
     where
       of_kind : (k : JobKind) → f.kind ≡ k → KindFits modes f.mode home f.size f.format k → IsDue home m.ports.items f.mode k job.image
       of_kind (kind.Context handle target) is fits = due_target handle target is fits
@@ -280,16 +307,13 @@ module _ (m : Inside) (job : Job) (is : is_of_running job (option_map running_of
       home_numbered : IsNumbered 0 home m.store.numbered
       home_numbered = numbered_mapped (home_among job.contents) (home_keeps job.contents) 0 m.store.numbered m.store.streams sound.numbered
 
-      pub sound_ended : IsSound now
+      pub sound_ended : Holds now
       sound_ended =
           record {
             fits = rw core-is (still_fits m.core m.store now.store now_others (omega (arith, ap (λ v. v.made) now_store))
                 (λ n within. rw now_streams (ended_seen job.kind job.image job.contents n m.store.streams)) sound.fits);
-            shows = rw display-is (still_shown m.display m.store now.store now_others (omega (
-              arith,
-              ap
-                  (λ v. v.made) now_store,
-            )) sound.numbered
+            shows = rw display-is (still_shown m.display m.store now.store now_others (omega (arith, ap (λ v. v.made) now_store))
+                (zero_unseen 0 m.store.numbered m.store.streams now.store.streams sound.numbered)
                 (λ n within. rw now_streams (ended_seen job.kind job.image job.contents n m.store.streams)) sound.shows);
             numbered = rw (now_streams, now_numbered) (delivered_numbered job.kind job.image m.store.numbered home home_numbered);
             few = omega (arith, as_many, sound.few);

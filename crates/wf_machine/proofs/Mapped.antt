@@ -3,6 +3,7 @@ use Rattle.wf_machine.proofs.Common.{◌≡◌, ℕ, ◌+◌, ◌<◌, true, fal
 use Rattle.wf_machine.proofs.Common.{subst, ◌∙◌, sum_by, option_map, sum_by-cons, is_in, image_of, Buffers, buffer_bytes, latched}
 use Rattle.wf_machine.proofs.Common.{KeptStream, IsNumbered, buffers_at, held, stream_at, unnamed, home_if, latched_among, Images}
 use Rattle.wf_machine.proofs.Latches.{KeepsShape, latched_keeps}
+use Rattle.wf_model.specs.Named.{SeenSame}
 
 -- a change of a stream that keeps its number, its size, its format and how many buffers it has
 pub record KeepsStream (g : KeptStream → KeptStream) : Type 0 where
@@ -10,10 +11,6 @@ pub record KeepsStream (g : KeptStream → KeptStream) : Type 0 where
   pub size : (s : KeptStream) → (g s).buffers.size ≡ s.buffers.size
   pub format : (s : KeptStream) → (g s).buffers.format ≡ s.buffers.format
   pub buffers : (s : KeptStream) → (g s).buffers.buffers ≡ s.buffers.buffers
-
--- a size and a format that are seen of some buffers are seen of others
-abbrev pub SeenSame : Option Buffers → Option Buffers → Type 0
-SeenSame o p = (b : Buffers) → o ≡ Some b → (c : Buffers) × (p ≡ Some c) × (c.size ≡ b.size) × (c.format ≡ b.format)
 
 module _ (g : KeptStream → KeptStream) (keeps : KeepsStream g) where
   pub found_mapped : (n : ℕ) (ss : List KeptStream) → stream_at n (map g ss) ≡ option_map g (stream_at n ss)

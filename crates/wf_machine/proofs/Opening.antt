@@ -1,22 +1,29 @@
 -- The machine before its first call.
 use Rattle.wf_machine.proofs.Common.{◌≡◌, ℕ, suc, ◌+◌, ◌<◌, ◌≤◌, Bool, true, false, List, [], ◌∷◌, ◌++◌, length, map, get_or, take, Option}
-use Rattle.wf_machine.proofs.Common.{None, refl, sym, ap, subst, ◌∙◌, arith, ◌&&◌, ◌*◌, nat_le, range_with_len, list_all, and_parts}
+use Rattle.wf_machine.proofs.Common.{None, Some, IsSound, cond, flat_map, is_some, nat_lt, nat_tests, own_names, stream_at, zero, ◌==◌}
+use Rattle.wf_machine.proofs.Common.{refl, sym, ap, subst, ◌∙◌, arith, ◌&&◌, ◌*◌, nat_le, range_with_len, list_all, and_parts}
 use Rattle.wf_machine.proofs.Common.{leb-true}
 use Rattle.wf_machine.proofs.Common.{map-append, length-map, take_all, sum_by-cons, Rgbx8, Size, has_sides, is_side, Ports, buffer_bytes}
 use Rattle.wf_machine.proofs.Common.{fresh}
 use Rattle.wf_machine.proofs.Common.{KeptStream, StoreView, IsNumbered, held, Modes, CoreState, DisplayState, Fits, State, mode_size}
 use Rattle.wf_machine.proofs.Common.{opening}
-use Rattle.wf_machine.proofs.Common.{screen, AllFit, PortFits, PortsFit, IsSound, state_of, Inside, Frame, HoldsBut, modes_of, running_of}
+use Rattle.wf_machine.proofs.Common.{screen, AllFit, PortFits, PortsFit, Holds, state_of, Inside, Frame, HoldsBut, modes_of, running_of}
 use Rattle.wf_machine.proofs.Common.{sizes_of}
 use Rattle.wf_machine.proofs.Common.{option_map}
 use Rattle.std.proofs.Common.{add-zero, lit≤}
 use Rattle.std.proofs.Math.Nat.{mul-le-mul_left, mul-le-mul_right}
-use Rattle.std.specs.Prelude.{zip}
+use Rattle.std.specs.Prelude.{replicate, unwrap_or, zip}
 use Rattle.std.proofs.lemmas.List.Folds.{list_all_at}
 use Rattle.wf_calls.specs.PortRules.{may_declare, may_have}
 use Rattle.wf_model.specs.declared.display.Port as display
+use Rattle.wf_model.specs.Counting.{CountsNames, all_times}
+use Rattle.wf_model.specs.Names.{pipeline_names}
 use Rattle.wf_model.specs.Objects.{no_objects}
-use Rattle.wf_model.specs.State.{initial_port, opened_display}
+use Rattle.wf_model.specs.State.{initial_pipeline, initial_port, opened_display}
+use Rattle.wf_stream.specs.Counts.{counted, times}
+use Rattle.wf_stream.specs.Names.{times_append, times_cons, times_zero}
+use Rattle.wf_stream.specs.Streams.{one_name_each}
+use Rattle.wf_words.specs.Keyed.{at_key}
 use Rattle.wf_display.specs.Fits.{Fits as Shows}
 use Rattle.wf_display.specs.Opening.{with_screens}
 use Rattle.wf_machine.specs.declared.port.Port as declared
@@ -161,7 +168,7 @@ pub record IsOpen (m : Inside) (ports : Ports) : Type 0 where
   pub free : m.frame ≡ None
 
 -- what holds of it
-pub sound_when_open : (m : Inside) (ports : Ports) → IsOpen m ports → may_declare ports ≡ true → IsSound m
+pub sound_when_open : (m : Inside) (ports : Ports) → IsOpen m ports → may_declare ports ≡ true → Holds m
 sound_when_open m ports opened may =
     let ms = ports.modes.items in
     let rules = declared_ports ports may in
@@ -180,6 +187,72 @@ sound_when_open m ports opened may =
       once = rw opened.free tt;
       known = rw opened.free tt;
     }
+
+-- each stream that is kept has one name
+one_each : (n : ℕ) (ss : List KeptStream) → is_some (stream_at n ss) ≡ nat_lt 0 (counted n (one_name_each ss))
+one_each n [] = refl
+one_each n (s ∷ ss) =
+    elim (s.number == n) as (λ b. is_some (cond b (Some s) (stream_at n ss))
+    ≡ nat_lt 0 (unwrap_or (option_map (λ c. c.1) (cond b (Some (s.number, 1)) (at_key (λ c. c.0) n (one_name_each ss)))) 0)) [
+      | true ↦ refl
+      | false ↦ one_each n ss
+    ]
+
+-- a number below a range is not in it
+below_range : (n low many : ℕ) → n < low → times n (range_with_len low many) ≡ 0
+below_range n low zero under = refl
+below_range n low (suc many) under =
+    let later = below_range n (low + 1) many (omega (arith, under)) in
+    let whole = times_cons n low (range_with_len (low + 1) many) in
+    let other : (low == n) ≡ false = grind (arith, nat_tests, under) in
+    let none : cond (low == n) 1 0 ≤ 0 = (rw other (omega arith)) in
+    omega (arith, later, whole, none)
+
+-- which is that of its port
+screens_counts : (n k : ℕ) (ms : List Modes) → counted n (one_name_each (screens k ms)) ≡ times n (range_with_len k (length ms))
+screens_counts n k [] = refl
+screens_counts n k (m ∷ ms) =
+    let later = screens_counts n (k + 1) ms in
+    let whole = times_cons n k (range_with_len (k + 1) (length ms)) in
+    elim (k == n) as (λ b. (k == n) ≡ b
+    → unwrap_or (option_map (λ c. c.1) (cond b (Some (k, 1)) (at_key (λ c. c.0) n (one_name_each (screens (k + 1) ms))))) 0
+    ≡ times n (range_with_len k (length (m ∷ ms)))) [
+      | true ↦ λ is. (
+          let none = below_range n (k + 1) (length ms) (grind (arith, nat_tests, is)) in
+          let one : 1 ≤ cond (k == n) 1 0 = (rw is (omega arith)) in
+          let most : cond (k == n) 1 0 ≤ 1 = (rw is (omega arith)) in
+          omega (arith, whole, none, one, most))
+      | false ↦ λ is. (
+          let zero : cond (k == n) 1 0 ≤ 0 = (rw is (omega arith)) in
+          omega (arith, whole, later, zero))
+    ] refl
+
+-- no pipeline shows anything
+no_pipelines : (n pipes : ℕ) → 0 < n → times n (flat_map pipeline_names (replicate pipes initial_pipeline)) ≡ 0
+no_pipelines n zero some = refl
+no_pipelines n (suc pipes) some =
+    let later = no_pipelines n pipes some in
+    let both = times_append n (0 ∷ []) (flat_map pipeline_names (replicate pipes initial_pipeline)) in
+    omega (arith, later, both, times_zero n some)
+
+-- no screen has a name of its own
+no_own : (n k : ℕ) (ms : List Modes) → times n (flat_map own_names (screens k ms)) ≡ 0
+no_own n k [] = refl
+no_own n k (m ∷ ms) = no_own n (k + 1) ms
+
+-- the names before the first call are the screens' ports
+pub opening_counts : (ports : Ports) → CountsNames (with_screens ports.modes.items) (opening ports)
+opening_counts ports n some =
+    let ms = ports.modes.items in
+    let h = opening ports in
+    let parts = all_times n h in
+    let many : length h.display.ports ≡ length ms = length-map ms initial_port in
+    let screens_are = screens_counts n 1 ms in
+    let range : times n (range_with_len 1 (length h.display.ports)) ≡ times n (range_with_len 1 (length ms)) =
+    ap (λ k. times n (range_with_len 1 k)) many in
+    let both = times_append n (range_with_len 1 (length h.display.ports) ++ []) (flat_map pipeline_names h.display.pipelines) in
+    let first = times_append n (range_with_len 1 (length h.display.ports)) [] in
+    omega (arith, parts, screens_are, range, both, first, no_pipelines n ports.pipes some, no_own n 1 ms)
 
 -- it is as it opens
 pub opening_is : (m : Inside) (ports : Ports) → IsOpen m ports → state_of m ≡ opening ports
@@ -203,3 +276,13 @@ opening_is m ports opened =
 -- all the modes, once the last was passed
 pub whole_modes : (all modes : List Modes) (i : ℕ) → all ≡ modes → length all ≤ i → take i all ≡ modes
 whole_modes all modes i is past = take_all i all past ∙ is
+
+-- and is sound
+pub sound_opened : (m : Inside) (ports : Ports) → IsOpen m ports → may_declare ports ≡ true → IsSound m
+sound_opened m ports opened may =
+    record {
+      holds = sound_when_open m ports opened may;
+      counted = λ n. rw opened.store (one_each n (screens 1 ports.modes.items));
+      counts = subst (λ v. CountsNames v (state_of m)) (sym opened.store)
+          (subst (CountsNames (with_screens ports.modes.items)) (sym (opening_is m ports opened)) (opening_counts ports));
+    }

@@ -5,7 +5,7 @@ use Rattle.wf_machine.proofs.Common.{IsSomeAnd, AllByRecursion, and_parts, leb-t
 use Rattle.wf_machine.proofs.Common.{is_side, is_a8}
 use Rattle.wf_machine.proofs.Common.{is_some, nat_lt, nat_le, holds_rect, Scene, Buffers, KeptStream, buffers_at, State}
 use Rattle.wf_machine.proofs.Common.{DisplayState}
-use Rattle.wf_machine.proofs.Common.{mode_size, modes_of, begun_display, port_scene, begin_port, IsOfMode, LayerFits, Inside, IsSound}
+use Rattle.wf_machine.proofs.Common.{mode_size, modes_of, begun_display, port_scene, begin_port, IsOfMode, LayerFits, Inside, Holds}
 use Rattle.wf_machine.proofs.Common.{state_of}
 use Rattle.wf_machine.proofs.Common.{Beginning, MayStart, Rgba8Pre, beginning_of, start}
 use Rattle.std.proofs.Common.{zero-add}
@@ -174,7 +174,7 @@ module _ (n : ℕ) (d : DisplayState) (holds : IsDisplay d) where
               })
 
 -- and may be drawn, where nothing waits at its pipelines
-pub port_starts : (m : Inside) (n : ℕ) (scene : Scene) (mode : ℕ) → IsSound m → IsDisplay m.display → Some scene ≡ port_scene n m.display
+pub port_starts : (m : Inside) (n : ℕ) (scene : Scene) (mode : ℕ) → Holds m → IsDisplay m.display → Some scene ≡ port_scene n m.display
     → Some mode ≡ option_map (λ (p : Port). p.committed.mode) (nth n m.display.ports) → begun_display n m.display ≡ m.display
     → MayStart (kind.Port n) mode scene (state_of m)
 port_starts m n scene mode sound holds shown drawn begun =

@@ -3,7 +3,7 @@ use Rattle.wf_machine.proofs.Common.{◌≡◌, ℕ, zero, suc, ◌+◌, false, 
 use Rattle.wf_machine.proofs.Common.{IfSome}
 use Rattle.wf_machine.proofs.Common.{IsSomeAnd, nth, count_of, is_a8, Buffers, KeptStream, buffers_at, IsOfPixels, DisplayState, State}
 use Rattle.wf_machine.proofs.Common.{Call}
-use Rattle.wf_machine.proofs.Common.{screen_of, Inside, IsSound, state_of}
+use Rattle.wf_machine.proofs.Common.{screen_of, Inside, Holds, state_of}
 use Rattle.std.proofs.Common.{ℤ}
 use Rattle.wf_calls.specs.declared.call.Call.TheVariants as call
 use Rattle.wf_model.specs.declared.display.Port.{Port}
@@ -42,12 +42,12 @@ declared_pixels ss n d fit = of_port (nth n d.ports) refl
     of_port None none = rw none tt
     of_port (Some p) some = rw some (pixels p (buffers_at n ss) (screen_there ss n d.ports p fit some))
 
-pub screen_pixels : (m : Inside) (s : State) → state_of m ≡ s → IsSound m → (port : ℤ)
+pub screen_pixels : (m : Inside) (s : State) → state_of m ≡ s → Holds m → (port : ℤ)
     → IfSome (declared_screen port s) (IsOfPixels m.store.streams)
 screen_pixels m s seen sound port = subst (λ t. IfSome (declared_screen port t) (IsOfPixels m.store.streams)) seen
     (declared_pixels m.store.streams (count_of port) m.display sound.shows.streams.screens)
 
 -- the screen that a call asks for is one of pixels
-pub asked_pixels : (m : Inside) (s : State) → state_of m ≡ s → IsSound m → (c : Call) → IfSome (screen_of c s) (IsOfPixels m.store.streams)
+pub asked_pixels : (m : Inside) (s : State) → state_of m ≡ s → Holds m → (c : Call) → IfSome (screen_of c s) (IsOfPixels m.store.streams)
 asked_pixels m s seen sound (call.ScreenContext d port) = screen_pixels m s seen sound port
 asked_pixels m s seen sound _ = tt

@@ -5,7 +5,7 @@ use Rattle.wf_machine.proofs.Common.{count_of, Size, Format, has_sides, is_side,
 use Rattle.wf_machine.proofs.Common.{StoreView, buffers_at, change_stream, held, stream_at, unnamed, with_live_stream, JobKind, Reply}
 use Rattle.wf_machine.proofs.Common.{Frame}
 use Rattle.wf_machine.proofs.Common.{State, bare, done, refusal, refused, new_buffers, size_from, stream_new, stream_step, Inside}
-use Rattle.wf_machine.proofs.Common.{FrameFits, IsOfTarget, KindFits, contents_of, IsSound, state_of, running_of, sizes_of}
+use Rattle.wf_machine.proofs.Common.{FrameFits, IsOfTarget, KindFits, contents_of, Holds, state_of, running_of, sizes_of}
 use Rattle.std.specs.Prelude.{◌&&◌}
 use Rattle.std.proofs.lemmas.Bool.{and_from, ltb-false}
 use Rattle.std.proofs.lemmas.List.Sums.{sum_by_push}
@@ -17,24 +17,26 @@ use Rattle.wf_calls.specs.declared.code.Code.TheVariants as code
 use Rattle.wf_calls.specs.declared.call.JobKind.TheVariants as kind
 use Rattle.wf_model.specs.Streams.{may_make, is_wide_side, stream_made}
 use Rattle.wf_machine.proofs.Drawing.{frame_unnamed}
-use Rattle.wf_machine.proofs.Mapped.{SeenSame, bytes_mapped, changed_at, changed_keeps, numbered_mapped, seen_mapped, unnamed_keeps}
-use Rattle.wf_machine.proofs.StillComposed.{still_fits}
-use Rattle.wf_machine.proofs.StillShown.{still_shown}
+use Rattle.wf_machine.proofs.Mapped.{bytes_mapped, changed_at, changed_keeps, numbered_mapped, seen_mapped, unnamed_keeps}
 use Rattle.wf_machine.proofs.StillFitting.{KeepsRead, all_kept, all_push, all_unnamed, known_more, new_fits, numbered_push, shape_kept}
+use Rattle.wf_model.specs.Named.{SeenSame}
+use Rattle.wf_objects.specs.Named.{still_fits}
+use Rattle.wf_display.specs.Named.{still_shown, zero_unseen}
 
 -- the machine with other buffers of a stream
 abbrev pub with_buffers : Inside → ℕ → (Buffers → Buffers) → Inside
 with_buffers m n f = record m { store = record m.store { streams = change_stream n f m.store.streams } }
 
 pub sound_kept : (m : Inside) (n : ℕ) (f : Buffers → Buffers) → KeepsRead f
-    → IfSome m.frame (FrameFits (map sizes_of m.ports.items) (change_stream n f m.store.streams)) → IsSound m
-    → IsSound (with_buffers m n f)
+    → IfSome m.frame (FrameFits (map sizes_of m.ports.items) (change_stream n f m.store.streams)) → Holds m
+    → Holds (with_buffers m n f)
 sound_kept m n f keeps frame sound =
     let shape = changed_keeps n f (shape_kept f keeps) in
     record {
       fits = still_fits m.core m.store (with_buffers m n f).store refl (omega arith)
           (λ k within. seen_mapped (changed_at n f) shape k m.store.streams) sound.fits;
-      shows = still_shown m.display m.store (with_buffers m n f).store refl (omega arith) sound.numbered
+      shows = still_shown m.display m.store (with_buffers m n f).store refl (omega arith)
+          (zero_unseen 0 m.store.numbered m.store.streams (change_stream n f m.store.streams) sound.numbered)
           (λ k within. seen_mapped (changed_at n f) shape k m.store.streams) sound.shows;
       numbered = numbered_mapped (changed_at n f) shape 0 m.store.numbered m.store.streams sound.numbered;
       few = sound.few;
@@ -52,14 +54,15 @@ abbrev pub without_handle : Inside → ℕ → Counts → Inside
 without_handle m handle counts =
     record m { store = record m.store { streams = map (unnamed handle) m.store.streams; counts = counts } }
 
-pub sound_unnamed : (m : Inside) (handle : ℕ) (counts : Counts) → IsSound m → IsSound (without_handle m handle counts)
+pub sound_unnamed : (m : Inside) (handle : ℕ) (counts : Counts) → Holds m → Holds (without_handle m handle counts)
 sound_unnamed m handle counts sound =
     let keeps = unnamed_keeps handle in
     record {
       fits = still_fits m.core m.store (without_handle m handle counts).store refl (omega arith)
           (λ k within. seen_mapped (unnamed handle) keeps k m.store.streams) sound.fits;
       shows = still_shown m.display m.store (without_handle m handle counts).store refl (omega arith)
-          sound.numbered (λ k within. seen_mapped (unnamed handle) keeps k m.store.streams) sound.shows;
+          (zero_unseen 0 m.store.numbered m.store.streams (map (unnamed handle) m.store.streams) sound.numbered)
+          (λ k within. seen_mapped (unnamed handle) keeps k m.store.streams) sound.shows;
       numbered = numbered_mapped (unnamed handle) keeps 0 m.store.numbered m.store.streams sound.numbered;
       few = sound.few;
       modes = sound.modes;
@@ -112,15 +115,16 @@ frame_pushed modes ss t (Some f) fits = of_kind f.kind fits
 
 -- the machine with one more stream
 pub sound_made : (m : Inside) (size : Size) (format : Format) (buffers : ℕ) → has_sides size ≡ true
-    → has_no_room (fresh size format buffers) m.store.streams ≡ false → IsSound m
-    → IsSound (record m { store = with_live_stream (fresh size format buffers) m.store })
+    → has_no_room (fresh size format buffers) m.store.streams ≡ false → Holds m
+    → Holds (record m { store = with_live_stream (fresh size format buffers) m.store })
 sound_made m size format buffers sides free sound =
     let new : KeptStream = record { number = m.store.numbered + 1; handle = m.store.made + 1; buffers = fresh size format buffers } in
     let contents = contents_of (option_map running_of m.frame) in
     record {
       fits = still_fits m.core m.store (with_live_stream (fresh size format buffers) m.store) refl (omega arith)
           (λ k within. found_pushed k m.store.streams new) sound.fits;
-      shows = still_shown m.display m.store (with_live_stream (fresh size format buffers) m.store) refl (omega arith) sound.numbered
+      shows = still_shown m.display m.store (with_live_stream (fresh size format buffers) m.store) refl (omega arith)
+          (zero_unseen 0 m.store.numbered m.store.streams (m.store.streams ++ new ∷ []) sound.numbered)
           (λ k within. found_pushed k m.store.streams new) sound.shows;
       numbered = numbered_push 0 m.store.numbered m.store.streams new sound.numbered refl;
       few = sound.few;
@@ -175,11 +179,15 @@ module _ (m : Inside) (s : State) (seen : state_of m ≡ s) (step : State → Re
       ∙ ap (λ v. (state_of (record m { store = v }), was)) (sym same)
       ∙ ap (λ x. (state_of (record m { store = left }), x)) (sym answered))
 
+  -- the machine was left so
+  pub leaves_so : (left now : State) (r was : Reply) → left ≡ now → r ≡ was → step (state_of m) was ≡ (now, was) → step s r ≡ (left, r)
+  leaves_so left now r was same answered is =
+      subst (λ t. step t r ≡ (left, r)) seen
+      (ap (λ x. step (state_of m) x) answered ∙ is ∙ ap (λ t. (t, was)) (sym same) ∙ ap (λ x. (left, x)) (sym answered))
+
   -- the store was left so
   pub leaves : (left now : StoreView) (r was : Reply) → left ≡ now → r ≡ was
       → step (state_of m) was ≡ (state_of (record m { store = now }), was) → step s r ≡ (state_of (record m { store = left }), r)
   leaves left now r was same answered is =
-      subst (λ t. step t r ≡ (state_of (record m { store = left }), r)) seen
-      (ap (λ x. step (state_of m) x) answered ∙ is
-      ∙ ap (λ v. (state_of (record m { store = v }), was)) (sym same)
-      ∙ ap (λ x. (state_of (record m { store = left }), x)) (sym answered))
+      leaves_so (state_of (record m { store = left })) (state_of (record m { store = now })) r was
+      (ap (λ v. state_of (record m { store = v })) same) answered is

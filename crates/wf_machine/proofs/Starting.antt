@@ -7,7 +7,7 @@ use Rattle.wf_machine.proofs.Common.{latched_if, KeptStream, StoreView, buffers_
 use Rattle.wf_machine.proofs.Common.{drawing}
 use Rattle.wf_machine.proofs.Common.{latch, latched_among, newest_images, scene_streams, start, target_ready, Images, State, mode_size}
 use Rattle.wf_machine.proofs.Common.{Frame}
-use Rattle.wf_machine.proofs.Common.{Inside, AllFit, KindFits, PortsFit, away_of, contents_of, IsSound, state_of, AreShapedAs, IsAnswer}
+use Rattle.wf_machine.proofs.Common.{Inside, AllFit, KindFits, PortsFit, away_of, contents_of, Holds, state_of, AreShapedAs, IsAnswer}
 use Rattle.wf_machine.proofs.Common.{IsOfMode, IsOfSomePort, SameImage, HoldsBut, IsFrameImage, running_of, sizes_of, IsReady, MayStart}
 use Rattle.wf_machine.proofs.Common.{beginning_of}
 use Rattle.std.specs.Prelude.{Ok}
@@ -21,8 +21,8 @@ use Rattle.wf_machine.proofs.Drawable.{scene_shows, target_sides}
 use Rattle.wf_machine.proofs.Latches.{latched_keeps}
 use Rattle.wf_machine.proofs.Mapped.{latch_keeps, seen_mapped}
 use Rattle.wf_machine.proofs.PortFrames.{at_place, sides_of_mode}
-use Rattle.wf_machine.proofs.StillComposed.{layers_kept}
 use Rattle.wf_machine.proofs.StillFitting.{acquired_keeps, shape_kept}
+use Rattle.wf_model.specs.Named.{layers_kept}
 
 -- the target of a context's frame, once the scene's streams are latched
 module _ (handle target : ℕ) (scene : Scene) (ss : List KeptStream) (b : Buffers) (at : buffers_at target ss ≡ Some b)
@@ -89,7 +89,7 @@ sides_in frame k zero (p ∷ ps) sizes fit at = (let is : sizes_of p ≡ sizes =
 sides_in frame k (suc i) (p ∷ ps) sizes fit at = sides_in frame (k + 1) i ps sizes fit.1 at
 
 -- what is known of the machine before a frame that may start
-module _ (was : Inside) (mode : ℕ) (scene : Scene) (value : ℕ) (sound : IsSound was) (free : was.frame ≡ None) where
+module _ (was : Inside) (mode : ℕ) (scene : Scene) (value : ℕ) (sound : Holds was) (free : was.frame ≡ None) where
   abbrev names : List ℕ
   names = scene_streams scene
 
@@ -181,7 +181,7 @@ module _ (was : Inside) (mode : ℕ) (scene : Scene) (value : ℕ) (sound : IsSo
 pub record Starts (was now : Inside) (kind_of : JobKind) (mode : ℕ) (scene : Scene) (latched : StoreView) (images contents : Images)
     (image : Bitmap) (frame : Frame) : Type 0 where
   pub free : was.frame ≡ None
-  pub sound : IsSound was
+  pub sound : Holds was
   pub may : MayStart kind_of mode scene (state_of was)
   pub taken : images ≡ newest_images (scene_streams scene) was.store.streams
   pub latched_is : latched ≡ record was.store { streams = latch (scene_streams scene) was.store.streams }

@@ -1,21 +1,23 @@
--- What is done, and then dropped where it was carried out, is the step.
+-- What is done, where streams without a name are dropped, is the step.
 use Rattle.wf_machine.proofs.Common.{◌≡◌, ℕ, Bool, true, false, not, refl, sym, ap, subst, ◌∙◌, Call, Reply, Code, is_ok_code}
-use Rattle.wf_machine.proofs.Common.{is_out_of_memory, Register, no_register, of_device, of_display, register_of, settle_if, offered}
+use Rattle.wf_machine.proofs.Common.{is_out_of_memory, Register, no_register, of_device, of_display, register_of, settle, settle_if}
+use Rattle.wf_machine.proofs.Common.{offered}
 use Rattle.wf_machine.proofs.Common.{State, act, step}
-use Rattle.wf_machine.proofs.Common.{IsAct, IsSettled, IsStep}
+use Rattle.wf_machine.proofs.Common.{IsAct, IsSettled, IsStep, IsTrue, Option, None, Some, bare}
+use Rattle.std.specs.Option.{IfNone, IfSome, MatchOption}
+use Rattle.wf_calls.specs.Parts.{carries, part_of}
+use Rattle.wf_calls.specs.declared.reply.Answer.{Answer}
 use Rattle.wf_model.specs.Effects.{refused_leaves}
-use Rattle.wf_machine.specs.Object.{IsMarkedAct, IsMarkedStep, IsRefusal}
+use Rattle.wf_machine.specs.Object.{IsMarkedAct, IsMarkedStep, IsRefusal, MayAnswer, after}
 use Rattle.wf_machine.proofs.Dropping.{settled}
 
 not_ok : (b : Bool) → not b ≡ true → b ≡ false
 not_ok true is = absurd cc
 not_ok false is = refl
 
--- a refusal offers its code to the call's register, and does nothing else
-refusal_of : (m : Bool) (h : State) (c : Call) (left : State) (r : Reply) → IsMarkedAct m h c left r → IsRefusal h left c r.code
-refusal_of m h c left r acts refused =
-    acts.left_is ∙ refused_leaves h c m (ap is_ok_code (sym acts.answer.code) ∙ not_ok (is_ok_code r.code) refused)
-    ∙ ap (λ x. offered (register_of c) x h) (sym acts.answer.code)
+-- where each stream has a name none is dropped
+pub settles_itself : (h : State) → IsSettled h → settle h ≡ h
+settles_itself h named = ap (λ ss. record h { streams = ss }) (sym named)
 
 -- what has a name still has it where a register takes a code
 settled_offered : (register : Register) (refused : Code) (h : State) → IsSettled h → IsSettled (offered register refused h)
@@ -23,36 +25,41 @@ settled_offered (of_device d) refused h settled = settled
 settled_offered of_display refused h settled = settled
 settled_offered no_register refused h settled = settled
 
-module _ (m : Bool) (h : State) (client : ℕ) (c : Call) (left : State) (r : Reply) (acts : IsMarkedAct m h c left r) where
+module _ (m : Bool) (h : State) (client : ℕ) (c : Call) (left : State) (r : Reply) (acts : IsMarkedAct m h c left r)
+    (named : IsSettled h) where
   abbrev done : State × Reply
   done = act h c m
 
-  code_is : is_ok_code done.1.code ≡ is_ok_code r.code
-  code_is = ap is_ok_code (sym acts.answer.code)
+  -- a refusal offers its code to the call's register, and does nothing else
+  refusal_of : is_ok_code done.1.code ≡ false → settle done.0 ≡ offered (register_of c) done.1.code h
+  refusal_of refused =
+      let leaves = refused_leaves h c m refused in
+      ap settle leaves ∙ settles_itself (offered (register_of c) done.1.code h) (settled_offered (register_of c) done.1.code h named)
 
-  -- what is settled where the call was carried out is the step
-  pub marked_stepped : (now : State) → now ≡ settle_if (is_ok_code r.code) left → IsMarkedStep m h client c now r
-  unfolding step
-  marked_stepped now is =
-      record {
-        after_is = is ∙ ap (λ t. settle_if (is_ok_code r.code) t) acts.left_is
-            ∙ sym (ap (λ b. settle_if b done.0) code_is);
-        answer = acts.answer;
-        settled = λ named. subst IsSettled (sym is) (settled_if named (is_ok_code r.code) refl);
-        refused = λ refused. is ∙ ap (λ b. settle_if b left) (not_ok (is_ok_code r.code) refused) ∙ left_so refused;
-      }
+  -- it leaves all that is named, as every call does
+  dropped : settle_if (is_ok_code done.1.code) done.0 ≡ settle done.0
+  dropped = of_code (is_ok_code done.1.code) refl
     where
-      left_so : not (is_ok_code r.code) ≡ true → left ≡ offered (register_of c) r.code h
-      left_so refused = refusal_of m h c left r acts refused
+      of_code : (b : Bool) → is_ok_code done.1.code ≡ b → settle_if b done.0 ≡ settle done.0
+      of_code true ok = refl
+      of_code false refused = refused_leaves h c m refused ∙ sym (refusal_of refused)
 
-      settled_if : IsSettled h → (b : Bool) → is_ok_code r.code ≡ b → IsSettled (settle_if b left)
-      settled_if named true ok = settled left
-      settled_if named false ok = subst IsSettled (sym (left_so (rw ok refl))) (settled_offered (register_of c) r.code h named)
+  -- so it is the step
+  pub marked_stepped : IsMarkedStep m h client c left r
+  unfolding step
+  marked_stepped =
+      record {
+        after_is = acts.left_is ∙ sym dropped;
+        answer = acts.answer;
+        settled = subst IsSettled (sym acts.left_is) (settled done.0);
+        refused = λ refused. acts.left_is
+            ∙ refusal_of (ap is_ok_code (sym acts.answer.code) ∙ not_ok (is_ok_code r.code) refused)
+            ∙ ap (λ x. offered (register_of c) x h) (sym acts.answer.code);
+      }
 
 -- so it is where want of memory is told by the answer
-pub stepped : (h : State) (client : ℕ) (c : Call) (left : State) (r : Reply) → IsAct h c left r → (now : State)
-    → now ≡ settle_if (is_ok_code r.code) left → IsStep h client c now r
-stepped h client c left r acts now is = marked_stepped (is_out_of_memory r.code) h client c left r acts now is
+pub stepped : (h : State) (client : ℕ) (c : Call) (left : State) (r : Reply) → IsAct h c left r → IsSettled h → IsStep h client c left r
+stepped h client c left r acts named = marked_stepped (is_out_of_memory r.code) h client c left r acts named
 
 -- what is done to a state is done to the state that is seen there
 
@@ -62,3 +69,26 @@ marked_acts m h was seen c left r done = subst (λ t. IsMarkedAct m t c left r) 
 
 pub acts : (h was : State) → was ≡ h → (c : Call) (left : State) (r : Reply) → IsAct was c left r → IsAct h c left r
 acts h was seen c left r done = marked_acts (is_out_of_memory r.code) h was seen c left r done
+
+-- a call that carries nothing is answered, and any other is left
+
+pub record IsAnswered (h : State) (client : ℕ) (c : Call) (left : State) (o : Option Answer) : Type 0 where
+  pub settled : IsSettled left
+  pub carried : IfNone o (IsTrue (carries (part_of c)) × (left ≡ h))
+  pub after_is : IfSome o (λ a. left ≡ after h client c (bare a))
+  pub may : IfSome o (λ a. MayAnswer h client c (bare a))
+  pub refused : IfSome o (λ a. IsRefusal h left c a.code)
+
+pub answered : (h was : State) (client : ℕ) (c : Call) (left : State) (o : Option Answer) → was ≡ h → IsSettled was
+    → MatchOption o (IsTrue (carries (part_of c)) × (left ≡ was)) (λ a. IsAct was c left (bare a)) → IsAnswered h client c left o
+answered h was client c left None seen named done =
+    record {
+      settled = subst IsSettled (sym done.1) named;
+      carried = (done.0, done.1 ∙ seen);
+      after_is = tt;
+      may = tt;
+      refused = tt;
+    }
+answered h was client c left (Some a) seen named done =
+    let made = stepped h client c left (bare a) (acts h was seen c left (bare a) done) (subst IsSettled seen named) in
+    record { settled = made.settled; carried = tt; after_is = made.after_is; may = made.answer; refused = made.refused }

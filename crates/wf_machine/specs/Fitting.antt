@@ -60,11 +60,6 @@ abbrev pub AllFit : List Content → List KeptStream → Type 0
 AllFit contents [] = Unit {0}
 AllFit contents (s ∷ streams) = StreamFits contents s × AllFit contents streams
 
--- the mode of its port whose image the running frame draws into, or 0
-abbrev pub mode_of : Option Frame → ℕ
-mode_of None = 0
-mode_of (Some f) = f.mode
-
 -- the mode of a port whose image is away: that of its own frame, where that runs, and else none
 abbrev pub away_of : Option Frame → ℕ → ℕ
 away_of None port = 0

@@ -1,6 +1,8 @@
 -- What the machine is made of, and what holds of it.
 use Rattle.std.specs.Prelude.{◌≡◌, ◌≤◌, length, map, option_map, IfSome}
+use Rattle.wf_stream.specs.Names.{AreCounted}
 use Rattle.wf_stream.specs.Streams.{IsNumbered, held}
+use Rattle.wf_model.specs.Counting.{CountsNames}
 use Rattle.wf_model.specs.Kept.{modes_of}
 use Rattle.wf_model.specs.State.{State}
 use Rattle.wf_objects.specs.Fits.{Fits}
@@ -21,7 +23,8 @@ state_of m =
       frame = option_map running_of m.frame;
     }
 
-pub record IsSound (m : Inside) : Type 0 where
+-- what holds of the parts beside one another
+pub record Holds (m : Inside) : Type 0 where
   pub fits : Fits m.core m.store
   pub shows : Shows m.display m.store
   pub numbered : IsNumbered 0 m.store.streams m.store.numbered
@@ -33,3 +36,9 @@ pub record IsSound (m : Inside) : Type 0 where
   pub frame : IfSome m.frame (FrameFits (map sizes_of m.ports.items) m.store.streams)
   pub once : AreOnce (contents_of (option_map running_of m.frame))
   pub known : AreNumbered m.store.numbered (contents_of (option_map running_of m.frame))
+
+-- and each stream has a count, which is the number of its names
+pub record IsSound (m : Inside) : Type 0 where
+  pub holds : Holds m
+  pub counted : AreCounted m.store
+  pub counts : CountsNames m.store (state_of m)

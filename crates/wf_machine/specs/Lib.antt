@@ -3,6 +3,7 @@ pub mod Object
 pub mod Latching
 pub mod Ports
 pub mod Fitting
+pub mod Naming
 pub mod Inside
 pub mod LeftAlone
 pub mod Begun

@@ -16,7 +16,7 @@ use Rattle.wf_model.specs.State.{State}
 use Rattle.wf_model.specs.Picture.{Fits}
 use Rattle.wf_model.specs.Frames.{is_running}
 use Rattle.wf_model.specs.Registers.{offered}
-use Rattle.wf_model.specs.Names.{kept}
+use Rattle.wf_model.specs.Names.{kept, settle}
 use Rattle.wf_model.specs.Step.{act, step}
 
 -- a call can be answered now: no call that begins a frame waits for the running one
@@ -76,10 +76,13 @@ pub record IsAnswer (wanted reply : Reply) : Type 0 where
 abbrev pub MayAnswer : State → ℕ → Call → Reply → Type 0
 MayAnswer h client c reply = IsAnswer (answered_step h client c reply).1 reply
 
--- what a call does where memory is refused or not, before streams without a name are dropped: what it leaves, and what it
--- answers
+-- what a call left and answered, without the streams that it left without a name
+abbrev pub settled_so : State × Reply → State × Reply
+settled_so x = (settle x.0, x.1)
+
+-- what a call does where memory is refused or not: what it leaves, streams without a name dropped, and what it answers
 pub record IsMarkedAct (memory_refused : Bool) (h : State) (c : Call) (left : State) (reply : Reply) : Type 0 where
-  pub left_is : left ≡ (act h c memory_refused).0
+  pub left_is : left ≡ (settled_so (act h c memory_refused)).0
   pub answer : IsAnswer (act h c memory_refused).1 reply
 
 -- where want of memory is told by the answer
@@ -103,11 +106,11 @@ abbrev pub MayDeny : State → ℕ → Call → Reply → Type 0
 MayDeny h client c reply = IsAnswer (step h client c true).1 reply
 
 -- a step of the machine, where memory is refused or not: the state after it and the answer are the plain machine's; what is
--- kept has a name, where that was so before; and a refusal changes the call's register alone
+-- kept has a name; and a refusal changes the call's register alone
 pub record IsMarkedStep (memory_refused : Bool) (h : State) (client : ℕ) (c : Call) (left : State) (reply : Reply) : Type 0 where
   pub after_is : left ≡ (step h client c memory_refused).0
   pub answer : IsAnswer (step h client c memory_refused).1 reply
-  pub settled : IsSettled h → IsSettled left
+  pub settled : IsSettled left
   pub refused : IsRefusal h left c reply.code
 
 -- where want of memory is told by the answer

@@ -9,8 +9,7 @@ use crate::parts::Parts;
 use wf_calls::{Answer, Call, Part, Reply};
 
 impl Parts {
-    /// Does what a call asks for that brings nothing and takes nothing, or none where it is another call. Streams that it
-    /// leaves without a name are still there.
+    /// Does what a call asks for that brings nothing and takes nothing, or none where it is another call.
     pub(crate) fn act_plain(&mut self, call: &Call) -> Option<Answer>
         ensures { MatchOption result (IsTrue (carries (part_of call.now))
             × (self.new ≡ self.old)) (λ answer. IsAct self.old call.now self.new (bare answer)) }
@@ -28,6 +27,7 @@ impl Parts {
         requires { part_of call.now ≡ Part.Streams }
         ensures { IsAct self.old call.now self.new (bare result) }
     {
+        self.all_named();
         match call {
             Call::StreamNew {
                 width,
@@ -47,6 +47,8 @@ impl Parts {
         ensures { IsAct self.old call.now self.new (bare result) }
     {
         let screen = self.screen_of(call);
+        self.core.few_names();
+        self.display.few_names();
         self.core.run(&mut self.store, call, screen)
     }
 
@@ -55,6 +57,8 @@ impl Parts {
         requires { part_of call.now ≡ Part.Display }
         ensures { IsAct self.old call.now self.new (bare result) }
     {
+        self.core.few_names();
+        self.display.few_names();
         self.display.run(&mut self.store, call)
     }
 

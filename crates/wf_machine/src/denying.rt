@@ -29,6 +29,7 @@ impl Parts {
         requires ours { part_of call.now ≡ Part.Streams }
         ensures { IsMarkedAct true self.now call.now self.now (bare result) }
     {
+        self.all_named();
         match call {
             Call::StreamNew {
                 width,

@@ -4,7 +4,6 @@ ghost use Rattle.std.specs.Prelude.{◌≡◌, option_map};
 ghost use Rattle.std.specs.List.{list_all};
 ghost use Rattle.wf_model.specs.Frames.{has_shape, is_of_frame, is_target, same_kind};
 ghost use Rattle.wf_image.specs.Contents.{image_of};
-ghost use Rattle.wf_machine.specs.Fitting.{mode_of};
 ghost use Rattle.wf_machine.specs.Ports.{running_of};
 
 use arrayvec::ArrayVec;
@@ -53,16 +52,6 @@ fn is_same_kind(first: JobKind, second: JobKind) -> bool
         ) => handle == other && target == into,
         (JobKind::Port { port }, JobKind::Port { port: other }) => port == other,
         _ => false,
-    }
-}
-
-/// The mode of its port whose image the running frame draws into, or 0.
-pub(crate) fn mode_of(frame: &Option<Frame>) -> u32
-    ensures { result ≡ mode_of frame.now }
-{
-    match frame {
-        Some(frame) => frame.mode,
-        None => 0,
     }
 }
 

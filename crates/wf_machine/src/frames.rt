@@ -1,21 +1,24 @@
 //! Frames: they begin, and they end.
 
+ghost use Rattle.std.specs.List.{AllByRecursion};
 ghost use Rattle.std.specs.Prelude.{◌≡◌, ◌<◌, ◌+◌, ◌-◌, ◌^◌, None, Ok, IfSome, IsSome, MatchOption, Some, length, map};
 ghost use Rattle.wf_words.specs.Keyed.{nth};
 ghost use Rattle.wf_calls.specs.Parts.{no_register};
 ghost use Rattle.wf_stream.specs.Streams.{buffers_at};
 ghost use Rattle.wf_words.specs.Whole.{count_of};
 ghost use Rattle.wf_model.specs.Display.{begun_display, port_scene};
+ghost use Rattle.wf_model.specs.Fitting.{LayerFits};
 ghost use Rattle.wf_model.specs.Frames.{begin_context, begin_next, begin_port, delivered, drawing, end, is_running, start, started};
 ghost use Rattle.wf_model.specs.Frames.{target_ready};
 ghost use Rattle.wf_machine.specs.Fitting.{IsComposable, IsDue, PortsFit, is_of_running};
 ghost use Rattle.wf_machine.specs.Latching.{AreAtHome};
-ghost use Rattle.wf_machine.specs.Object.{IsAnswer};
+ghost use Rattle.wf_machine.specs.Object.{IsAnswer, IsSettled, settled_so};
 ghost use Rattle.wf_machine.specs.Ports.{sizes_of};
 ghost use Rattle.wf_machine.specs.Starting.{IsReady, IsTargetOf, MayStart, beginning_of};
 
-use crate::frame::{Frame, mode_of};
+use crate::frame::Frame;
 use crate::latching::{bring_home, latch_scene, names};
+use crate::naming::{begin_names, end_names};
 use crate::parts::Parts;
 use crate::port::{Port, put_image, take_image};
 use crate::replies::refused;
@@ -72,8 +75,10 @@ impl Parts {
     #[inline(never)]
     pub(crate) fn begin_next(&mut self, after: u32) -> Reply
         ensures left { self.new ≡ (started no_register self.old (begin_next after self.old)).0 }
+        ensures settled { IsSettled self.new }
         ensures answer { IsAnswer (started no_register self.old (begin_next after self.old)).1 result }
     {
+        self.all_named();
         if self.is_busy() {
             return refused(Code::Busy);
         }
@@ -89,8 +94,10 @@ impl Parts {
         requires home { AreAtHome self.old.streams }
         requires fits { IsComposable self.old.streams shown.target shown.scene }
         ensures left { self.new ≡ (started no_register self.old (begin_context value handle shown.target shown.scene self.old)).0 }
+        ensures settled { IsSettled self.new }
         ensures answer { IsAnswer (started no_register self.old (begin_context value handle shown.target shown.scene self.old)).1 result }
     {
+        self.all_named();
         if let Err(refusal) = self.target_ready(value, &shown) {
             return Reply::bare(Answer::refused(refusal));
         }
@@ -126,9 +133,10 @@ impl Parts {
     /// Begins a frame of a port, which is counted from 1, where it gives frames.
     #[inline(never)]
     pub(crate) fn begin_port(&mut self, port: i64) -> Reply
-        ensures left { self.new ≡ (started no_register self.old (begin_port port self.old)).0 }
+        ensures left { self.new ≡ (settled_so (started no_register self.old (begin_port port self.old))).0 }
         ensures answer { IsAnswer (started no_register self.old (begin_port port self.old)).1 result }
     {
+        self.all_named();
         let Some(number) = self.declared_screen(port) else {
             return refused(Code::BadHandle);
         };
@@ -141,6 +149,8 @@ impl Parts {
         if self.begun == u64::MAX {
             return refused(Code::Limit);
         }
+        self.core.few_names();
+        self.display.few_names();
         self.display.begin(&mut self.store, number);
         self.start_port(number)
     }
@@ -153,6 +163,9 @@ impl Parts {
         requires begun { begun_display port self.old.display ≡ self.old.display }
         ensures left { IfSome (port_scene port self.old.display)
             (λ scene. self.new ≡ (start (beginning_of (JobKind.Port port) scene port self.old) self.old).0) }
+        ensures settled { IsSettled self.new }
+        ensures layers { IfSome (port_scene port self.old.display)
+            (λ scene. AllByRecursion (LayerFits self.old.streams) scene.layers.items) }
         ensures answer { IfSome (port_scene port self.old.display)
             (λ scene. IsAnswer (start (beginning_of (JobKind.Port port) scene port self.old) self.old).1 result) }
     {
@@ -172,10 +185,14 @@ impl Parts {
         requires few { self.old.begun < 2 ^ 64 - 1 }
         requires may { MayStart kind mode scene self.old }
         ensures left { self.new ≡ (start (beginning_of kind scene value self.old) self.old).0 }
+        ensures settled { IsSettled self.new }
         ensures answer { IsAnswer (start (beginning_of kind scene value self.old) self.old).1 result }
     {
         let (contents, shapes) = latch_scene(&mut self.store, &scene).into_parts();
         let image = take_target(&mut self.store, &mut self.ports, kind, mode);
+        self.core.few_names();
+        self.display.few_names();
+        begin_names(&mut self.store, shapes.as_slice(), kind);
         self.begun += 1;
         self.frame = Some(Frame {
             number: self.begun,
@@ -207,15 +224,25 @@ impl Parts {
 
     /// Ends the running frame, whose Job this is, and brings its images home. Any other Job comes back.
     pub(crate) fn end(&mut self, job: Job) -> Reply
-        ensures { end job self.old ≡ (self.new, result) }
+        ensures { settled_so (end job self.old) ≡ (self.new, result) }
     {
+        self.all_named();
         if !self.is_of_running(&job) {
             return Reply::giving_back_job(job);
         }
-        let mode = mode_of(&self.frame);
+        let Some(frame) = self.frame.take() else {
+            unreachable!()
+        };
+        let kind = job.kind;
         bring_home(&mut self.store, job.contents);
-        deliver(&mut self.store, &mut self.ports, job.kind, mode, job.image);
-        self.frame = None;
+        deliver(
+            &mut self.store,
+            &mut self.ports,
+            kind,
+            frame.mode,
+            job.image,
+        );
+        end_names(&mut self.store, frame.contents.as_slice(), kind);
         Reply::bare(Answer::done(0))
     }
 }

@@ -9,12 +9,12 @@ mod frames;
 mod latching;
 mod laws;
 mod machine;
+mod naming;
 mod object;
 mod parts;
 mod port;
 mod replies;
 mod screens;
-mod settling;
 mod streams;
 #[cfg(test)]
 mod tests;

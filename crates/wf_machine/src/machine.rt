@@ -1,13 +1,13 @@
 //! The machine.
 
-ghost use Rattle.std.specs.Prelude.{◌≡◌, IfOk, IfSome, IsTrue, true};
+ghost use Rattle.std.specs.Prelude.{◌≡◌, ◌<◌, IfOk, IfSome, IsTrue, length, true};
 ghost use Rattle.std.specs.Option.{IfNone};
 ghost use Rattle.wf_stream.specs.Streams.{held};
 ghost use Rattle.wf_calls.specs.Creations.{is_creation};
 ghost use Rattle.wf_calls.specs.Parts.{carries, part_of};
 ghost use Rattle.wf_calls.specs.Replies.{bare};
 ghost use Rattle.wf_calls.specs.PortRules.{may_declare};
-ghost use Rattle.wf_model.specs.Names.{kept};
+ghost use Rattle.wf_model.specs.Names.{kept, names};
 ghost use Rattle.wf_model.specs.State.{opening};
 ghost use Rattle.wf_machine.specs.Object.{IsMarkedStep, IsRefusal, IsStep, MayAnswer, MayDeny, after, denied, is_ready};
 ghost use Rattle.wf_calls.specs.Parts.{is_begin};
@@ -56,11 +56,7 @@ impl Machine {
         ensures lifetime { self.new.streams ≡ kept self.new }
         ensures refused { IfSome result (λ answer. IsRefusal self.old self.new call.now answer.code) }
     {
-        let answer = self.parts.act_plain(call);
-        if let Some(answer) = answer {
-            self.parts.settle_if(answer.code.is_ok());
-        }
-        answer
+        self.parts.act_plain(call)
     }
 
     /// Runs a client's call that may bring a write buffer or a Job, or takes one.
@@ -68,9 +64,7 @@ impl Machine {
         requires { IsTrue (carries (part_of call)) }
         ensures { IsStep self.old client call self.new result }
     {
-        let reply = self.parts.act_carrying(call);
-        self.parts.settle_if(reply.code.is_ok());
-        reply
+        self.parts.act_carrying(call)
     }
 
     /// Runs a client's call, as one indivisible step. A stream that the call leaves without a name is dropped in it. A
@@ -94,9 +88,7 @@ impl Machine {
         ensures step { IsMarkedStep true self.old client call.now self.new result }
         ensures lifetime { self.new.streams ≡ kept self.new }
     {
-        let reply = self.parts.deny(call);
-        self.parts.settle_if(reply.code.is_ok());
-        reply
+        self.parts.deny(call)
     }
 
     /// Answers a client's call as `run` does, but that memory is refused to it: a creation that no other refusal meets answers
@@ -119,6 +111,15 @@ impl Machine {
         ensures { result ≡ is_ready self.now call.now }
     {
         !call.is_begin() || self.parts.frame.is_none()
+    }
+
+    /// How many names the stream of a number has, which counts from 1 all streams that were ever made, screens included; 0 where
+    /// none is kept.
+    pub fn count(&self, stream: u32) -> u32
+        requires { 0 < stream }
+        ensures { result ≡ length (names self.now stream) }
+    {
+        self.parts.count(stream)
     }
 
     /// How many streams are kept, and the bytes of their buffers.

@@ -1,10 +1,13 @@
 //! The calls on streams.
 
-ghost use Rattle.std.specs.Prelude.{◌≡◌, IfOk, IfSome, IsErrOf, OnErr, OnOk, IsSome, IsSomeAnd, IsTrue, pos, ◌+◌, ◌||◌, false, true, Some};
+ghost use Rattle.std.specs.Prelude.{◌≡◌, IfOk, IfSome, IsErrOf, OnErr, OnOk, IsSome, IsSomeAnd, IsTrue, pos, length, ◌<◌, ◌+◌, ◌||◌, false};
+ghost use Rattle.std.specs.Prelude.{true, Some};
+ghost use Rattle.wf_model.specs.Names.{names};
 ghost use Rattle.wf_words.specs.Whole.{count_of};
 ghost use Rattle.wf_pixel.specs.Choice.{is_between};
 ghost use Rattle.wf_life.specs.Handles.{is_full};
 ghost use Rattle.wf_calls.specs.Codes.{is_out_of_memory};
+ghost use Rattle.wf_stream.specs.Counts.{without_count};
 ghost use Rattle.wf_stream.specs.Buffers.{acquired, discarded, is_blocked, posted};
 ghost use Rattle.wf_image.specs.Bitmap.{blank};
 ghost use Rattle.wf_stream.specs.Streams.{KeptStream, buffers_at, change_stream, has_no_room, held, stream_at, with_live_stream};
@@ -12,6 +15,7 @@ ghost use Rattle.wf_model.specs.Streams.{acquirable, acquire_step, canvas_back, 
 ghost use Rattle.wf_model.specs.Streams.{new_buffers, stat, stream_destroy, stream_new, stream_step};
 ghost use Rattle.wf_calls.specs.Replies.{bare, done};
 ghost use Rattle.wf_machine.specs.Latching.{IsOutFrom};
+ghost use Rattle.wf_machine.specs.Object.{IsSettled, settled_so};
 
 use crate::frame::is_target;
 use crate::parts::Parts;
@@ -20,7 +24,7 @@ use wf_calls::{Answer, Code, Reply, StatWord};
 use wf_image::{Canvas, Image};
 use wf_life::MakeStop;
 use wf_pixel::{Format, Size};
-use wf_stream::{Refused, Store};
+use wf_stream::{Refused, Store, begin_name, end_name};
 
 /// A number between two bounds, both included.
 fn is_between(low: i64, high: i64, number: i64) -> bool
@@ -55,6 +59,7 @@ fn make(
     requires { IsTrue (may_make width height buffers) }
     ensures handle { IfOk result (λ handle. handle ≡ store.old.made + 1) }
     ensures made { OnOk result (store.new ≡ with_live_stream (new_buffers width height format buffers) store.old) }
+    ensures uncounted { OnOk result (without_count (store.old.numbered + 1) store.old.counts ≡ store.old.counts) }
     ensures room { OnOk result (has_no_room (new_buffers width height format buffers) store.old.streams ≡ false) }
     ensures free { OnOk result (is_full store.old.made ≡ false) }
     ensures limit { IsErrOf result MakeStop.Limit
@@ -159,9 +164,11 @@ impl Parts {
         format: Format,
         buffers: i64,
     ) -> Answer
-        ensures { stream_step self.old (stream_new width height format buffers (is_out_of_memory result.code) self.old)
+        ensures made { stream_step self.old (stream_new width height format buffers (is_out_of_memory result.code) self.old)
             ≡ (self.new, bare result) }
+        ensures settled { IsSettled self.new }
     {
+        self.all_named();
         if !may_make(width, height, buffers) {
             return refuse(Code::IllegalArgument);
         }
@@ -192,15 +199,30 @@ impl Parts {
         refuse(Code::OutOfMemory)
     }
 
-    /// Ends the life of a stream's handle. The stream is kept while something else names it.
+    /// Ends the life of a stream's handle. The stream is kept while something else names it, and else dropped.
     pub(crate) fn stream_destroy(&mut self, stream: u32) -> Answer
-        ensures { stream_step self.old (stream_destroy stream self.old) ≡ (self.new, bare result) }
+        ensures { settled_so (stream_step self.old (stream_destroy stream self.old)) ≡ (self.new, bare result) }
     {
         let Ok(_) = self.store.number(stream) else {
             return refuse(Code::BadHandle);
         };
         self.store.kill(stream);
         Answer::done(0)
+    }
+
+    /// Each stream that is kept has a name. It changes nothing.
+    pub(crate) fn all_named(&self)
+        ensures { IsSettled self.now }
+    {
+        let _store = &self.store;
+    }
+
+    /// How many names the stream of a number has.
+    pub(crate) fn count(&self, stream: u32) -> u32
+        requires { 0 < stream }
+        ensures { result ≡ length (names self.now stream) }
+    {
+        self.store.count(stream)
     }
 
     /// What is kept.
@@ -216,7 +238,8 @@ impl Parts {
 
     /// Takes a stream's write buffer.
     pub(crate) fn acquire(&mut self, stream: u32) -> Reply
-        ensures { acquire_step self.old (acquirable stream self.old) ≡ (self.new, result) }
+        ensures acquired { acquire_step self.old (acquirable stream self.old) ≡ (self.new, result) }
+        ensures settled { IsSettled self.new }
     {
         let Ok(number) = self.store.number(stream) else {
             return refused(Code::BadHandle);
@@ -226,6 +249,9 @@ impl Parts {
             Err(Refused::Busy) => return refused(Code::Busy),
             Err(Refused::NoBuffer) => return refused(Code::NoBuffer),
         };
+        self.core.few_names();
+        self.display.few_names();
+        begin_name(&mut self.store, number);
         Reply::giving_canvas(canvas)
     }
 
@@ -238,23 +264,27 @@ impl Parts {
 
     /// Makes a write buffer the newest image of its stream.
     pub(crate) fn post(&mut self, canvas: Canvas) -> Reply
-        ensures { canvas_back canvas (posted canvas.image) self.old ≡ (self.new, result) }
+        ensures { settled_so (canvas_back canvas (posted canvas.image) self.old) ≡ (self.new, result) }
     {
         if !self.is_out_at_client(&canvas) {
             return Reply::giving_back_canvas(canvas);
         }
+        let stream = canvas.stream;
         post_to(&mut self.store, canvas);
+        end_name(&mut self.store, stream);
         Reply::bare(Answer::done(0))
     }
 
     /// Gives a write buffer back unseen.
     pub(crate) fn discard(&mut self, canvas: Canvas) -> Reply
-        ensures { canvas_back canvas discarded self.old ≡ (self.new, result) }
+        ensures { settled_so (canvas_back canvas discarded self.old) ≡ (self.new, result) }
     {
         if !self.is_out_at_client(&canvas) {
             return Reply::giving_back_canvas(canvas);
         }
+        let stream = canvas.stream;
         discard_to(&mut self.store, canvas);
+        end_name(&mut self.store, stream);
         Reply::bare(Answer::done(0))
     }
 }

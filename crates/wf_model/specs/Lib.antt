@@ -6,6 +6,8 @@ pub mod Composition
 pub mod Core
 pub mod State
 pub mod Names
+pub mod Counting
+pub mod Named
 pub mod Picture
 pub mod Numbered
 pub mod DisplaySides

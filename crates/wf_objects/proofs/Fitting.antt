@@ -6,6 +6,8 @@ use Rattle.wf_life.specs.declared.Kind.{Kind}
 use Rattle.wf_life.specs.declared.Kind.TheVariants as kind
 use Rattle.wf_life.specs.Handles.{IsRising, Live, same_kind}
 use Rattle.wf_stream.specs.Streams.{KeptStream, StoreView}
+use Rattle.wf_stream.specs.Names.{same_counts}
+use Rattle.wf_model.specs.Names.{core_names}
 use Rattle.wf_calls.specs.declared.code.Code.{Code}
 use Rattle.wf_model.specs.Objects.{Context, CoreState, Device, Source}
 use Rattle.wf_model.specs.Outcome.{Outcome}
@@ -47,7 +49,8 @@ takes_error d core new store x n fits at is number =
       case = rw at (ap (λ k. done k (register_number x.register)) (sym is) ∙ ap (done new) (sym number));
       refused = tt;
       untouched = tt;
-      kept = record { streams = refl; numbered = refl; others = refl };
+      kept = record { numbered = refl; others = refl };
+      names = same_counts (core_names core) (core_names new) store (λ n some. rw is refl);
       fits = register_fits d (λ _. None) core new store is fits;
     }
 

@@ -1,4 +1,7 @@
 pub mod Fitting
+pub mod NameCounts
+pub mod LayerNames
+pub mod Endings
 pub mod Lookups
 pub mod Owners
 pub mod Scenes

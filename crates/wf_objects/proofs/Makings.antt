@@ -8,8 +8,11 @@ use Rattle.std.proofs.lemmas.List.{map-append}
 use Rattle.wf_words.specs.Keyed.{is_in}
 use Rattle.wf_life.specs.declared.Kind.{Kind}
 use Rattle.wf_life.specs.declared.Kind.TheVariants as kind
-use Rattle.wf_life.specs.Handles.{Live, IsRising, same_kind, rising_more}
+use Rattle.wf_life.specs.Handles.{Live, IsRising, same_kind, rising_more, live_count}
+use Rattle.wf_stream.specs.Counts.{times}
 use Rattle.wf_stream.specs.Streams.{StoreView, with_other}
+use Rattle.wf_stream.specs.Names.{Recounts, but_names}
+use Rattle.wf_model.specs.Names.{core_names}
 use Rattle.wf_scene.specs.Cached as cached
 use Rattle.wf_scene.specs.Cached.{handle_of, handles}
 use Rattle.wf_scene.specs.Elements.{new_element}
@@ -22,7 +25,9 @@ use Rattle.std.specs.Prelude.{nat_le}
 use Rattle.wf_objects.specs.Does.{Does, element_made, in_place}
 use Rattle.wf_objects.proofs.Scenes.{placed_is}
 use Rattle.wf_objects.specs.Links.{link_kind, link_live, links, with_links}
-use Rattle.wf_objects.specs.Sides.{is_of_composition, core_side_of}
+use Rattle.wf_objects.specs.Sides.{beside, is_of_composition, core_side_of}
+use Rattle.wf_stream.specs.Renames.{names_stay}
+use Rattle.wf_objects.proofs.NameCounts.{changed_names}
 use Rattle.wf_model.specs.Outcome.{refused_handle}
 use Rattle.wf_objects.proofs.Fitting.{Housed, KindChanged, contexts_fit, devices_fit, links_fit, links_live, links_show}
 use Rattle.wf_objects.specs.Fits.{ContextFits, Fits, HasElements, Shows, context_live, device_live, element_live, elements_of, has_owner}
@@ -48,25 +53,28 @@ module _ (core : CoreState) (store : StoreView) (fits : Fits core store) where
       (is : (m : Bool) → plain m (core_side_of core store)
       ≡ (room at_limit m (core_side_of core store) >>= (λ _. Ok (created grown (core_side_of core store))))) where
     pub creates : (k : Kind) (key : ℕ) → same_kind k kind.DisplaySource ≡ false → is_of_composition k ≡ true → at_limit ≡ false
-        → Ok tt ≡ refused_handle store.made false → Fits grown (with_other k key store)
-        → Does plain core grown store (with_other k key store) (Ok (store.made + 1))
-    creates k key other ours below given fit =
+        → Ok tt ≡ refused_handle store.made false → (now : StoreView) → but_names now ≡ but_names (with_other k key store)
+        → Recounts (core_names core) (core_names grown) store now → Fits grown now
+        → Does plain core grown store now (Ok (store.made + 1))
+    creates k key other ours below given now rest names fit =
         let new = live k (store.made + 1) key in
         let after : Unit {0} → Outcome CoreSide = λ _. Ok (created grown (core_side_of core store)) in
-        let done : ℕ → Outcome CoreSide = λ count. (let left : CoreSide
-        × ℕ = (record { made = store.made + 1; streams = store.streams; core = grown; display_sources = count }, store.made + 1) in
+        let done : ℕ → ℕ → Outcome CoreSide = λ made count. (let left : CoreSide
+        × ℕ = (record { made = made; streams = store.streams; core = grown; display_sources = count }, store.made + 1) in
         Ok left) in
+        let seen : StoreView → Outcome CoreSide = λ v. done v.made (live_count kind.DisplaySource v.others) in
         record {
           case = is false ∙ ap (λ b. room b false (core_side_of core store) >>= after) below
               ∙ ap (λ x. x >>= after) (sym given)
-              ∙ ap done (sym (count_left (λ l. same_kind l.kind kind.DisplaySource) store.others new other));
+              ∙ ap (done (store.made + 1)) (sym (count_left (λ l. same_kind l.kind kind.DisplaySource) store.others new other))
+              ∙ ap seen (sym rest);
           refused = tt;
           untouched = tt;
           kept = record {
-            streams = refl;
-            numbered = refl;
-            others = more_left (λ l. not (is_of_composition l.kind)) store.others new (ap not ours);
+            numbered = ap (λ v. v.numbered) rest;
+            others = ap (λ v. beside v.others) rest ∙ more_left (λ l. not (is_of_composition l.kind)) store.others new (ap not ours);
           };
+          names = names;
           fits = fit;
         }
 
@@ -185,9 +193,12 @@ module _ (core : CoreState) (store : StoreView) (fits : Fits core store) where
       let grown = change_context c.handle (with_cached (cached.add next c.cached)) core in
       let is = placed_is core store fits place c at (with_cached (cached.add next c.cached)) in
       let now = with_other kind.Element c.handle store in
+      let names = changed_names c.handle (with_cached (cached.add next c.cached)) core (λ y. refl) in
       subst (λ k. Does (in_place place element_made) core k store now (Ok next)) is
       (creates (in_place place element_made) (nat_le 64 (length c.cached.elements)) grown (λ m. rw at refl) kind.Element c.handle refl
-      refl below given (subst (λ k. Fits k now) (sym is) (element_fits place c at)))
+      refl below given now refl
+      (names_stay (core_names core) (core_names grown) store now refl refl (λ n some. ap (times n) (sym names)))
+      (subst (λ k. Fits k now) (sym is) (element_fits place c at)))
 
   -- the contexts have handles that were given
   abbrev IsUnder : List Context → Type 0

@@ -6,6 +6,8 @@ use Rattle.wf_stream.specs.Streams.{StoreView}
 use Rattle.wf_model.specs.Objects.{Context, CoreState, Source}
 use Rattle.wf_model.specs.Composition.{change_context, is_of_device, with_cached}
 use Rattle.wf_model.specs.Core.{without_source, without_those_of, without_context}
+use Rattle.wf_life.specs.Handles.{key_of}
+use Rattle.wf_life.specs.Living.{keyed}
 use Rattle.wf_objects.specs.Fits.{Fits, HandlesFit, HasElements, element_live, elements_of}
 use Rattle.wf_objects.specs.Links.{link_kind, link_live, links, with_links}
 use Rattle.wf_objects.proofs.Fitting.{links_live}
@@ -73,6 +75,23 @@ pub rises_links : (core : CoreState) (store : StoreView) → HandlesFit core sto
     → Rises (λ s. s.handle) 0 (links mask core)
 rises_links core store fits mask = rises_kind (link_kind mask) (link_live mask) (links mask core) store.others store.made fits.rising
     (links_live core store fits mask)
+
+-- a link that has a handle, and the number of its stream, under which the store has it
+pub record Linked (core : CoreState) (store : StoreView) (h : ℕ) (mask : Bool) : Type 0 where
+  pub source : Source
+  pub found : find (λ s. s.handle == h) (links mask core) ≡ Some source
+  pub key : key_of h (link_kind mask) store.others ≡ Some source.stream
+
+pub linked_at : (core : CoreState) (store : StoreView) → Fits core store → (h : ℕ) (mask : Bool)
+    → list_any (λ s. s.handle == h) (links mask core) ≡ true → Linked core store h mask
+linked_at core store fits h mask live =
+    let s = some_at (λ x. x.handle == h) (links mask core) live in
+    record {
+      source = s.0;
+      found = s.1;
+      key = keyed (link_kind mask) (link_live mask) h (links mask core) store.others (links_live core store fits.handles mask)
+          ∙ ap (option_map (λ x. x.stream)) s.1;
+    }
 
 -- the links of a kind, replaced
 

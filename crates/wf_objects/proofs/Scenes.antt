@@ -1,6 +1,6 @@
 -- Changes of the context at a place: each does what the plain change does.
 use Rattle.std.proofs.Common.{◌≡◌, ℕ, zero, suc, Bool, true, ◌||◌, not, ℤ, List, [], ◌∷◌, map, set, slice_get, Some, OnErr, Result, Ok, Err}
-use Rattle.std.proofs.Common.{refl, sym, ap, subst, ◌∙◌}
+use Rattle.std.proofs.Common.{refl, sym, ap, subst, ◌∙◌, flat_map, arith}
 use Rattle.std.specs.List.{list_all}
 use Rattle.wf_words.specs.Each.{each_at, each_set}
 use Rattle.wf_words.specs.Keyed.{is_in}
@@ -9,7 +9,10 @@ use Rattle.wf_words.specs.Refusals.{left_by}
 use Rattle.wf_words.specs.Rising.{change_at}
 use Rattle.wf_life.specs.declared.Kind.TheVariants as kind
 use Rattle.wf_life.specs.Handles.{same_kind}
+use Rattle.wf_stream.specs.Counts.{times}
 use Rattle.wf_stream.specs.Streams.{StoreView}
+use Rattle.wf_stream.specs.Names.{NamesFit, Recounts, but_names, same_counts, still_named}
+use Rattle.wf_model.specs.Names.{context_names, core_names, layer_names}
 use Rattle.wf_scene.specs.declared.attributes.ElementAttr.{ElementAttr}
 use Rattle.wf_scene.specs.declared.attributes.Refused.{Refused}
 use Rattle.wf_scene.specs.declared.Scene.{Scene}
@@ -23,7 +26,10 @@ use Rattle.wf_model.specs.Composition.{CoreSide, change_context, with_cached}
 use Rattle.wf_model.specs.Core.{linked, with_active, with_committed}
 use Rattle.wf_objects.specs.Does.{Does, changed, edited_by, element_set, in_place, refuses, scene_set}
 use Rattle.wf_objects.specs.Fits.{ContextFits, Fits, HasElements, context_live}
-use Rattle.wf_objects.specs.Sides.{core_side_of}
+use Rattle.wf_objects.specs.Named.{renamed_fits}
+use Rattle.wf_stream.specs.Renames.{Renames, named_again, then_renames}
+use Rattle.wf_objects.specs.Sides.{beside, core_side_of}
+use Rattle.wf_objects.proofs.NameCounts.{changed_names, committed_in, committed_times}
 use Rattle.wf_objects.proofs.Fitting.{contexts_fit}
 use Rattle.wf_objects.proofs.Keeping.{Keeps}
 use Rattle.wf_objects.proofs.Lookups.{rises_contexts}
@@ -67,16 +73,26 @@ module _ (core : CoreState) (store : StoreView) (fits : Fits core store) (place 
   done : CoreState → Outcome CoreSide
   done k = Ok (record (core_side_of core store) { core = k }, 0)
 
+  -- what names the same streams changes no name
+  same_named : (f : Context → Context) → ((y : Context) → context_names (f y) ≡ context_names y)
+      → Recounts (core_names core) (core_names (placed (f c))) store store
+  same_named f same = same_counts (core_names core) (core_names (placed (f c))) store
+      (λ n some. ap (times n) (sym (changed_names c.handle f core same)) ∙ ap (λ k. times n (core_names k)) (placed_is f))
+
   -- the context alone changes
-  changes : (f : Context → Context) → Fits (placed (f c)) store
-      → Does (in_place place (changed f)) core (placed (f c)) store store (Ok 0)
+  changes : (f : Context → Context) (now : StoreView) → but_names now ≡ but_names store
+      → Recounts (core_names core) (core_names (placed (f c))) store now → Fits (placed (f c)) now
+      → Does (in_place place (changed f)) core (placed (f c)) store now (Ok 0)
   unfolding done
-  changes f fit =
+  changes f now rest names fit =
+      let seen : StoreView → Outcome CoreSide = λ v. (let left : CoreSide
+      × ℕ = (record (core_side_of (placed (f c)) v) { streams = store.streams }, 0) in Ok left) in
       record {
-        case = rw at (ap done (placed_is f));
+        case = rw at (ap done (placed_is f) ∙ ap seen (sym rest));
         refused = tt;
         untouched = tt;
-        kept = record { streams = refl; numbered = refl; others = refl };
+        kept = record { numbered = ap (λ v. v.numbered) rest; others = ap (λ v. beside v.others) rest };
+        names = names;
         fits = fit;
       }
 
@@ -85,12 +101,34 @@ module _ (core : CoreState) (store : StoreView) (fits : Fits core store) (place 
       (Ok 0)
   activates active =
       let fit = each_at (ContextFits store.streams) core.contexts place c fits.streams.contexts at in
-      changes (with_active active) (placed_fits (record c { active = active }) refl refl
+      changes (with_active active) store refl (same_named (with_active active) (λ y. refl)) (placed_fits (record c {
+        active =
+            active;
+      }) refl refl
       (record { target = fit.target; size = fit.size; layers = fit.layers }))
 
-  pub commits : (scene : Scene) → ContextFits store.streams (with_committed scene c)
-      → Does (in_place place (changed (with_committed scene))) core (placed (record c { committed = scene })) store store (Ok 0)
-  commits scene fit = changes (with_committed scene) (placed_fits (record c { committed = scene }) refl refl fit)
+  -- the names of the committed scene are counted beside others that began
+  pub committed_fit : (began : List ℕ) (mid : StoreView) → NamesFit (core_names core) store → Renames [] began store mid
+      → NamesFit (flat_map layer_names c.committed.layers.items) mid
+  committed_fit began mid named begins =
+      still_named store mid [] began named.counted begins.names (core_names core) (flat_map layer_names c.committed.layers.items)
+      (λ n some. (let a = committed_in n core place c at in omega (arith, a))) named
+
+  -- another committed scene, whose names began before those of the one that stood there ended
+  pub commits : (scene : Scene) (mid now : StoreView) → NamesFit (core_names core) store
+      → ContextFits store.streams (with_committed scene c) → Renames [] (flat_map layer_names scene.layers.items) store mid
+      → Renames (flat_map layer_names c.committed.layers.items) [] mid now
+      → Does (in_place place (changed (with_committed scene))) core (placed (record c { committed = scene })) store now (Ok 0)
+  commits scene mid now named fit begins ends =
+      let left = placed (with_committed scene c) in
+      let new = flat_map layer_names scene.layers.items in
+      let old = flat_map layer_names c.committed.layers.items in
+      let change = then_renames store mid now [] old (core_names core) (core_names left) new [] named.counted begins ends
+      (λ n some. (let a = committed_times n core place c scene at in omega (arith, a))) in
+      changes (with_committed scene) now change.rest change.names
+      (renamed_fits left store now (core_names core) (core_names left) named.counted change
+      (named_again store now (core_names core) (core_names left) named change.names)
+      (placed_fits (with_committed scene c) refl refl fit))
 
   -- another cached scene of the same elements and size
   scene_fits : (s : CachedScene) → Keeps c.cached s → Fits (placed (record c { cached = s })) store
@@ -110,7 +148,8 @@ module _ (core : CoreState) (store : StoreView) (fits : Fits core store) (place 
         case = rw (at, is) (ap done (placed_is (with_cached s)));
         refused = tt;
         untouched = tt;
-        kept = record { streams = refl; numbered = refl; others = refl };
+        kept = record { numbered = refl; others = refl };
+        names = same_named (with_cached s) (λ y. refl);
         fits = scene_fits s (keeps s is);
       })
   edits call (Err x) s r is same keeps answered =
@@ -131,5 +170,6 @@ module _ (core : CoreState) (store : StoreView) (fits : Fits core store) (place 
           refused = does.refused;
           untouched = does.untouched;
           kept = does.kept;
+          names = does.names;
           fits = does.fits;
         }

@@ -25,7 +25,8 @@ use Rattle.wf_calls.specs.declared.code.Code.{Code}
 use Rattle.wf_model.specs.Objects.{Context, CoreState, Device}
 use Rattle.wf_objects.specs.declared.objects.Objects.TheInside.{Inside}
 use Rattle.wf_objects.specs.Fits.{HandlesFit, context_live, device_live}
-use Rattle.wf_objects.specs.Inside.{IsKept, tables_of}
+use Rattle.wf_objects.specs.Inside.{HasFewLayers, IsKept, tables_of}
+use Rattle.wf_words.specs.Each.{each_at, each_set}
 use Rattle.wf_objects.specs.Tracks.{Tracks}
 use Rattle.wf_objects.proofs.Lookups.{rises_kind}
 
@@ -285,13 +286,16 @@ written m view core place x y old is at handle device =
 -- the same of all tables
 pub kept_in : (s : Inside) (core : CoreState) (place : ℕ) (x y : Context) → IsKept s → tables_of s ≡ core
     → slice_get core.contexts place ≡ Some x → y.handle ≡ x.handle → y.device ≡ x.device
+    → (HasFewLayers x → HasFewLayers y)
     → IsKept (record s { contexts = with_item s.contexts place y })
-kept_in s core place x y kept is at handle device =
+kept_in s core place x y kept is at handle device few =
     record {
       devices = kept.devices;
       contexts = kept.contexts;
       sources = kept.sources;
       masks = kept.masks;
+      layers = each_set HasFewLayers s.contexts.items place y kept.layers (few (each_at HasFewLayers s.contexts.items place x kept.layers
+          (subst (λ k. slice_get k.contexts place ≡ Some x) (sym is) at)));
       tracked = written s.members (tables_of s) core place x y kept.tracked is at handle device;
     }
 

@@ -4,6 +4,7 @@ use Rattle.std.specs.Prelude.{OnErr, IfSome, Result, Ok, Err}
 use Rattle.std.proofs.Common.{refl, sym, ap, ◌∙◌}
 use Rattle.wf_words.specs.Refusals.{◌>>=◌}
 use Rattle.wf_stream.specs.Streams.{StoreView}
+use Rattle.wf_stream.specs.Names.{Recounts, same_counts}
 use Rattle.wf_scene.specs.declared.attributes.ElementAttr.{ElementAttr}
 use Rattle.wf_scene.specs.declared.attributes.Refused.{Refused}
 use Rattle.wf_scene.specs.declared.look.Seen.{Seen}
@@ -14,6 +15,7 @@ use Rattle.wf_calls.specs.Codes.{is_out_of_memory}
 use Rattle.wf_calls.specs.Replies.{refusal}
 use Rattle.wf_calls.specs.declared.code.Code.TheVariants as code
 use Rattle.wf_calls.specs.declared.reply.Refusal.{Refusal}
+use Rattle.wf_model.specs.Names.{core_names}
 use Rattle.wf_model.specs.Objects.{Context, CoreState, Source}
 use Rattle.wf_model.specs.Outcome.{Outcome, found}
 use Rattle.wf_model.specs.Composition.{CoreSide, change_context, context, created, device, element_context, with_cached}
@@ -22,17 +24,19 @@ use Rattle.wf_objects.specs.Fits.{Fits}
 use Rattle.wf_objects.specs.Links.{links, with_links}
 use Rattle.wf_objects.specs.Owners.{StandsAt, joined, owned_context, owning_context}
 use Rattle.wf_model.specs.Outcome.{at_place}
-use Rattle.wf_objects.specs.Sides.{KeepsRest, core_side_of}
+use Rattle.wf_objects.specs.Sides.{KeepsRest, core_side_of, with_streams}
 use Rattle.wf_model.specs.Outcome.{done_by, lacks_memory}
 
--- it leaves and answers what the plain call does, where want of memory is told by the answer; a refused one changes
--- nothing; of the store it makes or takes a handle at most; and objects and store fit again
+-- it leaves and answers what the plain call does before streams are dropped, where want of memory is told by the answer; a refused
+-- one changes nothing; of the store it makes or takes handles at most, and the names of the objects became those that are left; and
+-- objects and store fit again
 pub record Does (plain : Bool → CoreSide → Outcome CoreSide) (core left : CoreState) (store now : StoreView)
     (result : Result ℕ Refusal) : Type 0 where
-  pub case : plain (lacks_memory result) (core_side_of core store) ≡ done_by result (core_side_of left now)
+  pub case : plain (lacks_memory result) (core_side_of core store) ≡ done_by result (core_side_of left (with_streams store.streams now))
   pub refused : OnErr result (left ≡ core)
   pub untouched : OnErr result (now ≡ store)
   pub kept : KeepsRest store now
+  pub names : Recounts (core_names core) (core_names left) store now
   pub fits : Fits left now
 
 -- what becomes of a context that was found: by its handle, whether memory is refused, and what the call sees
@@ -93,11 +97,35 @@ abbrev pub edited_by : Result (Unit {0}) Refused → Result ℕ Refusal
 edited_by (Ok _) = Ok 0
 edited_by (Err r) = Err (refusal (refusal_code r))
 
+-- where the store is as it was, all names are
+pub unchanged : (core : CoreState) (store now : StoreView) → now ≡ store → Recounts (core_names core) (core_names core) store now
+unchanged core store now same = rw same (same_counts (core_names core) (core_names core) store (λ n some. refl))
+
 -- what is refused changes nothing
 pub refuses : (plain : Bool → CoreSide → Outcome CoreSide) (core : CoreState) (store : StoreView) (r : Refusal) → Fits core store
     → plain (is_out_of_memory r.code) (core_side_of core store) ≡ Err r → Does plain core core store store (Err r)
 refuses plain core store r fits is =
-    record { case = is; refused = refl; untouched = refl; kept = record { streams = refl; numbered = refl; others = refl }; fits = fits }
+    record {
+      case = is;
+      refused = refl;
+      untouched = refl;
+      kept = record { numbered = refl; others = refl };
+      names = same_counts (core_names core) (core_names core) store (λ n some. refl);
+      fits = fits;
+    }
+
+-- what changes nothing, whether it is answered or refused
+pub stays : (plain : Bool → CoreSide → Outcome CoreSide) (core : CoreState) (store : StoreView) (r : Result ℕ Refusal) → Fits core store
+    → plain (lacks_memory r) (core_side_of core store) ≡ done_by r (core_side_of core store) → Does plain core core store store r
+stays plain core store r fits is =
+    record {
+      case = is;
+      refused = elim r as (λ x. OnErr x (core ≡ core)) [ Ok n ↦ tt | Err e ↦ refl ];
+      untouched = elim r as (λ x. OnErr x (store ≡ store)) [ Ok n ↦ tt | Err e ↦ refl ];
+      kept = record { numbered = refl; others = refl };
+      names = unchanged core store store refl;
+      fits = fits;
+    }
 
 -- what does as another call does what that one does
 pub as_other : (plain other : Bool → CoreSide → Outcome CoreSide) (core left : CoreState) (store now : StoreView)
@@ -110,6 +138,7 @@ as_other plain other core left store now result same does =
       refused = does.refused;
       untouched = does.untouched;
       kept = does.kept;
+      names = does.names;
       fits = does.fits;
     }
 
@@ -162,7 +191,8 @@ reads place core store call scene r fits c at same is = rw is (of_answer (call s
           case = here (Ok n) answered false;
           refused = tt;
           untouched = tt;
-          kept = record { streams = refl; numbered = refl; others = refl };
+          kept = record { numbered = refl; others = refl };
+          names = same_counts (core_names core) (core_names core) store (λ n some. refl);
           fits = fits;
         }
     of_answer (Err x) answered =

@@ -1,8 +1,9 @@
 -- How the objects of composition are kept.
-use Rattle.std.specs.Prelude.{◌≡◌}
+use Rattle.std.specs.Prelude.{◌≡◌, ◌≤◌, length}
+use Rattle.std.specs.List.{AllByRecursion}
 use Rattle.std.specs.Vec.{vec_capacity}
 use Rattle.wf_objects.specs.declared.objects.Objects.TheInside.{Inside}
-use Rattle.wf_model.specs.Objects.{CoreState}
+use Rattle.wf_model.specs.Objects.{Context, CoreState}
 use Rattle.wf_objects.specs.Tracks.{Tracks}
 
 -- what the fields stand for
@@ -15,10 +16,15 @@ tables_of c =
       masks = c.masks.items;
     }
 
--- there is room for all objects that may live, and the members are the contexts of the devices
+-- a context's committed scene has 32 layers at most
+abbrev pub HasFewLayers : Context → Type 0
+HasFewLayers c = length c.committed.layers.items ≤ 32
+
+-- there is room for all objects that may live, committed scenes are short, and the members are the contexts of the devices
 pub record IsKept (c : Inside) : Type 0 where
   pub devices : vec_capacity c.devices ≡ 8
   pub contexts : vec_capacity c.contexts ≡ 16
   pub sources : vec_capacity c.sources ≡ 256
   pub masks : vec_capacity c.masks ≡ 256
+  pub layers : AllByRecursion HasFewLayers c.contexts.items
   pub tracked : Tracks c.members c.devices.items c.contexts.items

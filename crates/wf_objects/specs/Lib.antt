@@ -2,6 +2,8 @@
 pub mod Sides
 pub mod Links
 pub mod Fits
+pub mod Named
+pub mod Ours
 pub mod Owners
 pub mod Sights
 pub mod Shows

@@ -7,9 +7,9 @@ use Rattle.wf_model.specs.Objects.{CoreState}
 use Rattle.wf_model.specs.Core.{without_device}
 use Rattle.wf_objects.specs.Sides.{beside}
 
--- handles of composition's objects, and nothing else
+-- handles of composition's objects, and names of streams
 pub record Loses (old new : StoreView) : Type 0 where
-  pub rest : record new { others = [] } ≡ record old { others = [] }
+  pub rest : record new { others = []; streams = []; counts = [] } ≡ record old { others = []; streams = []; counts = [] }
   pub others : beside new.others ≡ beside old.others
   pub display : live_count kind.DisplaySource new.others ≡ live_count kind.DisplaySource old.others
 

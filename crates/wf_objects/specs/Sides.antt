@@ -3,7 +3,7 @@ use Rattle.std.specs.Prelude.{◌≡◌, Bool, true, false, not, List, filter}
 use Rattle.wf_life.specs.declared.Kind.{Kind}
 use Rattle.wf_life.specs.declared.Kind.TheVariants as kind
 use Rattle.wf_life.specs.Handles.{Live, live_count}
-use Rattle.wf_stream.specs.Streams.{StoreView}
+use Rattle.wf_stream.specs.Streams.{KeptStream, StoreView}
 use Rattle.wf_model.specs.Composition.{CoreSide}
 use Rattle.wf_model.specs.Objects.{CoreState}
 
@@ -30,8 +30,12 @@ is_of_composition _ = false
 abbrev pub beside : List Live → List Live
 beside others = filter (λ l. not (is_of_composition l.kind)) others
 
--- a call of composition made a handle at most: the streams, their count and the handles of other kinds are as they were
+-- the store with these streams, as it was before streams were dropped
+abbrev pub with_streams : List KeptStream → StoreView → StoreView
+with_streams streams v = record v { streams = streams }
+
+-- a call of composition made or took handles of its own at most, and names of streams: how many were numbered and the handles of
+-- other kinds are as they were
 pub record KeepsRest (old new : StoreView) : Type 0 where
-  pub streams : new.streams ≡ old.streams
   pub numbered : new.numbered ≡ old.numbered
   pub others : beside new.others ≡ beside old.others

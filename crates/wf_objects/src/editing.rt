@@ -4,11 +4,14 @@ ghost use Rattle.std.specs.Prelude.{◌≡◌, ◌<◌, ◌+◌, length, slice_g
 ghost use Rattle.wf_calls.specs.Replies.{refusal};
 ghost use Rattle.wf_scene.specs.Cached as cached;
 ghost use Rattle.wf_scene.specs.Elements.{may_take};
+ghost use Rattle.wf_stream.specs.Names.{HasRoom, NamesFit};
+ghost use Rattle.wf_model.specs.Names.{core_names};
 ghost use Rattle.wf_model.specs.Core.{by_scene, refusal_code, with_active, with_committed};
 ghost use Rattle.wf_objects.specs.Does.{Does, changed, edited_by, element_set, in_place, scene_set};
 ghost use Rattle.wf_objects.specs.Fits.{ContextFits, Fits};
 ghost use Rattle.wf_objects.specs.Owners.{LivesAt};
 
+use crate::naming::{begin_layers, end_layers};
 use crate::objects::Objects;
 use wf_calls::{Code, Refusal};
 use wf_scene::{ContextAttr, ElementAttr, Refused, Scene};
@@ -55,13 +58,18 @@ impl Objects {
         self.contexts[place].active = active;
     }
 
-    /// Makes a scene that fits the committed one of the context at a place.
-    pub fn set_committed(&mut self, store: &Store, place: usize, scene: Scene)
-        requires fits { Fits self.old store.now }
+    /// Makes a scene that fits the committed one of the context at a place. Its names begin before those of the scene that
+    /// stood there end.
+    pub fn set_committed(&mut self, store: &mut Store, place: usize, scene: Scene)
+        requires fits { Fits self.old store.old }
+        requires names { NamesFit (core_names self.old) store.old }
+        requires room { HasRoom store.old }
         requires within { place < length self.old.contexts }
-        requires scene_fits { IfSome (slice_get self.old.contexts place) (λ c. ContextFits store.now.streams (with_committed scene c)) }
-        ensures { Does (in_place place (changed (with_committed scene))) self.old self.new store.now store.now (Ok 0) }
+        requires scene_fits { IfSome (slice_get self.old.contexts place) (λ c. ContextFits store.old.streams (with_committed scene c)) }
+        ensures { Does (in_place place (changed (with_committed scene))) self.old self.new store.old store.new (Ok 0) }
     {
+        begin_layers(store, scene.layers.as_slice());
+        end_layers(store, self.contexts[place].committed.layers.as_slice());
         self.contexts[place].committed = scene;
     }
 

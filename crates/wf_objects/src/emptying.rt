@@ -3,6 +3,8 @@
 ghost use Rattle.std.specs.Prelude.{◌≡◌, ◌<◌, ◌==◌, [], not, filter, find, length, option_map, IsTrue};
 ghost use Rattle.std.specs.List.{list_any};
 ghost use Rattle.std.specs.Vec.{vec_capacity};
+ghost use Rattle.wf_stream.specs.Names.{NamesFit, Recounts};
+ghost use Rattle.wf_model.specs.Names.{core_names};
 ghost use Rattle.wf_model.specs.Core.{without_context, without_those_of};
 ghost use Rattle.wf_objects.specs.Fits.{Fits, elements_of};
 ghost use Rattle.wf_objects.specs.Links.{links, with_links};
@@ -10,6 +12,7 @@ ghost use Rattle.wf_objects.specs.Losses.{Loses, but_context, but_contexts_of};
 ghost use Rattle.wf_objects.specs.Owners.{StandsAt};
 
 use crate::dropping::drop_handle;
+use crate::naming::end_context;
 use crate::objects::Objects;
 use crate::rows::{Context, Link};
 use wf_stream::Store;
@@ -37,9 +40,11 @@ fn leave_out_context(contexts: &mut Vec<Context>, handle: u32)
 impl Objects {
     /// Takes out all sources, or all masks, of a context, and their handles.
     fn drop_links(&mut self, store: &mut Store, mask: bool, context: u32)
-        requires { Fits self.old store.old }
+        requires fits { Fits self.old store.old }
+        requires names { NamesFit (core_names self.old) store.old }
         ensures dropped { self.new ≡ with_links mask (without_those_of context (links mask self.old)) self.old }
         ensures loses { Loses store.old store.new }
+        ensures names { Recounts (core_names self.old) (core_names self.new) store.old store.new }
         ensures fits { Fits self.new store.new }
     {
         while let Some(link) = first_of(self.links(mask), context) {
@@ -50,12 +55,14 @@ impl Objects {
     /// Takes out all elements of the context at a place, and their handles.
     fn drop_elements(&mut self, store: &mut Store, place: usize, context: u32)
         requires fits { Fits self.old store.old }
+        requires names { NamesFit (core_names self.old) store.old }
         requires within { place < length self.old.contexts }
         requires here { StandsAt context place self.old }
         ensures rest { but_context context self.new ≡ but_context context self.old }
         ensures live { IsTrue (list_any (λ c. c.handle == context) self.new.contexts) }
         ensures bare { elements_of context store.new.others ≡ [] }
         ensures loses { Loses store.old store.new }
+        ensures names { Recounts (core_names self.old) (core_names self.new) store.old store.new }
         ensures fits { Fits self.new store.new }
     {
         while let Some(element) = self.contexts[place].cached.first() {
@@ -66,13 +73,17 @@ impl Objects {
     /// Takes out a context that has no elements, and its handle.
     fn drop_bare_context(&mut self, store: &mut Store, context: u32)
         requires fits { Fits self.old store.old }
+        requires names { NamesFit (core_names self.old) store.old }
         requires live { IsTrue (list_any (λ c. c.handle == context) self.old.contexts) }
         requires bare { elements_of context store.old.others ≡ [] }
         ensures dropped { self.new ≡ but_context context self.old }
         ensures loses { Loses store.old store.new }
+        ensures names { Recounts (core_names self.old) (core_names self.new) store.old store.new }
         ensures fits { Fits self.new store.new }
     {
+        let place = self.live_place(context);
         drop_handle(store, context);
+        end_context(store, &self.contexts[place]);
         self.members.remove(context);
         leave_out_context(&mut self.contexts, context);
     }
@@ -80,10 +91,12 @@ impl Objects {
     /// Takes out the context at a place with all that is its, and their handles.
     pub fn drop_context(&mut self, store: &mut Store, place: usize, context: u32)
         requires fits { Fits self.old store.old }
+        requires names { NamesFit (core_names self.old) store.old }
         requires within { place < length self.old.contexts }
         requires here { StandsAt context place self.old }
         ensures dropped { self.new ≡ without_context context self.old }
         ensures loses { Loses store.old store.new }
+        ensures names { Recounts (core_names self.old) (core_names self.new) store.old store.new }
         ensures fits { Fits self.new store.new }
     {
         self.drop_links(store, false, context);
@@ -94,9 +107,11 @@ impl Objects {
 
     /// Takes out all contexts of a device with all that is theirs, and their handles.
     pub(crate) fn drop_contexts(&mut self, store: &mut Store, device: u32)
-        requires { Fits self.old store.old }
+        requires fits { Fits self.old store.old }
+        requires names { NamesFit (core_names self.old) store.old }
         ensures dropped { self.new ≡ but_contexts_of device self.old }
         ensures loses { Loses store.old store.new }
+        ensures names { Recounts (core_names self.old) (core_names self.new) store.old store.new }
         ensures fits { Fits self.new store.new }
     {
         while let Some(context) = self.members.first(device) {

@@ -9,7 +9,7 @@ mod emptying;
 mod finding;
 mod links;
 mod making;
-mod marking;
+mod naming;
 mod objects;
 mod registers;
 mod rows;

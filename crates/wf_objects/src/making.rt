@@ -3,6 +3,8 @@
 ghost use Rattle.std.specs.Prelude.{◌≡◌, ◌+◌, ◌<◌, ◌++◌, ◌∷◌, [], false, length, Ok, IfOk, IsSomeAnd, IsTrue, OnOk, OnErr};
 ghost use Rattle.wf_pixel.specs.Choice.{is_a8};
 ghost use Rattle.wf_stream.specs.Streams.{buffers_at, is_stream, with_other};
+ghost use Rattle.wf_stream.specs.Names.{HasRoom, NamesFit};
+ghost use Rattle.wf_model.specs.Names.{core_names};
 ghost use Rattle.wf_model.specs.Core.{blank_scene, device_new, sources_full};
 ghost use Rattle.wf_objects.specs.Does.{Does, context_made, element_made, in_place, link_made};
 ghost use Rattle.wf_objects.specs.Fits.{Fits};
@@ -17,7 +19,7 @@ use arrayvec::ArrayVec;
 use wf_calls::{Code, Refusal};
 use wf_pixel::{Rgba, Rotation, Size};
 use wf_scene::{Cached, Scene, Seen};
-use wf_stream::{Kind, MakeStop, Store};
+use wf_stream::{Kind, MakeStop, Store, begin_name};
 
 /// The handle of a new object, under which the store keeps this key.
 fn mint(store: &mut Store, kind: Kind, key: u32) -> Result<u32, Refusal>
@@ -35,7 +37,7 @@ fn mint(store: &mut Store, kind: Kind, key: u32) -> Result<u32, Refusal>
 }
 
 /// The kind of a source, or of a mask.
-fn link_kind(mask: bool) -> Kind
+pub(crate) fn link_kind(mask: bool) -> Kind
     ensures { result ≡ link_kind mask }
 {
     if mask { Kind::Mask } else { Kind::Source }
@@ -102,6 +104,8 @@ impl Objects {
         target: Seen,
     ) -> Result<u32, Refusal>
         requires fits { Fits self.old store.old }
+        requires names { NamesFit (core_names self.old) store.old }
+        requires room { HasRoom store.old }
         requires live { live_device device (core_side_of self.old store.old) ≡ Ok tt }
         requires kept { IsSomeAnd (buffers_at target.stream store.old.streams) (λ b. (b.size ≡ target.size) × (is_a8 b.format ≡ false)) }
         ensures { Does (context_made device port target) self.old self.new store.old store.new result }
@@ -113,6 +117,7 @@ impl Objects {
             return Err(Refusal::of(Code::OutOfMemory));
         };
         let handle = mint(store, Kind::Context, device)?;
+        begin_name(store, target.stream);
         self.members.add(device, handle);
         self.contexts.push_reserved(Context {
             handle,
@@ -136,6 +141,8 @@ impl Objects {
         stream: u32,
     ) -> Result<u32, Refusal>
         requires fits { Fits self.old store.old }
+        requires names { NamesFit (core_names self.old) store.old }
+        requires room { HasRoom store.old }
         requires kept { IsSomeAnd (buffers_at stream store.old.streams) (λ b. is_a8 b.format ≡ mask) }
         ensures { Does (link_made mask context stream) self.old self.new store.old store.new result }
     {
@@ -143,6 +150,7 @@ impl Objects {
             return Err(Refusal::of(Code::Limit));
         }
         let handle = mint(store, link_kind(mask), stream)?;
+        begin_name(store, stream);
         self.push_link(
             mask,
             Link {

@@ -1,6 +1,7 @@
 //! The tables.
 
-ghost use Rattle.std.specs.Prelude.{◌≡◌, IfOk};
+ghost use Rattle.std.specs.Prelude.{◌≡◌, ◌≤◌, IfOk, length};
+ghost use Rattle.wf_model.specs.Names.{core_names};
 ghost use Rattle.wf_model.specs.Objects.{no_objects};
 ghost use Rattle.wf_objects.specs.Links.{links};
 
@@ -66,5 +67,12 @@ impl Objects {
         ensures { result.now ≡ links mask self.now }
     {
         if mask { &self.masks } else { &self.sources }
+    }
+
+    /// There are few names of streams: 256 sources and masks each, and 16 contexts with a target and 32 layers.
+    pub fn few_names(&self)
+        ensures { length (core_names self.now) ≤ 1552 }
+    {
+        let _ = &self.sources;
     }
 }

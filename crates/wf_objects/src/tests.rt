@@ -3,7 +3,9 @@
 ghost use Rattle.std.specs.Prelude.{◌≡◌, false, IfOk, IfSome, IsSomeAnd};
 ghost use Rattle.wf_pixel.specs.Choice.{is_a8};
 ghost use Rattle.wf_stream.specs.Streams.{buffers_at};
+ghost use Rattle.wf_model.specs.Names.{core_names};
 ghost use Rattle.wf_objects.specs.Fits.{Fits};
+ghost use Rattle.wf_objects.specs.Ours.{AreOurs};
 
 use super::*;
 use std::alloc::Global;
@@ -18,7 +20,8 @@ const SIZE: Size = Size { w: 4, h: 2 };
 
 /// No objects, and a store with a stream of pixels.
 fn staged(alloc: Global) -> Result<(Objects, Store), NoMemory>
-    ensures { IfOk result (λ both. Fits both.0 both.1) }
+    ensures fits { IfOk result (λ both. Fits both.0 both.1) }
+    ensures ours { IfOk result (λ both. AreOurs (core_names both.0) both.1) }
 {
     let mut store = Store::new(alloc);
     let Ok(_) = store.make(SIZE, Format::Rgba8Pre, 2) else {
@@ -57,16 +60,19 @@ fn target(store: &Store) -> Option<Seen>
 
 /// Makes a device, an off-screen context of it, an element and a source of the context, and answers their handles.
 fn made(objects: &mut Objects, store: &mut Store) -> Result<[u32; 4], Refusal>
-    requires { Fits objects.old store.old }
+    requires fits { Fits objects.old store.old }
+    requires ours { AreOurs (core_names objects.old) store.old }
 {
     let none = Refusal::of(Code::BadHandle);
     let device = objects.add_device(store)?;
     let target = target(store).ok_or(none)?;
     objects.check_device(store, device)?;
+    objects.few_names();
     let context = objects.add_context(store, device, 0, target)?;
     let place = objects.context_place(store, device, context)?;
     let element = objects.add_element(store, place)?;
     let stream = pixels(store).ok_or(none)?;
+    objects.few_names();
     let source = objects.add_link(store, false, context, stream)?;
     Ok([device, context, element, source])
 }

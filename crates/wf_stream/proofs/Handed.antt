@@ -1,19 +1,17 @@
--- What is left of the table where a stream that has a name got another handle.
-use Rattle.std.proofs.Common.{◌≡◌, ℕ, ◌<◌, refl}
+-- What is left of the table where a stream got another handle.
+use Rattle.std.proofs.Common.{◌≡◌, ℕ, refl}
 use Rattle.wf_stream.specs.declared.streams.Streams.TheInside.{Inside}
-use Rattle.wf_stream.specs.Counts.{counted}
 use Rattle.wf_stream.specs.Streams.{hand_over}
 use Rattle.wf_stream.specs.Placed.{placed, with_handle}
-use Rattle.wf_stream.specs.StreamTable.{streams_in, counts_in, stream_table, IsSound}
+use Rattle.wf_stream.specs.StreamTable.{streams_in, stream_table, IsSound}
 use Rattle.wf_stream.proofs.StreamTables.{handed_view, numbered_handed, placed_kept, placed_apart}
 use Rattle.wf_stream.proofs.Lifetimes.{placed_counted, other_placed}
-use Rattle.wf_stream.proofs.Counted.{placed_counts, handed_least}
-use Rattle.wf_stream.proofs.Marks.{marks_handed}
+use Rattle.wf_stream.proofs.Counted.{placed_counts}
 
 module _ (s t : Inside) (sound : IsSound s) (n handle : ℕ) (pool : t.pool ≡ s.pool)
     (places : t.places.entries ≡ placed n (with_handle handle) s.places.entries) where
-  pub handed_sound : 0 < counted n (counts_in s.pool s.places.entries) → IsSound t
-  handed_sound some =
+  pub handed_sound : IsSound t
+  handed_sound =
       let p = s.pool in
       let es = s.places.entries in
       let f = with_handle handle in
@@ -22,8 +20,7 @@ module _ (s t : Inside) (sound : IsSound s) (n handle : ℕ) (pool : t.pool ≡ 
             (numbered_handed 0 4294967295 n handle (streams_in p es) sound.rising);
         kept = rw (pool, places) (placed_kept n f p es (λ o. refl) sound.kept);
         apart = rw places (placed_apart n f es (λ o. refl) sound.apart);
-        counted = rw (pool, places)
-            (placed_counted n f p es (λ o. refl) (λ o found. handed_least n handle o p es found some) sound.counted);
+        counted = rw (pool, places) (placed_counted n f p es (λ o. refl) sound.counted);
         no_other = rw (pool, places) (other_placed n f p es (λ o. refl) sound.no_other);
       }
 
@@ -32,6 +29,5 @@ module _ (s t : Inside) (sound : IsSound s) (n handle : ℕ) (pool : t.pool ≡ 
     pool,
     places,
     handed_view 0 4294967295 n handle s.pool s.places.entries sound.rising,
-    marks_handed n handle s.places.entries,
     placed_counts n (with_handle handle) s.pool s.places.entries (λ o. refl),
   ) refl

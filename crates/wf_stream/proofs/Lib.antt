@@ -2,8 +2,7 @@ pub mod StreamTables
 pub mod Sizes
 pub mod CrossReferences
 pub mod Apart
-pub mod Marks
-pub mod Swept
+pub mod Released
 pub mod Lifetimes
 pub mod Counted
 pub mod Recounts

@@ -11,7 +11,7 @@ use Rattle.wf_stream.specs.contracts.streams.Streams as streams
 abbrev pub with_buffers : ℕ → List KeptStream → Buffers → List KeptStream
 with_buffers number all buffers = change_stream number (λ _. buffers) all
 
--- the same with the marks
+-- the same with the counts
 abbrev pub with_table_buffers : ℕ → StreamTable → Buffers → StreamTable
 with_table_buffers number table buffers = record table { streams = with_buffers number table.streams buffers }
 

@@ -1,4 +1,5 @@
--- The buffers of a stream and how they are kept; the streams that are kept, how, their counts, and what a loan of one leaves.
+-- The buffers of a stream and how they are kept; the streams that are kept, how, their counts, names that begin and end, and
+-- what a loan of a stream leaves.
 pub mod Buffers
 pub mod Inside
 pub mod Counts
@@ -7,4 +8,5 @@ pub mod Placed
 pub mod StreamTable
 pub mod CrossReferences
 pub mod Lending
-pub mod Marks
+pub mod Names
+pub mod Renames

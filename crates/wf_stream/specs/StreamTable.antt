@@ -1,5 +1,5 @@
 -- How the streams are kept: a map from numbers to the places in a pool, each place with one number.
-use Rattle.std.specs.Prelude.{◌≡◌, ◌≢◌, ℕ, ◌-◌, ◌≤◌, if◌then◌else◌, Bool, not, ◌||◌, ◌==◌, List, [], ◌∷◌, map, filter, unwrap_or, None}
+use Rattle.std.specs.Prelude.{◌≡◌, ◌≢◌, ℕ, ◌<◌, List, [], ◌∷◌, map, unwrap_or, None}
 use Rattle.wf_life.specs.declared.pool.Kept.{Kept}
 use Rattle.wf_life.specs.Pool.{IsKept, kept_at, value_at, count_at}
 use Rattle.std.specs.Prelude.{Option}
@@ -17,20 +17,11 @@ pooled key pool = unwrap_or (value_at key pool) (fresh (record { w = 0; h = 0 })
 abbrev pub kept_stream : List (Option (Kept Buffers)) → ℕ × Place → KeptStream
 kept_stream pool e = record { number = e.0; handle = e.1.handle; buffers = pooled e.1.key pool }
 
--- a place is marked, or its stream has a handle, or its write buffer is out
-abbrev pub is_marked_or_own : List (Option (Kept Buffers)) → Place → Bool
-is_marked_or_own pool place = place.marked || not (place.handle == 0) || (pooled place.key pool).out
-
 abbrev pub streams_in : List (Option (Kept Buffers)) → List (ℕ × Place) → List KeptStream
 streams_in pool places = map (kept_stream pool) places
 
--- the numbers of the places that are marked
-abbrev pub marks_of : List (ℕ × Place) → List ℕ
-marks_of places = map (λ e. e.0) (filter (λ e. e.1.marked) places)
-
--- the count of each place is the pool's but for one, which is the scan's
 abbrev pub place_count : List (Option (Kept Buffers)) → ℕ × Place → ℕ × ℕ
-place_count pool e = (e.0, count_at e.1.key pool - 1)
+place_count pool e = (e.0, count_at e.1.key pool)
 
 abbrev pub counts_in : List (Option (Kept Buffers)) → List (ℕ × Place) → Counts
 counts_in pool places = map (place_count pool) places
@@ -39,7 +30,6 @@ abbrev pub stream_table : Inside → StreamTable
 stream_table s =
     record {
       streams = streams_in s.pool s.places.entries;
-      marked = marks_of s.places.entries;
       counts = counts_in s.pool s.places.entries;
     }
 
@@ -57,14 +47,10 @@ HasNone key (e ∷ places) = (e.1.key ≢ key) × HasNone key places
 abbrev pub KeepsNoOther : List (Option (Kept Buffers)) → List (ℕ × Place) → Type 0
 KeepsNoOther pool places = (key : ℕ) → HasNone key places → kept_at key pool ≡ None
 
--- how often the pool counts the stream of a place at least: once for the scan, and once for a live handle
-abbrev pub least_count : Place → ℕ
-least_count place = if place.handle == 0 then 1 else 2
-
--- the pool counts the stream of each place that often
+-- the stream of each place has a name
 abbrev pub AreCounted : List (Option (Kept Buffers)) → List (ℕ × Place) → Type 0
 AreCounted pool [] = Unit {0}
-AreCounted pool (e ∷ places) = (least_count e.1 ≤ count_at e.1.key pool) × AreCounted pool places
+AreCounted pool (e ∷ places) = (0 < count_at e.1.key pool) × AreCounted pool places
 
 -- no two places have one key
 abbrev pub AreApart : List (ℕ × Place) → Type 0

@@ -1,14 +1,14 @@
 //! Streams of images, and the store that keeps them.
 #![tactic(auto)]
 
-mod marking;
+mod naming;
 mod store;
 mod stream;
 mod streams;
 #[cfg(test)]
 mod tests;
 
-pub use marking::mark_kept;
+pub use naming::{begin_name, end_name};
 pub use store::Store;
 pub use stream::{Refused, Stream};
 pub use wf_life::{BadHandle, Kind, MakeStop};

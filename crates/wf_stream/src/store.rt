@@ -1,18 +1,18 @@
 //! The store: the handles of all objects, and the streams by number.
 
-ghost use Rattle.std.specs.Prelude.{◌≡◌, ◌↔◌, ℕ, ◌+◌, ◌<◌, ◌≤◌, ◌||◌, ◌==◌, [], not, map, Some, option_map, option_copied};
-ghost use Rattle.std.specs.Prelude.{IfOk, OnOk, OnErr, IsErrOf, IsSome, IsTrue, IsFalse};
+ghost use Rattle.std.specs.Prelude.{◌≡◌, ◌↔◌, ◌+◌, ◌<◌, ◌≤◌, ◌||◌, [], not, map, Some, option_copied};
+ghost use Rattle.std.specs.Prelude.{IfOk, IfSome, OnOk, OnErr, IsErrOf, IsSome, IsTrue};
 ghost use Rattle.std.specs.Option.{option_copied_mut};
 ghost use Rattle.std.specs.Result.{result_ok};
 ghost use Rattle.std.specs.Borrow.{sem};
-ghost use Rattle.wf_words.specs.Keyed.{is_in};
 ghost use Rattle.wf_pixel.specs.Choice.{has_sides};
 ghost use Rattle.wf_life.specs.Handles.{is_full, is_live, without};
 ghost use Rattle.wf_stream.specs.Buffers.{fresh};
+ghost use Rattle.wf_stream.specs.Counts.{without_count};
 ghost use Rattle.wf_stream.specs.Streams.{held, empty, with_screen, with_live_stream, with_other, has_no_room, number_of, key_in, is_alive};
-ghost use Rattle.wf_stream.specs.Streams.{is_stream, count_in, killed, stream_at, stream_of, unnamed, buffers_at, IsNumbered};
-ghost use Rattle.wf_stream.specs.Streams.{first_unmarked, names_of, handle_at, without_number, swept, is_own, count_of, HaveCounts};
-ghost use Rattle.wf_stream.specs.Counts.{one_name_more, one_name_less, without_count, without_handle_name};
+ghost use Rattle.wf_stream.specs.Streams.{is_stream, count_in, killed, stream_at, unnamed, buffers_at, IsNumbered};
+ghost use Rattle.wf_stream.specs.Streams.{count_of, hand_over, retained, released};
+ghost use Rattle.wf_stream.specs.Names.{IsReleasable};
 
 use crate::Held;
 use crate::stream::{Stream, bytes_of};
@@ -30,7 +30,8 @@ const MOST_STREAMS: u32 = 64;
 const MOST_BYTES: u64 = 134_217_728;
 
 /// The handles of all objects, and the streams under numbers that count from 1 all that were ever made, screens
-/// included. The handle table keeps a stream's number. A stream whose handle is dead is still kept.
+/// included. The handle table keeps a stream's number. A stream is kept as long as it has a name: its live handle, or its port where it
+/// is a screen, and what else it is told of by `retain`.
 ///
 /// A stream is lent whole for writing, and what comes back may have another size. So the bytes are summed where they
 /// are asked for, over the few streams that are kept.
@@ -102,6 +103,7 @@ impl Store {
         requires most { buffers ≤ 4 }
         ensures handle { IfOk result (λ handle. handle ≡ self.old.made + 1) }
         ensures made { OnOk result (self.new ≡ with_live_stream (fresh size format buffers) self.old) }
+        ensures uncounted { OnOk result (without_count (self.old.numbered + 1) self.old.counts ≡ self.old.counts) }
         ensures limit { IsErrOf result MakeStop.Limit ↔ IsTrue (has_no_room (fresh size format buffers) self.old.streams
             || is_full self.old.made) }
         ensures refused { OnErr result (self.new ≡ self.old) }
@@ -117,7 +119,7 @@ impl Store {
             return Err(MakeStop::NoMemory);
         };
         let Ok(handle) = self.handles.make(Kind::Stream, number) else {
-            self.streams.remove(number);
+            self.streams.release(number);
             return Err(MakeStop::NoMemory);
         };
         self.streams.hand_over(number, handle);
@@ -168,16 +170,15 @@ impl Store {
         self.handles.find(handle, kind)
     }
 
-    /// Ends the life of the object that has the handle. A stream is still kept, with one name fewer.
+    /// Ends the life of the object that has the handle. A stream has one name fewer then, and is dropped where that was its last.
     pub fn kill(&mut self, handle: u32)
         requires { IsTrue (is_alive handle self.old) }
         ensures killed { self.new ≡ killed handle self.old }
         ensures other { IsTrue (is_live handle self.old.others) → self.new ≡ record self.old { others = without handle self.old.others } }
-        ensures stream { IsSome (stream_of handle self.old.streams)
-            → self.new ≡ record self.old {
-              streams = map (unnamed handle) self.old.streams;
-              counts = without_handle_name (number_of handle self.old.streams) self.old.counts;
-            } }
+        ensures stream { IfSome (number_of handle self.old.streams)
+            (λ n. self.new ≡ released n (record self.old { streams = map (unnamed handle) self.old.streams })) }
+        ensures alone { IfSome (number_of handle self.old.streams)
+            (λ n. map (unnamed handle) self.old.streams ≡ hand_over n 0 self.old.streams) }
     {
         let found = self.handles.find(handle, Kind::Stream);
         self.handles.kill(handle);
@@ -186,23 +187,20 @@ impl Store {
         }
     }
 
-    /// One name more of the stream of a number, which is kept. Its count is below 4,294,967,294: the scan counts each stream once
-    /// more. Without the scan the bound is 4,294,967,295.
+    /// One name more of the stream of a number, which is kept. Its count is below 4,294,967,295.
     pub fn retain(&mut self, number: u32)
         requires kept { IsSome (stream_at number self.old.streams) }
-        requires room { count_of number self.old < 4294967294 }
-        ensures { self.new ≡ record self.old { counts = one_name_more number self.old.counts } }
+        requires room { count_of number self.old < 4294967295 }
+        ensures { self.new ≡ retained number self.old }
     {
         self.streams.retain(number);
     }
 
     /// One name fewer of the stream of a number, which is kept. Its count is 1 or more, and 2 or more while it has a live handle.
-    /// At 0 it is still kept: the scan drops it.
+    /// The stream is dropped exactly where that was its last name.
     pub fn release(&mut self, number: u32)
-        requires kept { IsSome (stream_at number self.old.streams) }
-        requires some { 0 < count_of number self.old }
-        requires last { count_of number self.old ≡ 1 → handle_at number self.old.streams ≡ Some 0 }
-        ensures { self.new ≡ record self.old { counts = one_name_less number self.old.counts } }
+        requires { IsReleasable number self.old }
+        ensures { self.new ≡ released number self.old }
     {
         self.streams.release(number);
     }
@@ -236,63 +234,6 @@ impl Store {
         ensures numbered { IsNumbered 0 self.old.streams self.old.numbered }
     {
         self.streams.get_mut(number)
-    }
-
-    /// Takes all marks away.
-    pub fn unmark(&mut self)
-        ensures { self.new ≡ record self.old { marked = [] } }
-    {
-        self.streams.unmark();
-    }
-
-    /// Marks the stream of a number, which is kept.
-    pub fn mark(&mut self, number: u32)
-        requires { IsSome (stream_at number self.old.streams) }
-        ensures marked { (n : ℕ) → is_in n self.new.marked ≡ (is_in n self.old.marked || (number == n)) }
-        ensures rest { record self.new { marked = [] } ≡ record self.old { marked = [] } }
-    {
-        self.streams.mark(number);
-    }
-
-    /// Marks each stream that has a live handle or whose write buffer is out.
-    pub fn mark_own(&mut self)
-        ensures marked { (n : ℕ) → is_in n self.new.marked ≡ (is_in n self.old.marked || is_own n self.old.streams) }
-        ensures rest { record self.new { marked = [] } ≡ record self.old { marked = [] } }
-    {
-        self.streams.mark_own();
-    }
-
-    /// Drops the streams that were not marked since the last `unmark`, and with each its count and its live handle, if it has one.
-    pub fn sweep(&mut self)
-        ensures { self.new ≡ swept self.old }
-    {
-        while let Some((number, handle)) = self.first_unmarked() {
-            self.drop_stream(number, handle);
-        }
-    }
-
-    /// The number of the first stream that is not marked, and its handle or 0.
-    fn first_unmarked(&self) -> Option<(u32, u32)>
-        ensures first { result ≡ option_map names_of (first_unmarked self.now.marked self.now.streams) }
-        ensures numbered { IsNumbered 0 self.now.streams self.now.numbered }
-        ensures counts { HaveCounts self.now.streams self.now.counts }
-    {
-        self.streams.first_unmarked()
-    }
-
-    /// Drops a stream that is not marked, which has this handle or 0.
-    fn drop_stream(&mut self, number: u32, handle: u32)
-        requires kept { handle_at number self.old.streams ≡ Some handle }
-        requires unmarked { IsFalse (is_in number self.old.marked) }
-        ensures { self.new ≡ record self.old {
-          streams = without_number number self.old.streams;
-          counts = without_count number self.old.counts;
-        } }
-    {
-        self.streams.remove(number);
-        if handle != 0 {
-            self.handles.kill(handle);
-        }
     }
 }
 

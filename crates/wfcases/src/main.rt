@@ -49,6 +49,7 @@ impl Stage for Cases {
         match word(words, 0) {
             "ready" => ready(alloc, machine, words),
             "held" => held(alloc, machine),
+            "count" => count(alloc, machine, words),
             "round" => {
                 rounds::play(machine, &mut self.client);
                 held(alloc, machine)
@@ -90,4 +91,18 @@ fn ready(alloc: Global, machine: &Machine, words: &[&str]) -> Result<String, All
 fn held(alloc: Global, machine: &Machine) -> Result<String, AllocError> {
     let Held { streams, bytes } = machine.held();
     format!(in alloc; "{streams} {bytes}")
+}
+
+/// How many names the stream of each number has. A line that has no number of a stream is none: they count from 1.
+fn count(alloc: Global, machine: &Machine, words: &[&str]) -> Result<String, AllocError> {
+    let mut told = String::new(alloc);
+    for word in words.get(1..).unwrap_or(&[]) {
+        let stream = word.parse::<u32>().ok().unwrap_or(0);
+        if stream == 0 {
+            return format!(in alloc; "no such number");
+        }
+        let names = format!(in alloc; "{} ", machine.count(stream))?;
+        told.push_str(&names)?;
+    }
+    Ok(told)
 }

@@ -105,19 +105,6 @@ impl Streams {
             "kill" => self.kill(at),
             "retain" => self.retain(at),
             "release" => self.release(at),
-            "mark" => self.mark(at),
-            "mark_own" => {
-                self.store.mark_own();
-                true
-            }
-            "unmark" => {
-                self.store.unmark();
-                true
-            }
-            "sweep" => {
-                self.store.sweep();
-                true
-            }
             _ => false,
         }
     }
@@ -141,7 +128,7 @@ impl Streams {
 
     /// Gives a stream that is kept one name more, while there is room.
     fn retain(&mut self, number: u32) -> bool {
-        let retained = self.store.get(number).is_some() && self.store.count(number) < 4_294_967_294;
+        let retained = self.store.get(number).is_some() && self.store.count(number) < u32::MAX;
         if retained {
             self.store.retain(number);
         }
@@ -158,14 +145,5 @@ impl Streams {
             self.store.release(number);
         }
         released
-    }
-
-    /// Marks a stream that is kept.
-    fn mark(&mut self, number: u32) -> bool {
-        let kept = self.store.get(number).is_some();
-        if kept {
-            self.store.mark(number);
-        }
-        kept
     }
 }

@@ -6,7 +6,7 @@ use Rattle.wf_core.proofs.contexts.try_stream_context.Goals as goal
 pub returns-in-Err : goal.returns-in-Err
 returns-in-Err c =
     let a = c.args in
-    refused_asking (stream_context a.device a.stream) (context_made a.device 0) a.objects.now a.store.now c.in-Err.refusal c.requires
+    refused_asking (stream_context a.device a.stream) (context_made a.device 0) a.objects.now a.store.now c.in-Err.refusal c.requires.fits
     c.in-Err.ensures.asks
 
 pub returns-in-Ok : goal.returns-in-Ok

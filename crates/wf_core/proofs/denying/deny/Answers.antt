@@ -3,6 +3,10 @@ use Rattle.wf_calls.specs.Creations.{is_creation}
 use Rattle.wf_calls.specs.Parts.{is_of_core, part_of}
 use Rattle.wf_calls.specs.declared.call.Call.{Call}
 use Rattle.wf_calls.specs.declared.call.Call.TheVariants as call
+use Rattle.wf_model.specs.Core.{device_new}
+use Rattle.wf_objects.specs.Does.{refuses}
+use Rattle.wf_objects.specs.Sides.{core_side_of}
+use Rattle.wf_core.proofs.Denials.{no_device}
 use Rattle.wf_core.proofs.denying.deny.Goals as goal
 
 -- each creation of composition has its arm
@@ -19,3 +23,11 @@ unreachable-requires c = of_call c.args.call.now refl c.requires.creation c.requ
     of_call (call.StreamNew w h f b) is made ours = absurd cc
     of_call (call.DisplaySource l s) is made ours = absurd cc
     of_call _ is made ours = absurd cc
+
+pub returns-in-DeviceNew : goal.returns-in-DeviceNew
+returns-in-DeviceNew c =
+    let a = c.args in
+    let core = a.objects.now in
+    let store = a.store.now in
+    rw c.in-DeviceNew.is (refuses (λ _. device_new true) core store c.deny_device.result c.requires.fits
+    (no_device (core_side_of core store) c.deny_device.result c.deny_device.ensures))

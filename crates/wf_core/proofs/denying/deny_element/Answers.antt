@@ -3,6 +3,8 @@ use Rattle.wf_words.specs.Places.{within}
 use Rattle.wf_objects.specs.Does.{Step, element_made, in_owned, in_place, refuses}
 use Rattle.wf_objects.specs.Sides.{core_side_of}
 use Rattle.wf_core.proofs.Denials.{no_element}
+use Rattle.wf_objects.specs.Does.{stays}
+use Rattle.std.proofs.Common.{rules}
 use Rattle.wf_core.proofs.denying.deny_element.Goals as goal
 
 pub returns : goal.returns
@@ -17,3 +19,6 @@ returns c =
     (refuses (in_place here.place denied) core store _ c.requires
     (rw x.1 (no_element (core_side_of core store) _ x.0.handle x.0 (rw x.1 at c.deny_element.ensures))))
     a.device a.context here.ensures.found here.ensures.here
+
+pub returns-in_err-place : goal.returns-in_err-place
+returns-in_err-place c = stays _ c.args.objects.now c.args.store.now _ c.requires (search rules)

@@ -7,7 +7,7 @@ pub returns-in-Err : goal.returns-in-Err
 returns-in-Err c =
     let a = c.args in
     refused_asking (link_new a.mask a.device a.context a.stream) (link_made a.mask a.context) a.objects.now a.store.now c.in-Err.refusal
-    c.requires c.in-Err.ensures.asks
+    c.requires.fits c.in-Err.ensures.asks
 
 pub returns-in-Ok : goal.returns-in-Ok
 returns-in-Ok c =

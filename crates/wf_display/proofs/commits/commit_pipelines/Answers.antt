@@ -1,14 +1,44 @@
-use Rattle.std.proofs.Common.{arith, ℕ}
-use Rattle.std.specs.Prelude.{if◌then◌else◌}
-use Rattle.wf_model.specs.declared.display.Pipeline.{Pipeline}
-use Rattle.wf_model.specs.DisplayCommits.{committed_pipeline, takes_pipeline}
+use Rattle.std.proofs.Common.{◌<◌, arith, length, refl}
 use Rattle.wf_model.specs.Numbered.{from_step}
+use Rattle.wf_display.proofs.Keeping.{pipeline_after}
+use Rattle.wf_display.proofs.NameCounts.{committed_names, source_names}
+use Rattle.wf_display.proofs.Renaming.{enough_room, new_kept, none_renamed, old_fit, one_renamed}
 use Rattle.wf_display.proofs.commits.commit_pipelines.Goals as goal
+
+pub loop-place-init : goal.loop-place-init
+loop-place-init c = record { pipelines = refl; renamed = none_renamed c.args.pipelines.now c.args.store.now }
+
+pub rename-requires : goal.rename-requires
+rename-requires c =
+    let a = c.args in
+    let place = c.loop-place.place in
+    let xs = a.pipelines.now in
+    let ys = c.loop-place.pipelines in
+    let v = c.loop-place.store in
+    let so_far = c.loop-place.invariant.renamed in
+    let taken = pipeline_after a.extent a.sources.now in
+    let less : place < length ys = omega arith in
+    let is = c.taken_pipeline-new.ensures in
+    record {
+      names = old_fit place xs ys a.store.now v so_far (source_names a.sources.now) c.requires.names place _
+          c.taken_pipeline-new.result taken less is;
+      kept = new_kept place xs ys a.store.now v so_far (source_names a.sources.now) c.requires.names place _
+          c.taken_pipeline-new.result taken less is (committed_names a.extent a.sources.now);
+      room = enough_room place xs ys a.store.now v so_far c.requires.room (omega arith);
+    }
 
 pub loop-place-preserved : goal.loop-place-preserved
 loop-place-preserved c =
-    let taken : ℕ → Pipeline → Pipeline =
-    λ n x. if takes_pipeline c.args.extent n x then committed_pipeline c.args.sources.now x else x in
+    let a = c.args in
     let place = c.loop-place.place in
-    from_step taken 1 c.args.pipelines.now c.loop-place.pipelines place _ c.taken_pipeline.result (omega arith) c.loop-place.invariant
-    c.taken_pipeline.ensures
+    let xs = a.pipelines.now in
+    let ys = c.loop-place.pipelines in
+    let taken = pipeline_after a.extent a.sources.now in
+    let less : place < length ys = omega arith in
+    let is = c.taken_pipeline-new.ensures in
+    record {
+      pipelines = from_step taken 1 xs ys place _ c.taken_pipeline-new.result (omega arith) c.loop-place.invariant.pipelines is;
+      renamed = one_renamed place xs ys a.store.now c.loop-place.store c.loop-place.invariant.renamed (source_names a.sources.now)
+          c.requires.names place _ c.taken_pipeline-new.result taken less is c.rename.new.store c.rename.ensures.names
+          c.rename.ensures.rest c.rename.ensures.none;
+    }

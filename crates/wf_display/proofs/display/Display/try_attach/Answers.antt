@@ -1,10 +1,11 @@
-use Rattle.std.proofs.Common.{◌≡◌, Ok, Some, refl, set, sym, ap, subst}
+use Rattle.std.proofs.lemmas.Grind.{common_steps}
+use Rattle.std.proofs.Common.{◌≡◌, Ok, Some, refl, set, sym, ap, subst, arith, Err, None}
 use Rattle.std.proofs.Math.Facts.{to_z-of_z}
 use Rattle.wf_model.specs.DisplaySides.{on_display}
 use Rattle.wf_model.specs.Ports.{attach, with_attached}
 use Rattle.wf_scene.specs.Values.{flag_of}
 use Rattle.wf_display.specs.Does.{Does}
-use Rattle.wf_display.proofs.Setting.{port_is, port_set as sets, read_at}
+use Rattle.wf_display.proofs.Setting.{port_is, port_set as sets, read_at, stays, refuses, some_port}
 use Rattle.wf_display.proofs.display.Display.try_attach.Goals as goal
 
 pub returns : goal.returns
@@ -21,3 +22,14 @@ returns c =
     a.store.now (Ok 0)) (sym c.self.view_is)
     (sets a.self.now a.store.now c.requires a.port place x here at (attach a.port a.on) y
     (rw (port_is a.self.now a.store.now c.requires a.port place x here at, flag) refl) refl)
+
+pub returns-in_err-place : goal.returns-in_err-place
+returns-in_err-place c = stays _ _ _ _ (grind (arith, common_steps)) c.requires
+
+pub returns-in_default : goal.returns-in_default
+returns-in_default c =
+    let a = c.args in
+    let d = a.self.now in
+    let x = some_port d a.port c.in_ok-place.place (rw (to_z-of_z c.ranges.port) at c.in_ok-place.ensures.place) in
+    let none : flag_of a.on ≡ None = sym (rw (to_z-of_z c.ranges.on) at c.in_default.ensures) in
+    refuses (attach a.port a.on) d a.store.now c.of.result (rw (x.1, none) (ap Err (sym c.of.ensures))) c.requires

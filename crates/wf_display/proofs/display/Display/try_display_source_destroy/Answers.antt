@@ -1,38 +1,64 @@
-use Rattle.std.proofs.Common.{◌≡◌, ◌∙◌, Ok, ap, is_some, true, not, sym, subst}
-use Rattle.wf_life.specs.Handles.{without}
-use Rattle.wf_stream.specs.Streams.{stream_of}
+use Rattle.std.proofs.Common.{◌≡◌, ◌∙◌, ℕ, [], ◌∷◌, List, Option, Some, None, Ok, Err, ap, is_some, sym, subst}
+use Rattle.wf_stream.specs.Names.{AreCounted, IsReleasable, Recounts, but_names}
+use Rattle.wf_stream.specs.Streams.{count_of, stream_of}
+use Rattle.wf_model.specs.declared.display.DisplaySource.{DisplaySource}
 use Rattle.wf_model.specs.DisplaySides.{on_display, source_at}
 use Rattle.wf_model.specs.Pipelines.{display_source_destroy, without_source}
+use Rattle.wf_model.specs.State.{DisplayState}
 use Rattle.wf_display.specs.Does.{Does}
-use Rattle.wf_display.proofs.Making.{destroy_does, source_lives}
-use Rattle.wf_display.proofs.Setting.{or_true}
+use Rattle.wf_display.specs.Inside.{display_of}
+use Rattle.wf_display.proofs.Making.{destroy_does, source_lives, stream_released}
+use Rattle.wf_display.proofs.Setting.{or_true, refuses}
 use Rattle.wf_display.proofs.display.Display.try_display_source_destroy.Goals as goal
-use Rattle.wf_display.proofs.display.Display.try_display_source_destroy.Goals.{Else-is_none}
 
--- the source lives
-some : (c : Else-is_none) → is_some (source_at c.args.source c.args.self.now.sources) ≡ true
-some c =
-    ap (λ d. is_some (source_at c.args.source d.sources)) (sym c.self.view_is)
-    ∙ ap (λ ss. is_some (source_at c.args.source ss)) (sym c.deref.ensures.value)
-    ∙ ap is_some (sym c.source_at.ensures) ∙ c.is_none.ensures ∙ ap not c.if-is_none.false
+-- what is found of the source
+found : (h : ℕ) (d e : DisplayState) (ss : List DisplaySource) (o p : Option DisplaySource) → e ≡ d → ss ≡ e.sources → o ≡ source_at h ss
+    → o ≡ p → source_at h d.sources ≡ p
+found h d e ss o p view read result is =
+    ap (λ (k : DisplayState). source_at h k.sources) (sym view) ∙ ap (source_at h) (sym read) ∙ sym result ∙ is
 
 pub kill-requires : goal.kill-requires
 kill-requires c =
     let a = c.args in
+    let at = found a.source a.self.now (display_of c.self.inside) c.deref.result.now c.source_at.result (Some c.in-Some.found)
+    c.self.view_is c.deref.ensures.value c.source_at.ensures c.in-Some.is in
     or_true (is_some (stream_of a.source a.store.now.streams))
-    (source_lives a.self.now a.store.now c.requires a.source (some (goal.at.kill-requires c).Else-is_none))
+    (source_lives a.self.now a.store.now c.requires.fits a.source (ap is_some at))
+
+pub end_name-requires : goal.end_name-requires
+end_name-requires c =
+    let a = c.args in
+    let at = found a.source a.self.now (display_of c.self.inside) c.deref.result.now c.source_at.result (Some c.in-Some.found)
+    c.self.view_is c.deref.ensures.value c.source_at.ensures c.in-Some.is in
+    let dead = c.kill.ensures.other (source_lives a.self.now a.store.now c.requires.fits a.source (ap is_some at)) in
+    record {
+      counted = subst AreCounted (sym dead) c.requires.names.counted;
+      named = λ some. subst (IsReleasable c.in-Some.found.stream) (sym dead)
+          (stream_released a.self.now a.store.now c.requires.fits a.source (ap is_some at) c.in-Some.found at c.requires.names some);
+    }
 
 pub returns : goal.returns
 returns c =
     let a = c.args in
-    let here = some (goal.at.returns c).Else-is_none in
-    let gone = c.kill.ensures.other (source_lives a.self.now a.store.now c.requires a.source here) in
     let d = a.self.now in
-    let left = c.leave_out.ensures.left ∙ ap (λ k. (without_source a.source k).sources) c.self.view_is in
+    let s = c.in-Some.found in
+    let at = found a.source d (display_of c.self.inside) c.deref.result.now c.source_at.result (Some s) c.self.view_is
+    c.deref.ensures.value c.source_at.ensures c.in-Some.is in
+    let dead = c.kill.ensures.other (source_lives d a.store.now c.requires.fits a.source (ap is_some at)) in
+    let left = c.leave_out.ensures.left ∙ ap (λ (k : DisplayState). (without_source a.source k).sources) c.self.view_is in
     let plain = display_source_destroy a.source in
-    let gone_store = record a.store.now { others = without a.source a.store.now.others } in
-    subst (λ k. Does (λ _. on_display plain) d (record k { sources = c.leave_out.new.sources.items }) a.store.now c.kill.new.self (Ok 0))
+    let now = c.end_name.new.store in
+    subst (λ k. Does (λ _. on_display plain) d (record k { sources = c.leave_out.new.sources.items }) a.store.now now (Ok 0))
     (sym c.self.view_is)
-    (subst (λ v. Does (λ _. on_display plain) d (record d { sources = c.leave_out.new.sources.items }) a.store.now v (Ok 0)) (sym gone)
-    (subst (λ ss. Does (λ _. on_display plain) d (record d { sources = ss }) a.store.now gone_store (Ok 0)) (sym left)
-    (destroy_does d a.store.now c.requires a.source here)))
+    (subst (λ ss. Does (λ _. on_display plain) d (record d { sources = ss }) a.store.now now (Ok 0)) (sym left)
+    (destroy_does d a.store.now c.requires.fits a.source (ap is_some at) s at c.requires.names now
+    (c.end_name.ensures.none ∙ ap (count_of 0) dead)
+    (c.end_name.ensures.rest ∙ ap but_names dead)
+    (subst (λ v. Recounts (s.stream ∷ []) [] v now) dead c.end_name.ensures.names)))
+
+pub returns-in_default : goal.returns-in_default
+returns-in_default c =
+    let a = c.args in
+    let none = found a.source a.self.now (display_of c.self.inside) c.deref.result.now c.source_at.result None c.self.view_is
+    c.deref.ensures.value c.source_at.ensures c.in_default.is in
+    refuses (display_source_destroy a.source) a.self.now a.store.now c.of.result (rw none (ap Err (sym c.of.ensures))) c.requires.fits

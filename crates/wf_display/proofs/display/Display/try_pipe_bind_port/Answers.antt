@@ -1,9 +1,10 @@
-use Rattle.std.proofs.Common.{◌≡◌, Ok, refl, set, sym, ap, subst}
+use Rattle.std.proofs.lemmas.Grind.{common_steps}
+use Rattle.std.proofs.Common.{◌≡◌, Ok, refl, set, sym, ap, subst, arith}
 use Rattle.std.proofs.Math.Facts.{to_z-of_z}
 use Rattle.wf_model.specs.DisplaySides.{on_display}
 use Rattle.wf_model.specs.Pipelines.{named_port, pipe_bind_port, with_port_of}
 use Rattle.wf_display.specs.Does.{Does}
-use Rattle.wf_display.proofs.Setting.{pipeline_is, pipeline_set, read_at}
+use Rattle.wf_display.proofs.Setting.{pipeline_is, pipeline_set, read_at, stays}
 use Rattle.wf_display.proofs.display.Display.try_pipe_bind_port.Goals as goal
 
 pub returns : goal.returns
@@ -20,4 +21,10 @@ returns c =
     (record k { pipelines = set k.pipelines place y }) a.store.now
     a.store.now (Ok 0)) (sym c.self.view_is)
     (pipeline_set a.self.now a.store.now c.requires a.pipe place x here at (pipe_bind_port a.pipe a.port) y
-    (rw (pipeline_is a.self.now a.store.now c.requires a.pipe place x here at, named) refl) (λ shows. shows))
+    (rw (pipeline_is a.self.now a.store.now c.requires a.pipe place x here at, named) refl) (λ shows. shows) refl)
+
+pub returns-in_err-place : goal.returns-in_err-place
+returns-in_err-place c = stays _ _ _ _ (grind (arith, common_steps)) c.requires
+
+pub returns-in_err-port : goal.returns-in_err-port
+returns-in_err-port c = stays _ _ _ _ (grind (arith, common_steps)) c.requires

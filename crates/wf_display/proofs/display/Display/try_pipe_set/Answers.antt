@@ -1,3 +1,4 @@
+use Rattle.std.proofs.lemmas.Grind.{common_steps}
 use Rattle.std.proofs.Common.{◌≡◌, ◌∙◌, ◌<◌, ◌≤◌, Err, Ok, length, length-set, refl, set, sym, ap, subst, arith}
 use Rattle.std.proofs.Math.Facts.{to_z-of_z}
 use Rattle.wf_model.specs.DisplaySides.{on_display}
@@ -6,7 +7,7 @@ use Rattle.wf_words.specs.Each.{each_at, each_set}
 use Rattle.wf_display.specs.Display.{IsPipeline}
 use Rattle.wf_display.specs.Does.{Does}
 use Rattle.wf_display.proofs.Styles.{style_sound}
-use Rattle.wf_display.proofs.Setting.{pipeline_is, pipeline_set, read_at, read_twice, refuses}
+use Rattle.wf_display.proofs.Setting.{pipeline_is, pipeline_set, read_at, read_twice, refuses, stays}
 use Rattle.wf_display.proofs.display.Display.try_pipe_set.Goals as goal
 
 pub returns : goal.returns
@@ -26,7 +27,7 @@ returns c =
     (record k { pipelines = set k.pipelines place y }) a.store.now
     a.store.now (Ok 0)) (sym c.self.view_is)
     (pipeline_set a.self.now a.store.now c.requires a.pipe place x here at (pipe_set a.pipe a.attr a.value) y
-    (rw (pipeline_is a.self.now a.store.now c.requires a.pipe place x here at, styled) refl) (λ shows. shows))
+    (rw (pipeline_is a.self.now a.store.now c.requires a.pipe place x here at, styled) refl) (λ shows. shows) refl)
 
 pub invariant_of-self : goal.invariant_of-self
 invariant_of-self c =
@@ -65,3 +66,6 @@ returns-in-Err c =
     let styled : pipeline_styled a.attr a.value x.cached ≡ Err c.in-Err.refusal = sym c.in-Err.ensures in
     refuses (pipe_set a.pipe a.attr a.value) a.self.now a.store.now c.in-Err.refusal
     (rw (pipeline_is a.self.now a.store.now c.requires a.pipe place x here at, styled) refl) c.requires
+
+pub returns-in_err-place : goal.returns-in_err-place
+returns-in_err-place c = stays _ _ _ _ (grind (arith, common_steps)) c.requires

@@ -1,27 +1,24 @@
-use Rattle.wf_machine.proofs.Common.{subst, ap, ◌∙◌, settle_if, IsSettled, IsStep, bare}
-use Rattle.wf_machine.proofs.Stepping.{acts, stepped}
+use Rattle.wf_machine.proofs.Stepping.{IsAnswered, answered}
 use Rattle.wf_machine.proofs.machine.Machine.answer.Goals as goal
 
--- the step that was made
-made : (c : goal.After-settle_if) → IsStep c.args.self.now c.args.client c.args.call.now c.settle_if.new.self (bare c.in-Some.answer)
-made c =
-    let reply = bare c.in-Some.answer in
-    let done = acts _ c.self.inside.parts c.self.view_is _ _ reply c.in-Some.ensures
-    in
-    stepped _ _ _ _ reply done _ (c.settle_if.ensures
-    ∙ ap (λ b. settle_if b c.act_plain-answer.new.self) c.is_ok.ensures)
+-- the step that was made, or none
+made : (c : goal.After-act_plain) → IsAnswered c.args.self.now c.args.client c.args.call.now c.act_plain.new.self c.act_plain.result
+made c = answered _ c.self.inside.parts _ _ _ c.act_plain.result c.self.view_is c.self.invariant c.act_plain.ensures
 
 pub invariant_of-self : goal.invariant_of-self
-invariant_of-self c = (made c).settled (subst IsSettled c.self.view_is c.self.invariant)
+invariant_of-self c = (made c).settled
 
-pub returns-in-Some-clause-after : goal.returns-in-Some-clause-after
-returns-in-Some-clause-after c = (made c).after_is
+pub returns-clause-carries : goal.returns-clause-carries
+returns-clause-carries c = (made c).carried
 
-pub returns-in-Some-clause-may : goal.returns-in-Some-clause-may
-returns-in-Some-clause-may c = (made c).answer
+pub returns-clause-after : goal.returns-clause-after
+returns-clause-after c = (made c).after_is
 
-pub returns-in-Some-clause-lifetime : goal.returns-in-Some-clause-lifetime
-returns-in-Some-clause-lifetime c = (made c).settled (subst IsSettled c.self.view_is c.self.invariant)
+pub returns-clause-may : goal.returns-clause-may
+returns-clause-may c = (made c).may
 
-pub returns-in-Some-clause-refused : goal.returns-in-Some-clause-refused
-returns-in-Some-clause-refused c = (made c).refused
+pub returns-clause-lifetime : goal.returns-clause-lifetime
+returns-clause-lifetime c = (made c).settled
+
+pub returns-clause-refused : goal.returns-clause-refused
+returns-clause-refused c = (made c).refused

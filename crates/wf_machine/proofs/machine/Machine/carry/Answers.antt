@@ -1,18 +1,16 @@
-use Rattle.wf_machine.proofs.Common.{subst, ap, ◌∙◌, settle_if, IsSettled, IsStep}
+use Rattle.wf_machine.proofs.Common.{subst, IsSettled, IsStep}
 use Rattle.wf_machine.proofs.Stepping.{acts, stepped}
 use Rattle.wf_machine.proofs.machine.Machine.carry.Goals as goal
 
 -- the step that was made
-made : (c : goal.After-settle_if) → IsStep c.args.self.now c.args.client c.args.call c.settle_if.new.self c.act_carrying-reply.result
+made : (c : goal.After-act_carrying) → IsStep c.args.self.now c.args.client c.args.call c.act_carrying.new.self c.act_carrying.result
 made c =
-    let reply = c.act_carrying-reply.result in
-    let done = acts _ c.self.inside.parts c.self.view_is _ _ reply
-    c.act_carrying-reply.ensures in
-    stepped _ _ _ _ reply done _ (c.settle_if.ensures
-    ∙ ap (λ b. settle_if b c.act_carrying-reply.new.self) c.is_ok.ensures)
+    stepped _ _ _ _ c.act_carrying.result
+    (acts _ c.self.inside.parts c.self.view_is _ _ c.act_carrying.result c.act_carrying.ensures)
+    (subst IsSettled c.self.view_is c.self.invariant)
 
 pub invariant_of-self : goal.invariant_of-self
-invariant_of-self c = (made c).settled (subst IsSettled c.self.view_is c.self.invariant)
+invariant_of-self c = (made c).settled
 
 pub returns : goal.returns
 returns c = made c

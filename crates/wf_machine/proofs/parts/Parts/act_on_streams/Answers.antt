@@ -2,7 +2,7 @@ use Rattle.wf_machine.proofs.Common.{rules, ap, sym, to_z-of_z, bare, act}
 use mir.Syntax.{w64}
 use mir.Val.{SFits}
 use Rattle.wf_calls.specs.declared.call.Call.TheVariants as call
-use Rattle.wf_machine.proofs.Acts.{as_act, plain_answer}
+use Rattle.wf_machine.proofs.Acts.{as_act, as_settled, plain_answer}
 use Rattle.wf_machine.proofs.parts.Parts.act_on_streams.Goals as goal
 
 pub returns-in-StreamNew : goal.returns-in-StreamNew
@@ -14,7 +14,8 @@ returns-in-StreamNew c =
     let b : SFits w64 c.in-StreamNew.buffers = search rules in
     as_act _ _ _ (call.StreamNew x.width x.height x.format x.buffers)
     (bare _) x.is
-    (rw (to_z-of_z w, to_z-of_z h, to_z-of_z b) at c.stream_new.ensures) (plain_answer c.stream_new.result)
+    (as_settled _ _ _ (rw (to_z-of_z w, to_z-of_z h, to_z-of_z b) at c.stream_new.ensures.made) c.stream_new.ensures.settled)
+    (plain_answer c.stream_new.result)
 
 pub returns-in-StreamDestroy : goal.returns-in-StreamDestroy
 unfolding act
@@ -27,4 +28,6 @@ pub returns-in-Stat : goal.returns-in-Stat
 unfolding act
 returns-in-Stat c =
     as_act _ _ _ (call.Stat c.in-Stat.what) (bare _) c.in-Stat.is
-    (ap (λ a. (c.args.self.now, bare a)) (sym c.stat.ensures)) (plain_answer c.stat.result)
+    (as_settled _ _ _ (ap (λ a. (c.args.self.now, bare a)) (sym c.stat.ensures))
+    c.all_named.ensures)
+    (plain_answer c.stat.result)

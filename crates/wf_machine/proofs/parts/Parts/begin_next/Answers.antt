@@ -9,10 +9,10 @@ begin_context-requires-clause-fits c =
     let same = c.self.view_is in
     next_fits c.args.self.now _ c.in-Some.handle c.in-Some.shown (c.in-Some.ensures
     ∙ ap (λ s. next_shown c.args.after s.core) same) c.self.inside.store (ap (λ s. s.streams) same)
-    (subst (λ core. Fits core c.self.inside.store) (ap (λ s. s.core) same) c.self.invariant.fits)
+    (subst (λ core. Fits core c.self.inside.store) (ap (λ s. s.core) same) c.self.invariant.holds.fits)
 
 pub begin_context-requires-clause-home : goal.begin_context-requires-clause-home
 begin_context-requires-clause-home c =
     subst (λ s. AreAtHome s.streams) c.self.view_is
     (home_without c.self.inside (no_frame c.self.inside _ c.self.view_is
-    (not_some c.args.self.now.frame (sym c.is_busy.ensures ∙ c.if-is_busy.false))) c.self.invariant)
+    (not_some c.args.self.now.frame (sym c.is_busy.ensures ∙ c.if-is_busy.false))) c.self.invariant.holds)

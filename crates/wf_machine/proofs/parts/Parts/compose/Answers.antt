@@ -11,14 +11,14 @@ pub begin_context-requires-clause-home : goal.begin_context-requires-clause-home
 begin_context-requires-clause-home c =
     subst (λ s. AreAtHome s.streams) c.self.view_is
     (home_without c.self.inside (no_frame c.self.inside _ c.self.view_is
-    (not_some c.args.self.now.frame (sym c.is_busy.ensures ∙ c.if-is_busy.false))) c.self.invariant)
+    (not_some c.args.self.now.frame (sym c.is_busy.ensures ∙ c.if-is_busy.false))) c.self.invariant.holds)
 
 pub begin_context-requires-clause-fits : goal.begin_context-requires-clause-fits
 begin_context-requires-clause-fits c =
     let same = c.self.view_is in
     asked_fits c.args.self.now c.args.device c.args.context c.in-Ok.shown (c.in-Ok.ensures
     ∙ ap (λ s. shown_context c.args.device c.args.context s.core) same) c.self.inside.store (ap (λ s. s.streams) same)
-    (subst (λ core. Fits core c.self.inside.store) (ap (λ s. s.core) same) c.self.invariant.fits)
+    (subst (λ core. Fits core c.self.inside.store) (ap (λ s. s.core) same) c.self.invariant.holds.fits)
 
 module _ (c : goal.After-begin_context) where
   abbrev h : State

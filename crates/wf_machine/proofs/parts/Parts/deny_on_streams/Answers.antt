@@ -5,7 +5,7 @@ use Rattle.wf_calls.specs.Creations.{is_creation}
 use Rattle.wf_calls.specs.Parts.{part_of}
 use Rattle.wf_calls.specs.declared.call.Call.TheVariants as call
 use Rattle.wf_calls.specs.declared.part.Part.TheVariants as part
-use Rattle.wf_machine.proofs.Acts.{as_marked_act, plain_answer}
+use Rattle.wf_machine.proofs.Acts.{as_marked_act, as_settled, plain_answer}
 use Rattle.wf_machine.proofs.parts.Parts.deny_on_streams.Goals as goal
 
 pub returns : goal.returns
@@ -17,7 +17,8 @@ returns c =
     let b : SFits w64 c.in-StreamNew.buffers = search rules in
     as_marked_act true _ _ _ (call.StreamNew x.width x.height x.format x.buffers)
     (bare _) x.is
-    (rw (to_z-of_z w, to_z-of_z h, to_z-of_z b) at c.deny_stream.ensures) (plain_answer c.deny_stream.result)
+    (as_settled _ _ _ (rw (to_z-of_z w, to_z-of_z h, to_z-of_z b) at c.deny_stream.ensures)
+    c.all_named.ensures) (plain_answer c.deny_stream.result)
 
 -- there is one creation among the calls on streams
 pub unreachable-requires : goal.unreachable-requires

@@ -1,11 +1,11 @@
 use Rattle.wf_machine.proofs.Common.{◌∙◌, refl, sym, subst}
 use Rattle.wf_display.specs.Fits.{Fits as Shows}
-use Rattle.wf_machine.proofs.Opening.{sound_when_open}
+use Rattle.wf_machine.proofs.Opening.{sound_opened}
 use Rattle.wf_machine.proofs.parts.Parts.open.Goals as goal
 
 pub invariant_of-result-2 : goal.invariant_of-result-2
 invariant_of-result-2 c =
-    sound_when_open _ c.args.ports.now (record {
+    sound_opened _ c.args.ports.now (record {
       store = c.store-2.view_is ∙ c.in_ok-display.ensures.screens;
       core = c.core.view_is ∙ c.in_ok-core.ensures;
       display = c.in_ok-display.ensures.display;

@@ -1,32 +1,52 @@
-use Rattle.wf_machine.proofs.Common.{map, sym, ap, subst, ◌∙◌, posted, change_stream, bare, done, canvas_back, is_out_at_client}
-use Rattle.wf_machine.proofs.Common.{IsSound, state_of, sizes_of}
-use Rattle.wf_machine.proofs.Drawing.{frame_apart}
-use Rattle.wf_machine.proofs.Buffering.{comes_back, out_apart, out_from}
-use Rattle.wf_machine.proofs.StillFitting.{posted_keeps, shape_kept}
-use Rattle.wf_machine.proofs.Sounds.{leaves, sound_kept}
+use Rattle.wf_machine.proofs.Common.{refl, sym, ap, ◌∙◌, posted, bare, done, canvas_back, is_out_at_client, settle, settled_so, state_of}
+use Rattle.wf_machine.proofs.Common.{with_stream}
+use Rattle.wf_machine.proofs.Acts.{as_settled}
+use Rattle.wf_machine.proofs.Buffering.{comes_back, out_from, stays_out}
+use Rattle.wf_machine.proofs.Counts.{seen_settled}
+use Rattle.wf_machine.proofs.StillFitting.{posted_keeps}
+use Rattle.wf_machine.proofs.StreamNames.{back_counted, back_named, back_seen, sound_back}
+use Rattle.wf_machine.proofs.Sounds.{leaves_so}
 use Rattle.wf_machine.proofs.parts.Parts.post.Goals as goal
+
+pub returns-then-not-is_out_at_client : goal.returns-then-not-is_out_at_client
+returns-then-not-is_out_at_client c =
+    as_settled _ _ _ (stays_out c.args.canvas (posted c.args.canvas.image) c.args.self.now c.giving_back_canvas.result
+    (sym c.is_out_at_client.ensures ∙ c.if-not-is_out_at_client.true) c.giving_back_canvas.ensures)
+    (seen_settled c.self.inside _ c.self.view_is c.self.invariant)
 
 pub post_to-requires : goal.post_to-requires
 post_to-requires c =
     let out = sym c.is_out_at_client.ensures ∙ c.if-not-is_out_at_client.false in
     out_from _ (state_of c.self.inside) (ap (is_out_at_client c.args.canvas) c.self.view_is ∙ out)
 
+pub end_name-requires-clause-counted : goal.end_name-requires-clause-counted
+end_name-requires-clause-counted c =
+    let out = ap (is_out_at_client c.args.canvas) c.self.view_is ∙ sym c.is_out_at_client.ensures ∙ c.if-not-is_out_at_client.false in
+    back_counted c.self.inside c.self.invariant c.args.canvas out (posted c.args.canvas.image) (posted_keeps c.args.canvas.image)
+    (λ b. refl) _ c.post_to.ensures
+
+pub end_name-requires-clause-named : goal.end_name-requires-clause-named
+end_name-requires-clause-named c =
+    let out = ap (is_out_at_client c.args.canvas) c.self.view_is ∙ sym c.is_out_at_client.ensures ∙ c.if-not-is_out_at_client.false in
+    back_named c.self.inside c.self.invariant c.args.canvas out (posted c.args.canvas.image) (posted_keeps c.args.canvas.image)
+    (λ b. refl) _ c.post_to.ensures
+
 pub invariant_of-self : goal.invariant_of-self
 invariant_of-self c =
-    subst (λ store. IsSound (record c.self.inside { store = store })) (sym c.post_to.ensures)
-    (sound_kept c.self.inside _ (posted _) (posted_keeps _)
-    (frame_apart _ (posted _) (map sizes_of c.self.inside.ports.items) c.self.inside.store.streams
-    c.self.inside.frame (shape_kept (posted _) (posted_keeps _))
-    (out_apart c.args.canvas (state_of c.self.inside) (ap (is_out_at_client c.args.canvas) c.self.view_is ∙ sym c.is_out_at_client.ensures
-    ∙ c.if-not-is_out_at_client.false)) c.self.invariant.frame) c.self.invariant)
+    let out = ap (is_out_at_client c.args.canvas) c.self.view_is ∙ sym c.is_out_at_client.ensures ∙ c.if-not-is_out_at_client.false in
+    sound_back c.self.inside c.self.invariant c.args.canvas out (posted c.args.canvas.image) (posted_keeps c.args.canvas.image)
+    (λ b. refl) _ c.post_to.ensures _
+    c.end_name.ensures.names c.end_name.ensures.none c.end_name.ensures.rest
 
 pub returns : goal.returns
 returns c =
-    let inside = c.self.inside in
+    let m = c.self.inside in
+    let stream = c.args.canvas.stream in
     let out = ap (is_out_at_client c.args.canvas) c.self.view_is ∙ sym c.is_out_at_client.ensures ∙ c.if-not-is_out_at_client.false in
-    leaves inside _ c.self.view_is (λ t r. canvas_back c.args.canvas (posted c.args.canvas.image) t)
-    c.post_to.new.store
-    (record inside.store { streams = change_stream _ (posted _) inside.store.streams })
+    leaves_so m _ c.self.view_is (λ t r. settled_so (canvas_back c.args.canvas (posted c.args.canvas.image) t))
+    (state_of (record m { store = c.end_name.new.store })) (settle (with_stream stream (posted c.args.canvas.image) (state_of m)))
     c.bare.result (bare (done 0))
-    c.post_to.ensures (c.bare.ensures ∙ ap bare c.done.ensures)
-    (comes_back c.args.canvas (posted _) (state_of inside) out)
+    (back_seen m c.self.invariant c.args.canvas out (posted c.args.canvas.image) (posted_keeps c.args.canvas.image)
+    (λ b. refl) _ c.post_to.ensures _
+    c.end_name.ensures.names c.end_name.ensures.none c.end_name.ensures.rest)
+    (c.bare.ensures ∙ ap bare c.done.ensures) (ap settled_so (comes_back c.args.canvas (posted c.args.canvas.image) (state_of m) out))

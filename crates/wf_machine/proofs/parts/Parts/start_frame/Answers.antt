@@ -1,19 +1,63 @@
-use Rattle.wf_machine.proofs.Common.{◌+◌, Some, refl, sym, subst, start, IsAnswer, Frame, Inside, IsReady, MayStart, beginning_of}
+use Rattle.wf_machine.proofs.Common.{◌≡◌, ◌+◌, ◌<◌, [], Some, refl, sym, subst, ap, ◌∙◌, start, IsAnswer, IsSound, Frame, Inside, IsReady}
+use Rattle.wf_machine.proofs.Common.{MayStart}
+use Rattle.wf_machine.proofs.Common.{StoreView, content_shape, map, drawing, latch, scene_streams, stream_at, AllByRecursion, beginning_of}
+use Rattle.wf_machine.proofs.Common.{state_of}
+use Rattle.std.specs.Option.{IsSome}
+use Rattle.wf_stream.specs.Names.{AreCounted}
+use Rattle.wf_stream.specs.Renames.{Renames}
+use Rattle.wf_stream.specs.Streams.{count_of}
+use Rattle.wf_machine.specs.Naming.{drawn_names, held_names}
 use Rattle.wf_machine.proofs.Begun.{home_without}
-use Rattle.wf_machine.proofs.Beginning.{no_frame, sound_begun}
+use Rattle.wf_machine.proofs.Beginning.{no_frame}
+use Rattle.wf_machine.proofs.Counts.{room, sound_settles}
+use Rattle.wf_machine.proofs.FrameCounts.{contents_kept, counted_begun, drawn_kept, sound_told, told_seen}
 use Rattle.wf_machine.proofs.Starting.{Starts, answers, b, begun, left, ready}
 use Rattle.wf_machine.proofs.parts.Parts.start_frame.Goals as goal
 
 pub latch_scene-requires-clause-home : goal.latch_scene-requires-clause-home
 latch_scene-requires-clause-home c = home_without c.self.inside (no_frame c.self.inside _ c.self.view_is c.requires.free)
-    c.self.invariant
+    c.self.invariant.holds
 
 pub take_target-image-requires : goal.take_target-image-requires
 take_target-image-requires c =
     let free = no_frame c.self.inside _ c.self.view_is c.requires.free in
     let may = subst (λ h. MayStart c.args.kind c.args.mode c.args.scene h) (sym c.self.view_is) c.requires.may in
     subst (λ v. IsReady v.streams c.self.inside.ports.items c.args.mode c.args.kind) (sym c.latch_scene.ensures.store)
-    (ready c.self.inside c.args.mode c.args.scene c.args.value c.self.invariant free c.args.kind may.draws)
+    (ready c.self.inside c.args.mode c.args.scene c.args.value c.self.invariant.holds free c.args.kind may.draws)
+
+pub begin_names-requires-clause-counted : goal.begin_names-requires-clause-counted
+begin_names-requires-clause-counted c =
+    subst AreCounted (sym (c.take_target-image.ensures.store
+    ∙ ap (λ (v : StoreView). record v { streams = drawing c.args.kind v.streams }) c.latch_scene.ensures.store))
+    (counted_begun c.args.kind (scene_streams c.args.scene) c.self.inside.store c.self.invariant.counted)
+
+pub begin_names-requires-clause-kept : goal.begin_names-requires-clause-kept
+begin_names-requires-clause-kept c =
+    subst (λ cs. AllByRecursion (λ x. IsSome (stream_at x.stream c.take_target-image.new.store.streams)) cs)
+    (sym (c.as_slice.ensures.value ∙ c.into_parts-contents.ensures.shapes))
+    (subst (λ (v : StoreView). AllByRecursion (λ x. IsSome (stream_at x.stream v.streams)) (map content_shape c.latch_scene.result))
+    (sym c.take_target-image.ensures.store)
+    (contents_kept c.args.kind _ c.latch_scene.new.store.streams c.latch_scene.ensures.shaped))
+
+pub begin_names-requires-clause-target : goal.begin_names-requires-clause-target
+begin_names-requires-clause-target c =
+    let free = no_frame c.self.inside _ c.self.view_is c.requires.free in
+    let may = subst (λ h. MayStart c.args.kind c.args.mode c.args.scene h) (sym c.self.view_is) c.requires.may in
+    subst (λ (v : StoreView). AllByRecursion (λ n. IsSome (stream_at n v.streams)) (drawn_names c.args.kind))
+    (sym (c.take_target-image.ensures.store
+    ∙ ap (λ (v : StoreView). record v { streams = drawing c.args.kind v.streams }) c.latch_scene.ensures.store))
+    (drawn_kept c.args.kind (latch (scene_streams c.args.scene) c.self.inside.store.streams) c.self.inside.ports.items c.args.mode
+    (ready c.self.inside c.args.mode c.args.scene c.args.value c.self.invariant.holds free c.args.kind may.draws))
+
+pub begin_names-requires-clause-few : goal.begin_names-requires-clause-few
+begin_names-requires-clause-few c = c.as_slice.ensures.fits
+
+pub begin_names-requires-clause-room : goal.begin_names-requires-clause-room
+begin_names-requires-clause-room c n =
+    subst (λ k. k < 2147483648)
+    (sym (ap (count_of n) (c.take_target-image.ensures.store
+    ∙ ap (λ (v : StoreView). record v { streams = drawing c.args.kind v.streams }) c.latch_scene.ensures.store)))
+    (room c.self.inside c.self.invariant c.few_names.ensures c.few_names-2.ensures n)
 
 module _ (c : goal.After-giving_job) where
   abbrev frame : Frame
@@ -27,6 +71,7 @@ module _ (c : goal.After-giving_job) where
         contents = c.into_parts-contents.result.1;
       }
 
+  -- the machine before the store is told of the frame's names
   abbrev now : Inside
   now =
       record {
@@ -44,7 +89,7 @@ module _ (c : goal.After-giving_job) where
   starts =
       record {
         free = no_frame c.self.inside c.args.self.now c.self.view_is c.requires.free;
-        sound = c.self.invariant;
+        sound = c.self.invariant.holds;
         may = subst (λ h. MayStart c.args.kind c.args.mode c.args.scene h) (sym c.self.view_is) c.requires.may;
         taken = c.latch_scene.ensures.contents;
         latched_is = c.latch_scene.ensures.store;
@@ -66,17 +111,43 @@ module _ (c : goal.After-giving_job) where
         contents_are = c.into_parts-contents.ensures.contents;
       }
 
+  -- the store is told of them
+  told : Renames [] (held_names frame.contents.items c.args.kind) now.store c.begin_names.new.store
+  told =
+      subst (λ cs. Renames [] (held_names cs c.args.kind) now.store c.begin_names.new.store) c.as_slice.ensures.value
+      c.begin_names.ensures.begins
+
+  abbrev was : Inside
+  was = c.self.inside
+
+  sound_now : IsSound (record now { store = c.begin_names.new.store })
+  sound_now =
+      let a = c.args in
+      let may = subst (λ h. MayStart a.kind a.mode a.scene h) (sym c.self.view_is) c.requires.may in
+      sound_told was now (b was now a.kind a.mode a.scene a.value _ _ _ _ frame starts) frame c.into_parts-contents.result.0
+      (begun was now a.kind a.mode a.scene a.value _ _ _ _ frame starts) c.self.invariant was.ports.items a.mode
+      (ready was a.mode a.scene a.value c.self.invariant.holds (no_frame was _ c.self.view_is c.requires.free) a.kind may.draws)
+      c.begin_names.new.store told c.begin_names.ensures.streams
+
+  seen_now : state_of (record now { store = c.begin_names.new.store }) ≡ state_of now
+  seen_now =
+      let a = c.args in
+      let may = subst (λ h. MayStart a.kind a.mode a.scene h) (sym c.self.view_is) c.requires.may in
+      told_seen was now (b was now a.kind a.mode a.scene a.value _ _ _ _ frame starts) frame c.into_parts-contents.result.0
+      (begun was now a.kind a.mode a.scene a.value _ _ _ _ frame starts) c.self.invariant was.ports.items a.mode
+      (ready was a.mode a.scene a.value c.self.invariant.holds (no_frame was _ c.self.view_is c.requires.free) a.kind may.draws)
+      c.begin_names.new.store told c.begin_names.ensures.streams
+
 pub invariant_of-self : goal.invariant_of-self
-invariant_of-self c =
-    let a = c.args in
-    let s = starts c in
-    sound_begun c.self.inside (now c) (b c.self.inside (now c) a.kind a.mode a.scene a.value _ _ _ _ (frame c) s) (frame c)
-    c.into_parts-contents.result.0
-    (begun c.self.inside (now c) a.kind a.mode a.scene a.value _ _ _ _ (frame c) s) c.self.invariant
+invariant_of-self c = sound_now c
 
 pub returns-clause-left : goal.returns-clause-left
-returns-clause-left c = left c.self.inside (now c) _ _ _ c.args.value _ _ _ _ (frame c) (starts c)
-    c.args.self.now c.self.view_is
+returns-clause-left c =
+    seen_now c
+    ∙ left c.self.inside (now c) _ _ _ c.args.value _ _ _ _ (frame c) (starts c) c.args.self.now c.self.view_is
+
+pub returns-clause-settled : goal.returns-clause-settled
+returns-clause-settled c = sound_settles (record (now c) { store = c.begin_names.new.store }) (sound_now c)
 
 pub returns-clause-answer : goal.returns-clause-answer
 returns-clause-answer c =

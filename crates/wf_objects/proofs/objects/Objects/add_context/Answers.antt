@@ -12,6 +12,14 @@ use Rattle.wf_objects.specs.Inside.{tables_of}
 use Rattle.wf_objects.proofs.Lookups.{device_lives}
 use Rattle.wf_objects.proofs.Tracking.{context_tracked, contexts_room, fresh_context, is_nobodys, live_open}
 use Rattle.wf_objects.proofs.Makings.{context_fits, creates}
+use Rattle.std.proofs.Common.{rules, ◌∙◌}
+use Rattle.std.proofs.lemmas.Grind.{common_steps}
+use Rattle.wf_words.specs.Each.{each_more}
+use Rattle.wf_stream.specs.Names.{but_names}
+use Rattle.wf_objects.specs.Does.{refuses, unchanged}
+use Rattle.wf_objects.specs.Inside.{HasFewLayers}
+use Rattle.wf_objects.proofs.Endings.{begun_fits, begun_names}
+use Rattle.wf_objects.proofs.NameCounts.{context_more}
 use Rattle.wf_objects.proofs.objects.Objects.add_context.Goals as goal
 
 pub add-requires-clause-is_open : goal.add-requires-clause-is_open
@@ -42,6 +50,8 @@ invariant_of-self c =
       contexts = omega (arith, c.self.invariant.contexts, c.push_reserved.ensures.capacity);
       sources = c.self.invariant.sources;
       masks = c.self.invariant.masks;
+      layers = rw c.push_reserved.ensures.items (each_more HasFewLayers s.contexts.items _ c.self.invariant.layers
+          (rw c.blank_scene.ensures (omega arith)));
       tracked = rw c.push_reserved.ensures.items
           (context_tracked s.members s.devices.items s.contexts.items c.self.invariant.tracked _ _ c.add.ensures);
     }
@@ -51,6 +61,7 @@ returns c =
     let a = c.args in
     let core = a.self.now in
     let store = a.store.now in
+    let now = c.begin_name.new.store in
     let new : Context =
     record {
       handle = store.made + 1;
@@ -65,9 +76,34 @@ returns c =
     let below : nat_le 16 (length core.contexts) ≡ false = lt-leb 16 (length core.contexts)
     (omega (arith, c.if-len-ge-MOST_CONTEXTS.false, c.len.ensures, ap (λ k. length k.contexts) c.self.view_is)) in
     let fit : ContextFits store.streams new = record { target = c.requires.kept; size = refl; layers = tt } in
-    rw (c.in_ok-handle.ensures.made, c.push_reserved.ensures.items, c.in_ok-handle.ensures.handle, c.in-Ok.ensures, c.blank_scene.ensures)
-    (subst (λ k. Does (context_made a.device a.port a.target) core (grown k) store (with_other kind.Context a.device store)
-    (Ok (store.made + 1))) (sym c.self.view_is)
+    let made = c.in_ok-handle.ensures.made in
+    let rest = c.begin_name.ensures.rest ∙ ap but_names made in
+    rw (c.push_reserved.ensures.items, c.in_ok-handle.ensures.handle, c.in-Ok.ensures, c.blank_scene.ensures)
+    (subst (λ k. Does (context_made a.device a.port a.target) core (grown k) store now (Ok (store.made + 1))) (sym c.self.view_is)
     (creates core store c.requires.fits (context_made a.device a.port a.target) (nat_le 16 (length core.contexts)) (grown core)
-    (λ m. refl) kind.Context a.device refl refl below c.in_ok-handle.ensures.stopped
-    (context_fits core store c.requires.fits new refl refl fit)))
+    (λ m. refl) kind.Context a.device refl refl below c.in_ok-handle.ensures.stopped now rest
+    (begun_names core (grown core) store c.mint.new.store (ap (λ v. v.streams) made) (ap (λ v. v.counts) made) (a.target.stream ∷ []) now
+    c.begin_name.ensures.names (λ n some. context_more n core new))
+    (begun_fits (grown core) (with_other kind.Context a.device store) now (c.begin_name.ensures.streams ∙ ap (λ v. v.streams) made) rest
+    (context_fits core store c.requires.fits new refl refl fit))))
+
+pub returns-then-len-ge-MOST_CONTEXTS : goal.returns-then-len-ge-MOST_CONTEXTS
+returns-then-len-ge-MOST_CONTEXTS c =
+    refuses (context_made c.args.device c.args.port c.args.target) c.args.self.now c.args.store.now c.of.result c.requires.fits
+    (grind (arith, common_steps))
+
+pub returns-in_default : goal.returns-in_default
+returns-in_default c =
+    refuses (context_made c.args.device c.args.port c.args.target) c.args.self.now c.args.store.now c.of-in_default.result c.requires.fits
+    (grind (arith, common_steps))
+
+pub returns-in_err-handle : goal.returns-in_err-handle
+returns-in_err-handle c =
+    record {
+      case = grind (arith, common_steps);
+      refused = search rules;
+      untouched = search rules;
+      kept = search rules;
+      names = unchanged c.args.self.now c.args.store.now c.mint.new.store (search rules);
+      fits = search rules;
+    }

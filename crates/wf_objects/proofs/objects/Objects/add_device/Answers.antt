@@ -1,11 +1,13 @@
-use Rattle.std.proofs.Common.{◌≡◌, ◌++◌, ◌∷◌, [], ◌+◌, None, Ok, length, false, subst, sym, ap, refl, arith}
+use Rattle.std.proofs.Common.{rules, ◌≡◌, ◌++◌, ◌∷◌, [], ◌+◌, None, Ok, length, false, subst, sym, ap, refl, arith}
 use Rattle.std.proofs.lemmas.Bool.{lt-leb}
 use Rattle.std.specs.Prelude.{nat_le}
 use Rattle.wf_life.specs.declared.Kind.TheVariants as kind
 use Rattle.wf_stream.specs.Streams.{with_other}
 use Rattle.wf_model.specs.Objects.{CoreState}
 use Rattle.wf_model.specs.Core.{device_new}
-use Rattle.wf_objects.specs.Does.{Does}
+use Rattle.wf_model.specs.Names.{core_names}
+use Rattle.wf_objects.specs.Does.{Does, refuses, unchanged}
+use Rattle.wf_stream.specs.Renames.{names_stay}
 use Rattle.wf_objects.specs.Inside.{tables_of}
 use Rattle.wf_objects.proofs.Tracking.{dead_shut, device_tracked, devices_room, fresh_device}
 use Rattle.wf_objects.proofs.Makings.{creates, device_fits}
@@ -31,6 +33,7 @@ invariant_of-self c =
       contexts = c.self.invariant.contexts;
       sources = c.self.invariant.sources;
       masks = c.self.invariant.masks;
+      layers = c.self.invariant.layers;
       tracked = rw c.push_reserved.ensures.items
           (device_tracked s.members s.devices.items s.contexts.items c.self.invariant.tracked _
           (record { handle = c.in_ok-handle.handle; register = None }) c.open.ensures);
@@ -48,4 +51,20 @@ returns c =
     (subst (λ k. Does device_new core (grown k) store (with_other kind.Device 0 store) (Ok (store.made + 1)))
     (sym c.self.view_is)
     (creates core store c.requires device_new (nat_le 8 (length core.devices)) (grown core) (λ m. refl) kind.Device 0 refl refl below
-    c.in_ok-handle.ensures.stopped (device_fits core store c.requires)))
+    c.in_ok-handle.ensures.stopped (with_other kind.Device 0 store) refl
+    (names_stay (core_names core) (core_names (grown core)) store (with_other kind.Device 0 store) refl refl (λ n some. refl))
+    (device_fits core store c.requires)))
+
+pub returns-then-len-ge-MOST_DEVICES : goal.returns-then-len-ge-MOST_DEVICES
+returns-then-len-ge-MOST_DEVICES c = refuses device_new c.args.self.now c.args.store.now c.of.result c.requires (search rules)
+
+pub returns-in_err-handle : goal.returns-in_err-handle
+returns-in_err-handle c =
+    record {
+      case = search rules;
+      refused = search rules;
+      untouched = search rules;
+      kept = search rules;
+      names = unchanged c.args.self.now c.args.store.now c.mint.new.store (search rules);
+      fits = search rules;
+    }

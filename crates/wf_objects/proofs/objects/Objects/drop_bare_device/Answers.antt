@@ -1,11 +1,14 @@
 use Rattle.std.proofs.Common.{◌≡◌, ◌==◌, true, refl, subst, sym, arith}
+use Rattle.wf_model.specs.Names.{core_names}
+use Rattle.wf_stream.specs.Renames.{names_stay}
 use Rattle.std.specs.List.{list_any}
 use Rattle.wf_words.specs.Rising.{Rises}
 use Rattle.wf_life.specs.declared.Kind.TheVariants as kind
 use Rattle.wf_objects.specs.Inside.{tables_of}
 use Rattle.wf_objects.proofs.Tracking.{device_untracked, live_open, no_members, rises_devices}
-use Rattle.wf_objects.proofs.Dropped.{device_dropped, device_under, loses}
+use Rattle.wf_objects.proofs.Dropped.{dead, device_dropped, device_under, loses}
 use Rattle.wf_life.specs.Living.{lives}
+use Rattle.wf_stream.specs.Names.{Recounts}
 use Rattle.wf_objects.proofs.objects.Objects.drop_bare_device.Goals as goal
 
 pub drop_handle-requires : goal.drop_handle-requires
@@ -32,6 +35,7 @@ invariant_of-self c =
       contexts = c.self.invariant.contexts;
       sources = c.self.invariant.sources;
       masks = c.self.invariant.masks;
+      layers = c.self.invariant.layers;
       tracked = rw c.leave_out_device.ensures.left
           (device_untracked s.members s.devices.items s.contexts.items c.self.invariant.tracked _ a.device c.close.ensures
           (subst (λ k. Rises (λ x. x.handle) 0 k.devices) (sym c.self.view_is)
@@ -51,3 +55,10 @@ returns-clause-fits c =
     let u = device_under a.self.now a.store.now c.requires.fits a.device c.requires.live in
     rw (c.drop_handle.ensures, c.leave_out_device.ensures.left)
     (rw (← c.self.view_is) at (device_dropped a.self.now a.store.now c.requires.fits a.device u))
+
+pub returns-clause-names : goal.returns-clause-names
+returns-clause-names c =
+    let a = c.args in
+    rw c.drop_handle.ensures (subst (λ k. Recounts (core_names a.self.now) (core_names k) a.store.now (dead a.device a.store.now))
+    (sym c.self.view_is) (names_stay (core_names a.self.now) (core_names a.self.now) a.store.now (dead a.device a.store.now) refl refl
+    (λ n some. refl)))

@@ -5,6 +5,10 @@ use Rattle.wf_objects.specs.Losses.{but_contexts_of}
 use Rattle.wf_objects.proofs.Dropped.{then_lost}
 use Rattle.wf_objects.proofs.Remainders.{contexts_fewer, no_contexts, one_context_fewer, one_of}
 use Rattle.wf_objects.proofs.Tracking.{is_member, lowest_in, no_context}
+use Rattle.wf_model.specs.Names.{core_names}
+use Rattle.wf_stream.specs.Renames.{named_again, then_named}
+use Rattle.std.proofs.Common.{refl}
+use Rattle.wf_objects.specs.Does.{unchanged}
 use Rattle.wf_objects.proofs.objects.Objects.drop_contexts.Goals as goal
 use Rattle.wf_objects.proofs.objects.Objects.drop_contexts.Goals.{In-Some}
 
@@ -36,6 +40,8 @@ loop-context-preserved c =
     let x = one_of l.self l.store l.invariant.fits d c.in-Some.context (owned (goal.at.loop-context-preserved c).In-Some) in
     record {
       fits = c.drop_context.ensures.fits;
+      names = then_named c.args.store.now l.store c.drop_context.new.store (core_names c.args.self.now) (core_names l.self)
+          (core_names c.drop_context.new.self) c.requires.names.counted l.invariant.names c.drop_context.ensures.names;
       loses = then_lost _ l.store _ l.invariant.loses c.drop_context.ensures.loses;
       rest = ap (but_contexts_of d) c.drop_context.ensures.dropped
           ∙ rw x.handle_is at (one_context_fewer l.self l.store l.invariant.fits d x.context x.found x.owned) ∙ l.invariant.rest;
@@ -49,3 +55,17 @@ returns-clause-dropped c =
     let none = subst (λ k. find (λ x. x.device == d) k.contexts ≡ None) c.self.view_is
     (no_context s.members s.devices.items s.contexts.items c.self.invariant.tracked d (sym c.in_default.is ∙ c.first.ensures)) in
     sym (no_contexts d l.self none) ∙ l.invariant.rest
+
+pub drop_context-requires-clause-names : goal.drop_context-requires-clause-names
+drop_context-requires-clause-names c =
+    let l = c.loop-context in
+    named_again c.args.store.now l.store (core_names c.args.self.now) (core_names l.self) c.requires.names l.invariant.names
+
+pub loop-context-init : goal.loop-context-init
+loop-context-init c =
+    record {
+      fits = c.requires.fits;
+      loses = record { rest = refl; others = refl; display = refl };
+      names = unchanged c.args.self.now c.args.store.now c.args.store.now refl;
+      rest = refl;
+    }

@@ -6,6 +6,11 @@ use Rattle.wf_objects.proofs.Dropped.{then_lost}
 use Rattle.wf_words.specs.Found.{any_at, any_found}
 use Rattle.wf_objects.proofs.Owners.{standing}
 use Rattle.wf_objects.proofs.Remainders.{element_first, element_none, emptied, fewer_elements, others_stay, still_stands}
+use Rattle.wf_model.specs.Names.{core_names}
+use Rattle.wf_stream.specs.Renames.{then_named}
+use Rattle.std.proofs.Common.{refl}
+use Rattle.wf_objects.specs.Does.{unchanged}
+use Rattle.wf_objects.proofs.Remainders.{stands}
 use Rattle.wf_objects.proofs.objects.Objects.drop_elements.Goals as goal
 use Rattle.wf_objects.proofs.objects.Objects.drop_elements.Goals.{After-drop_element, After-first}
 
@@ -50,6 +55,8 @@ loop-element-preserved c =
     let is = left (goal.at.loop-element-preserved c).After-drop_element (at k) in
     record {
       fits = c.drop_element.ensures.fits;
+      names = then_named c.args.store.now l.store c.drop_element.new.store (core_names c.args.self.now) (core_names l.self)
+          (core_names c.drop_element.new.self) c.requires.names.counted l.invariant.names c.drop_element.ensures.names;
       loses = then_lost _ l.store _ l.invariant.loses c.drop_element.ensures.loses;
       rest = others_stay l.self l.store l.invariant.fits _ _ (context_of c.behind-self.inside) (at k) (handle k)
           c.in-Some.element
@@ -71,3 +78,13 @@ returns-clause-bare c =
     let k = (goal.at.returns-clause-bare c).After-first in
     emptied l.self l.store l.invariant.fits _ _ (context_of c.behind-self.inside) (at k) (handle k)
     (element_none (context_of c.behind-self.inside).cached.elements (sym c.in_default.is ∙ c.first.ensures.first))
+
+pub loop-element-init : goal.loop-element-init
+loop-element-init c =
+    record {
+      fits = c.requires.fits;
+      loses = record { rest = refl; others = refl; display = refl };
+      names = unchanged c.args.self.now c.args.store.now c.args.store.now refl;
+      rest = refl;
+      here = stands c.args.context c.args.place c.args.self.now.contexts c.requires.within c.requires.here;
+    }

@@ -5,6 +5,10 @@ use Rattle.wf_objects.specs.Links.{links, with_links}
 use Rattle.wf_objects.proofs.Dropped.{then_lost}
 use Rattle.wf_objects.proofs.Remainders.{IsFirst, fewer, first_is, first_leaves, first_lives, first_of, links_with, none_is, rises_links}
 use Rattle.wf_objects.proofs.Remainders.{with_own, with_twice}
+use Rattle.wf_model.specs.Names.{core_names}
+use Rattle.wf_stream.specs.Renames.{named_again, then_named}
+use Rattle.std.proofs.Common.{refl}
+use Rattle.wf_objects.specs.Does.{unchanged}
 use Rattle.wf_objects.proofs.objects.Objects.drop_links.Goals as goal
 use Rattle.wf_objects.proofs.objects.Objects.drop_links.Goals.{After-first_of, In-Some}
 
@@ -41,6 +45,8 @@ loop-link-preserved c =
     (first (goal.at.loop-link-preserved c).In-Some) in
     record {
       fits = c.drop_link.ensures.fits;
+      names = then_named c.args.store.now l.store c.drop_link.new.store (core_names c.args.self.now) (core_names l.self)
+          (core_names c.drop_link.new.self) c.requires.names.counted l.invariant.names c.drop_link.ensures.names;
       loses = then_lost _ l.store _ l.invariant.loses c.drop_link.ensures.loses;
       rest =
           ap (λ k. with_links mask (of (links mask k)) k) c.drop_link.ensures.dropped
@@ -54,3 +60,17 @@ returns-clause-dropped c =
     let none = none_is _ (links _ l.self)
     (sym c.in_default.is ∙ told (goal.at.returns-clause-dropped c).After-first_of) in
     sym (ap (λ ss. with_links c.args.mask ss l.self) none ∙ with_own c.args.mask l.self) ∙ l.invariant.rest
+
+pub drop_link-requires-clause-names : goal.drop_link-requires-clause-names
+drop_link-requires-clause-names c =
+    let l = c.loop-link in
+    named_again c.args.store.now l.store (core_names c.args.self.now) (core_names l.self) c.requires.names l.invariant.names
+
+pub loop-link-init : goal.loop-link-init
+loop-link-init c =
+    record {
+      fits = c.requires.fits;
+      loses = record { rest = refl; others = refl; display = refl };
+      names = unchanged c.args.self.now c.args.store.now c.args.store.now refl;
+      rest = refl;
+    }

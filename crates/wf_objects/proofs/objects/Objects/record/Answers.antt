@@ -13,6 +13,7 @@ invariant_of-self c =
       contexts = c.self.invariant.contexts;
       sources = c.self.invariant.sources;
       masks = c.self.invariant.masks;
+      layers = c.self.invariant.layers;
       tracked = rw (with_items_is s.devices c.record_in.new.devices (omega arith), c.record_in.ensures, c.deref_mut.ensures.value)
           (registers_tracked s.members s.devices.items s.contexts.items c.self.invariant.tracked c.args.device (recorded c.args.code));
     }

@@ -13,7 +13,7 @@ invariant_of-self c =
     let a = c.args in
     let x = context_of c.behind-self.inside in
     let at = standing _ a.self.now a.place _ x c.self.view_is c.requires.within c.index_mut.ensures.value c.behind-self.view_is in
-    kept_in c.self.inside a.self.now a.place x _ c.self.invariant c.self.view_is at refl refl
+    kept_in c.self.inside a.self.now a.place x _ c.self.invariant c.self.view_is at refl refl (λ few. few)
 
 pub returns : goal.returns
 returns c =

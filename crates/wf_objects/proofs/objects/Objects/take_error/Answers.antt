@@ -1,4 +1,6 @@
-use Rattle.std.proofs.Common.{◌≡◌, ◌∙◌, sym, refl, None, arith}
+use Rattle.wf_model.specs.Core.{get_error}
+use Rattle.wf_objects.specs.Does.{refuses}
+use Rattle.std.proofs.Common.{rules, ◌≡◌, ◌∙◌, sym, refl, None, arith}
 use Rattle.std.proofs.lemmas.List.{with_items_is}
 use Rattle.wf_words.specs.Keyed.{at_key}
 use Rattle.wf_objects.proofs.Tracking.{registers_tracked}
@@ -13,6 +15,7 @@ invariant_of-self c =
       contexts = c.self.invariant.contexts;
       sources = c.self.invariant.sources;
       masks = c.self.invariant.masks;
+      layers = c.self.invariant.layers;
       tracked = rw (with_items_is s.devices c.clear_in.new.devices (omega arith), c.clear_in.ensures, c.deref_mut.ensures.value)
           (registers_tracked s.members s.devices.items s.contexts.items c.self.invariant.tracked c.args.device (λ _. None));
     }
@@ -29,3 +32,7 @@ returns-in-Some c =
       c.deref_mut.ensures.value,
       ← c.self.view_is,
     ) refl) c.register_number.ensures
+
+pub returns-in-None : goal.returns-in-None
+returns-in-None c =
+    refuses (λ _. get_error c.args.device) c.args.self.now c.args.store.now c.of.result c.requires (search rules)

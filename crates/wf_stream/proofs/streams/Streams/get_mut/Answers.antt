@@ -3,7 +3,7 @@ use borrow.Follows.Closed.{read_of}
 use Rattle.std.specs.Option.{ghost_name_of, option_copied}
 use Rattle.wf_life.specs.Pool.{with_value}
 use Rattle.wf_stream.specs.Buffers.{Buffers}
-use Rattle.wf_stream.specs.StreamTable.{streams_in, marks_of, counts_in, IsSound}
+use Rattle.wf_stream.specs.StreamTable.{streams_in, counts_in, IsSound}
 use Rattle.wf_stream.specs.Streams.{StreamTable}
 use Rattle.wf_stream.proofs.StreamTables.{buffers_lookup, found_kept, value_pooled, lent_view, lent_kept, numbered_changed}
 use Rattle.wf_stream.proofs.Lifetimes.{lent_counted, other_lent}
@@ -43,11 +43,10 @@ returns c =
     let is = sym c.in-Some.ensures.value in
     let kept = found_kept c.args.number c.in-Some.place.now p es is sound.kept in
     let by_map = buffers_lookup c.args.number p es in
-    let table : StreamTable = record { streams = streams_in p es; marked = marks_of es; counts = counts_in p es } in
+    let table : StreamTable = record { streams = streams_in p es; counts = counts_in p es } in
     rw (← c.self.view_is) (
       λ t. read_of (ghost_name_of c.get_mut.result) (λ w. (ap (λ cs. record {
         streams = streams_in (with_value c.in-Some.place.now.key p w) es;
-        marked = marks_of es;
         counts = cs;
       }) (lent_counts c.in-Some.place.now.key p es w kept)
           ∙ ap (λ ss. record table { streams = ss })

@@ -4,9 +4,7 @@ use Rattle.wf_stream.proofs.Handed.{handed_sound, handed_seen}
 use Rattle.wf_stream.proofs.streams.Streams.hand_over.Goals as goal
 
 pub invariant_of-self : goal.invariant_of-self
-invariant_of-self c =
-    let some = rw (← c.self.view_is) at c.requires in
-    handed_sound c.self.inside _ c.self.invariant c.args.number _ refl c.set_handle.ensures some
+invariant_of-self c = handed_sound c.self.inside _ c.self.invariant c.args.number _ refl c.set_handle.ensures
 
 pub returns : goal.returns
 returns c =

@@ -1,41 +1,33 @@
-use Rattle.std.proofs.Common.{◌≡◌, ℕ, ◌-◌, ◌≤◌, [], ◌∷◌, ◌++◌, None, false, refl, ap, ◌∙◌, arith}
-use Rattle.wf_life.specs.Pool.{IsKept, kept_at, count_at, count_of}
+use Rattle.std.proofs.Common.{◌≡◌, ℕ, ◌-◌, ◌≤◌, [], ◌∷◌, ◌++◌, None, refl, ap, ◌∙◌, arith}
+use Rattle.wf_life.specs.Pool.{IsKept, kept_at, count_of}
 use Rattle.wf_stream.specs.declared.streams.Place.{Place}
-use Rattle.wf_stream.specs.StreamTable.{counts_in, marks_of}
-use Rattle.wf_stream.proofs.Marks.{marks_push, marks_above}
+use Rattle.wf_stream.specs.StreamTable.{counts_in}
 use Rattle.wf_stream.proofs.StreamTables.{table_push, table_same, agree_twice, insert_last, none_free}
-use Rattle.wf_stream.proofs.Lifetimes.{counted_same, counted_push, other_push, other_same, let_go, first_twice, twice_least}
+use Rattle.wf_stream.proofs.Lifetimes.{counted_same, counted_push, other_push, other_same, let_go}
 use Rattle.wf_stream.proofs.Counted.{counts_push, counts_same, without_above}
 use Rattle.wf_stream.proofs.streams.Streams.push.Goals as goal
 
-pub retain-requires : goal.retain-requires
-retain-requires c =
-    let new : IsKept c.in-Ok.key _ = rw c.in-Ok.ensures.kept.changed refl in
-    let one = ap count_of c.in-Ok.ensures.kept.changed in
-    record { kept = new; room = omega (arith, one) }
-
-pub invariant_of-self-2 : goal.invariant_of-self-2
-invariant_of-self-2 c =
+pub invariant_of-self-in-Ok-insert : goal.invariant_of-self-in-Ok-insert
+invariant_of-self-in-Ok-insert c =
     let above = rw (← c.self.view_is) at c.requires.above in
     let fits : c.args.number ≤ 4294967295 = omega (arith, c.ranges.number.fits) in
     let p = c.self.inside.pool in
     let es = c.self.inside.places.entries in
-    let e : ℕ × Place = (c.args.number, record { key = c.in-Ok.key; handle = c.args.handle; marked = false }) in
-    let twice = first_twice c.in-Ok.key _ _ _ c.in-Ok.ensures.kept.changed c.retain.ensures.retained in
-    let new : IsKept c.in-Ok.key _ = rw twice refl in
-    let agree = agree_twice c.in-Ok.key p _ _ _ c.in-Ok.ensures.kept.others c.retain.ensures.retained in
+    let e : ℕ × Place = (c.args.number, record { key = c.in-Ok.key; handle = c.args.handle }) in
+    let new : IsKept c.in-Ok.key _ = rw c.in-Ok.ensures.kept.changed refl in
+    let agree = c.in-Ok.ensures.kept.others in
     let all = table_push _ e.1 p _ es c.insert.new.self.entries
     c.requires.counted above fits c.self.invariant.kept c.self.invariant.apart c.in-Ok.ensures.free agree new
     c.in-Ok-insert.ensures.entries in
     let last : c.insert.new.self.entries ≡ es ++ e ∷ [] = c.in-Ok-insert.ensures.entries
     ∙ insert_last 0 (c.args.number - 1) c.args.number e.1 p es above (omega (arith, c.requires.counted)) in
     let none = none_free c.in-Ok.key p es c.in-Ok.ensures.free c.self.invariant.kept in
-    let two : count_at c.in-Ok.key c.retain.new.self ≡ 2 = ap count_of twice in
+    let one = ap count_of c.in-Ok.ensures.kept.changed in
     record {
       rising = all.1;
       kept = all.2;
       apart = all.3;
-      counted = rw last (counted_push _ es e (counted_same c.in-Ok.key p _ es agree none c.self.invariant.counted) (twice_least e.1 _ two));
+      counted = rw last (counted_push _ es e (counted_same c.in-Ok.key p _ es agree none c.self.invariant.counted) (omega (arith, one)));
       no_other = rw last (other_push p _ es e agree c.self.invariant.no_other);
     }
 
@@ -45,19 +37,17 @@ returns-clause-pushed c =
     let fits : c.args.number ≤ 4294967295 = omega (arith, c.ranges.number.fits) in
     let p = c.self.inside.pool in
     let es = c.self.inside.places.entries in
-    let e : ℕ × Place = (c.args.number, record { key = c.in-Ok.key; handle = c.args.handle; marked = false }) in
-    let twice = first_twice c.in-Ok.key _ _ _ c.in-Ok.ensures.kept.changed c.retain.ensures.retained in
-    let new : IsKept c.in-Ok.key _ = rw twice refl in
-    let agree = agree_twice c.in-Ok.key p _ _ _ c.in-Ok.ensures.kept.others c.retain.ensures.retained in
+    let e : ℕ × Place = (c.args.number, record { key = c.in-Ok.key; handle = c.args.handle }) in
+    let new : IsKept c.in-Ok.key _ = rw c.in-Ok.ensures.kept.changed refl in
+    let agree = c.in-Ok.ensures.kept.others in
     let all = table_push _ e.1 p _ es c.insert.new.self.entries
     c.requires.counted above fits c.self.invariant.kept c.self.invariant.apart c.in-Ok.ensures.free agree new
     c.in-Ok-insert.ensures.entries in
     let last : c.insert.new.self.entries ≡ es ++ e ∷ [] = c.in-Ok-insert.ensures.entries
     ∙ insert_last 0 (c.args.number - 1) c.args.number e.1 p es above (omega (arith, c.requires.counted)) in
     let none = none_free c.in-Ok.key p es c.in-Ok.ensures.free c.self.invariant.kept in
-    let marks = ap marks_of last ∙ marks_push es e refl in
     let counts = ap (counts_in _) last ∙ counts_push c.in-Ok.key p _ es e agree none in
-    rw (← c.self.view_is, all.0, marks, counts, twice) refl
+    rw (← c.self.view_is, all.0, counts, c.in-Ok.ensures.kept.changed) refl
 
 pub invariant_of-self-in_default-insert : goal.invariant_of-self-in_default-insert
 invariant_of-self-in_default-insert c =
@@ -89,12 +79,6 @@ returns-in_default-insert-clause-refused c =
     let none = none_free c.in-Ok.key p es c.in-Ok.ensures.free c.self.invariant.kept in
     let counts = counts_same c.in-Ok.key p _ es agree none in
     rw (← c.self.view_is, c.in_default-insert.ensures.err, all.0, counts) refl
-
-pub returns-clause-unmarked : goal.returns-clause-unmarked
-returns-clause-unmarked c =
-    let above = rw (← c.self.view_is) at c.requires.above in
-    rw (← c.self.view_is) (marks_above 0 (c.args.number - 1) _ c.self.inside.pool c.self.inside.places.entries above
-    (omega (arith, c.requires.counted)))
 
 pub returns-clause-uncounted : goal.returns-clause-uncounted
 returns-clause-uncounted c =

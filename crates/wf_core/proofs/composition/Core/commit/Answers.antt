@@ -1,0 +1,4 @@
+use Rattle.wf_core.proofs.composition.Core.commit.Goals as goal
+
+pub returns : goal.returns
+returns c = rw (← c.self.view_is) (c.reply.ensures.steps _ _ _ c.try_commit-done.ensures)

@@ -1,0 +1,4 @@
+use Rattle.wf_core.proofs.composition.Core.mask_destroy.Goals as goal
+
+pub returns : goal.returns
+returns c = rw (← c.self.view_is) (c.reply.ensures.steps _ _ _ c.try_link_destroy-done.ensures)
