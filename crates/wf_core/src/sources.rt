@@ -1,6 +1,7 @@
 //! Sources and masks.
 
-ghost use Rattle.std.specs.Prelude.{◌≡◌, IfOk, IsSomeAnd};
+ghost use Rattle.std.specs.Prelude.{◌≡◌, ◌==◌, IfOk, IsSomeAnd, IsTrue, OnOk};
+ghost use Rattle.std.specs.List.{list_any};
 ghost use Rattle.wf_pixel.specs.Choice.{is_a8};
 ghost use Rattle.wf_stream.specs.Streams.{buffers_at};
 ghost use Rattle.wf_stream.specs.Names.{HasRoom, NamesFit};
@@ -42,6 +43,7 @@ pub(crate) fn linked_stream(
 ) -> Result<u32, Refusal>
     requires { Fits objects.now store.now }
     ensures asks { Asks (link_new mask device context stream) (link_made mask context) (core_side_of objects.now store.now) result }
+    ensures live { OnOk result (IsTrue (list_any (λ c. c.handle == context) objects.now.contexts)) }
     ensures kept { IfOk result (λ n. IsSomeAnd (buffers_at n store.now.streams) (λ b. is_a8 b.format ≡ mask)) }
 {
     objects.context_place(store, device, context)?;

@@ -9,4 +9,5 @@ pub mod Makings
 pub mod Keeping
 pub mod Dropped
 pub mod Remainders
+pub mod Members
 pub mod Tracking

@@ -1,75 +1,33 @@
 -- A context or a device that loses what is its, one object after another.
-use Rattle.std.proofs.Common.{◌≡◌, ℕ, ◌<◌, Bool, true, false, cond, not, ◌==◌, ◌&&◌, ◌||◌, List, [], ◌∷◌, length, filter, find, option_map}
+use Rattle.std.proofs.Common.{◌≡◌, ℕ, ◌<◌, Bool, true, false, cond, not, ◌==◌, ◌&&◌, ◌||◌, List, [], ◌∷◌, ◌+◌, length, filter, find, option_map}
 use Rattle.std.proofs.Common.{Option, Some, None, is_some, refl, sym, ap, ◌∙◌, map, set, slice_get, IfSome, arith, length-set}
 use Rattle.std.specs.List.{list_any}
 use Rattle.wf_stream.specs.Streams.{StoreView}
 use Rattle.wf_model.specs.Objects.{Context, CoreState, Source}
 use Rattle.wf_model.specs.Composition.{change_context, is_of_device, with_cached}
 use Rattle.wf_model.specs.Core.{without_source, without_those_of, without_context}
+use Rattle.wf_life.specs.declared.Kind.TheVariants as kind
 use Rattle.wf_life.specs.Handles.{key_of}
 use Rattle.wf_life.specs.Living.{keyed}
-use Rattle.wf_objects.specs.Fits.{Fits, HandlesFit, HasElements, element_live, elements_of}
+use Rattle.wf_objects.specs.Fits.{Fits, HandlesFit, HasElements, element_live, elements_of, mask_live}
 use Rattle.wf_objects.specs.Links.{link_kind, link_live, links, with_links}
 use Rattle.wf_objects.proofs.Fitting.{links_live}
-use Rattle.wf_objects.specs.Losses.{but_context, but_contexts_of}
+use Rattle.wf_objects.specs.Losses.{but_context, but_contexts_of, but_links}
 use Rattle.wf_words.specs.Filtered.{none_out, shorter, all_kept, any_left, filter_twice}
-use Rattle.wf_words.specs.Rising.{one_fewer, Rises, found_above, left_of}
-use Rattle.wf_words.specs.Found.{any_by, any_found, passes, some_at}
+use Rattle.wf_words.specs.Rising.{Rises, found_above, left_of}
+use Rattle.wf_words.specs.Found.{any_by, any_found, none_at, passes, some_at}
 use Rattle.wf_words.specs.Keyed.{change_left}
 use Rattle.wf_words.specs.Places.{get_set, within}
 use Rattle.wf_words.specs.Each.{each_at}
 use Rattle.wf_objects.proofs.Lookups.{rises_kind, rises_contexts}
-use Rattle.std.proofs.lemmas.Bool.{and_from, and_parts, eq-eqb, eqb-true}
+use Rattle.std.proofs.lemmas.Bool.{and_from, and_parts, eq-eqb, eqb-true, false_from_ne_true}
 use Rattle.std.proofs.lemmas.Bool.Decides.{nat_tests}
 use Rattle.wf_scene.specs.declared.element.Element.{Element}
 use Rattle.wf_scene.specs.Cached as cached
 use Rattle.wf_scene.specs.Cached.{handle_of, handles}
-use Rattle.wf_objects.proofs.Dropped.{and_false, and_true}
+use Rattle.wf_objects.proofs.Dropped.{and_false, and_true, link_under}
+use Rattle.wf_objects.proofs.Members.{any_out}
 use Rattle.wf_objects.proofs.Scenes.{placed_is}
-
--- the handle of the first source or mask of a context
-abbrev pub first_of : ℕ → List Source → Option ℕ
-first_of context sources = option_map (λ s. s.handle) (find (λ s. s.context == context) sources)
-
--- it is that of a source
-pub record IsFirst (context handle : ℕ) (sources : List Source) : Type 0 where
-  pub source : Source
-  pub found : find (λ s. s.context == context) sources ≡ Some source
-  pub handle_is : source.handle ≡ handle
-
-pub first_is : (context handle : ℕ) (sources : List Source) → Some handle ≡ first_of context sources → IsFirst context handle sources
-first_is context handle sources is = of_found (find (λ s. s.context == context) sources) refl is
-  where
-    of_found : (o : Option Source) → find (λ s. s.context == context) sources ≡ o
-        → Some handle ≡ option_map (λ s. s.handle) o → IsFirst context handle sources
-    of_found None at told = absurd cc
-    of_found (Some s) at told = record { source = s; found = at; handle_is = cc }
-
-pub none_is : (context : ℕ) (sources : List Source) → None ≡ first_of context sources → without_those_of context sources ≡ sources
-none_is context sources is = none_out (λ s. s.context == context) sources
-    (of_found (find (λ s. s.context == context) sources) is)
-  where
-    of_found : (o : Option Source) → None ≡ option_map (λ s. s.handle) o → o ≡ None
-    of_found None told = refl
-    of_found (Some s) told = absurd cc
-
-module _ (context handle : ℕ) (sources : List Source) (rises : Rises (λ s. s.handle) 0 sources)
-    (first : IsFirst context handle sources) where
-  -- it is found by its handle
-  by_handle : find (λ s. s.handle == handle) sources ≡ Some first.source
-  by_handle = ap (λ n. find (λ s. s.handle == n) sources) (sym first.handle_is)
-      ∙ (found_above (λ s. s.handle) (λ s. s.context == context) 0 sources first.source rises first.found).1
-
-  pub first_lives : list_any (λ s. s.handle == handle) sources ≡ true
-  first_lives = any_found (λ s. s.handle == handle) sources ∙ ap is_some by_handle
-
-  pub first_leaves : without_those_of context (without_source handle sources) ≡ without_those_of context sources
-  first_leaves =
-      ap (λ n. without_those_of context (without_source n sources)) (sym first.handle_is)
-      ∙ one_fewer (λ s. s.handle) (λ s. s.context == context) sources first.source rises first.found
-
-  pub fewer : length (without_source handle sources) < length sources
-  fewer = shorter (λ s. s.handle == handle) sources first.source by_handle
 
 pub rises_links : (core : CoreState) (store : StoreView) → HandlesFit core store → (mask : Bool)
     → Rises (λ s. s.handle) 0 (links mask core)
@@ -93,20 +51,98 @@ linked_at core store fits h mask live =
           ∙ ap (option_map (λ x. x.stream)) s.1;
     }
 
--- the links of a kind, replaced
+-- no link of one kind has the handle of one of the other kind
 
-pub links_with : (mask : Bool) (xs : List Source) (core : CoreState) → links mask (with_links mask xs core) ≡ xs
-links_with false xs core = refl
-links_with true xs core = refl
+module _ (core : CoreState) (store : StoreView) (fits : Fits core store) (h : ℕ) where
+  pub apart : (mask : Bool) → list_any (λ s. s.handle == h) (links mask core) ≡ true
+      → list_any (λ s. s.handle == h) (links (not mask) core) ≡ false
+  apart mask live =
+      false_from_ne_true (list_any (λ s. s.handle == h) (links (not mask) core)) (λ there.
+      (let here = link_under core store fits h mask live in
+      let other = link_under core store fits h (not mask) there in
+      let same : here.object ≡ other.object = let both = sym here.found ∙ other.found in cc in
+      differ mask (sym here.kind_is ∙ ap (λ l. l.kind) same ∙ other.kind_is)))
+    where
+      differ : (b : Bool) → link_kind b ≡ link_kind (not b) → ⊥
+      differ false is = absurd cc
+      differ true is = absurd cc
 
-pub with_twice : (mask : Bool) (xs ys : List Source) (core : CoreState)
-    → with_links mask ys (with_links mask xs core) ≡ with_links mask ys core
-with_twice false xs ys core = refl
-with_twice true xs ys core = refl
+  -- whether a handle is a mask's is told by the store
+  pub kind_alone : (mask : Bool) → mask ≡ is_some (key_of h kind.Mask store.others)
+      → list_any (λ s. s.handle == h) (links (not mask) core) ≡ false
+  kind_alone = by_kind
+    where
+      some_key : (o : Option Source) → is_some o ≡ is_some (option_map (λ s. s.stream) o)
+      some_key None = refl
+      some_key (Some s) = refl
 
-pub with_own : (mask : Bool) (core : CoreState) → with_links mask (links mask core) core ≡ core
-with_own false core = refl
-with_own true core = refl
+      masks_live : list_any (λ s. s.handle == h) core.masks ≡ is_some (key_of h kind.Mask store.others)
+      masks_live =
+          any_found (λ s. s.handle == h) core.masks ∙ some_key (find (λ s. s.handle == h) core.masks)
+          ∙ sym (ap is_some (keyed kind.Mask mask_live h core.masks store.others fits.handles.masks))
+
+      by_kind : (b : Bool) → b ≡ is_some (key_of h kind.Mask store.others) → list_any (λ s. s.handle == h) (links (not b) core) ≡ false
+      by_kind false is = masks_live ∙ sym is
+      by_kind true is = apart true (masks_live ∙ sym is)
+
+-- a link of one kind with a handle that is one of a context
+pub record IsLinkOf (c h : ℕ) (sources : List Source) : Type 0 where
+  pub source : Source
+  pub found : find (λ s. s.handle == h) sources ≡ Some source
+  pub owned : (source.context == c) ≡ true
+
+pub link_of : (core : CoreState) (store : StoreView) → HandlesFit core store → (mask : Bool) (c h : ℕ)
+    → list_any (λ s. (s.handle == h) && (s.context == c)) (links mask core) ≡ true → IsLinkOf c h (links mask core)
+link_of core store fits mask c h there =
+    let s = some_at (λ x. (x.handle == h) && (x.context == c)) (links mask core) there in
+    let parts = and_parts (s.0.handle == h) (s.0.context == c) (passes (λ x. (x.handle == h) && (x.context == c)) (links mask core) s.0 s.1) in
+    record {
+      source = s.0;
+      found = ap (λ n. find (λ x. x.handle == n) (links mask core)) (sym (eqb-true s.0.handle h parts.0))
+          ∙ (found_above (λ x. x.handle) (λ x. (x.handle == h) && (x.context == c)) 0 (links mask core) s.0
+          (rises_links core store fits mask) s.1).1;
+      owned = parts.1;
+    }
+
+-- it leaves
+
+pub link_leaves : (c h : ℕ) (xs : List Source) → Rises (λ s. s.handle) 0 xs → IsLinkOf c h xs
+    → without_those_of c (without_source h xs) ≡ without_those_of c xs
+link_leaves c h xs rises x = left_of (λ s. s.handle) (λ s. not (s.context == c)) h 0 xs x.source rises x.found (ap not x.owned)
+
+pub one_link_fewer : (mask : Bool) (c : ℕ) (left : List Source) (core : CoreState)
+    → without_those_of c left ≡ without_those_of c (links mask core) → but_links c (with_links mask left core) ≡ but_links c core
+one_link_fewer false c left core is = ap (λ ss. record core { sources = ss; masks = without_those_of c core.masks }) is
+one_link_fewer true c left core is = ap (λ ss. record core { sources = without_those_of c core.sources; masks = ss }) is
+
+-- how many sources and masks there are
+abbrev pub link_count : CoreState → ℕ
+link_count core = length core.sources + length core.masks
+
+pub fewer_links : (mask : Bool) (c h : ℕ) (core : CoreState) → IsLinkOf c h (links mask core)
+    → link_count (with_links mask (without_source h (links mask core)) core) < link_count core
+fewer_links false c h core x = (let less = shorter (λ s. s.handle == h) core.sources x.source x.found in omega (arith, less))
+fewer_links true c h core x = (let less = shorter (λ s. s.handle == h) core.masks x.source x.found in omega (arith, less))
+
+-- a context without sources and masks
+
+pub no_links : (c : ℕ) (core : CoreState) → ((mask : Bool) → list_any (λ s. s.context == c) (links mask core) ≡ false)
+    → but_links c core ≡ core
+no_links c core none =
+    let of : List Source → List Source → CoreState = λ ss ms. record core { sources = ss; masks = ms } in
+    ap (λ ss. of ss (without_those_of c core.masks))
+    (none_out (λ s. s.context == c) core.sources (none_at (λ s. s.context == c) core.sources (none false)))
+    ∙ ap (of core.sources) (none_out (λ s. s.context == c) core.masks (none_at (λ s. s.context == c) core.masks (none true)))
+
+pub unlinked : (c : ℕ) (core : CoreState) (mask : Bool) → list_any (λ s. s.context == c) (links mask (but_links c core)) ≡ false
+unlinked c core false = any_out (λ s. s.context == c) (λ s. s.context == c) (λ s out. out) core.sources
+unlinked c core true = any_out (λ s. s.context == c) (λ s. s.context == c) (λ s out. out) core.masks
+
+-- they stay while the context changes
+pub links_stay : (h : ℕ) (new old : CoreState) → but_context h new ≡ but_context h old → (mask : Bool)
+    → links mask new ≡ links mask old
+links_stay h new old is false = ap (λ k. k.sources) is
+links_stay h new old is true = ap (λ k. k.masks) is
 
 -- elements
 

@@ -1,100 +1,39 @@
--- The members beside the tables: what they tell of devices and contexts, and that they still do after a change.
-use Rattle.std.proofs.Common.{◌≡◌, ℕ, ◌+◌, ◌<◌, Bool, true, false, not, cond, ◌&&◌, ◌||◌, ◌==◌, List, [], ◌∷◌, ◌++◌, length, map, filter}
-use Rattle.std.proofs.Common.{find, is_some, set, slice_get, Option, Some, None, refl, sym, ap, subst, ◌∙◌, if◌then◌else◌, arith}
+-- The members beside the tables: what they tell of devices, contexts, sources and masks, and that they still do after a change.
+use Rattle.std.proofs.Common.{◌≡◌, ℕ, ◌+◌, ◌<◌, Bool, true, false, not, ◌&&◌, ◌||◌, ◌==◌, List, [], ◌∷◌, ◌++◌, length, map, filter}
+use Rattle.std.proofs.Common.{is_some, set, slice_get, Option, Some, None, refl, sym, ap, subst, ◌∙◌, arith, append_assoc}
 use Rattle.std.specs.List.{list_any}
 use Rattle.std.specs.Vec.{with_item}
-use Rattle.std.proofs.Math.Bool.{or-false, or-true}
-use Rattle.std.proofs.lemmas.Bool.{and_from, and_parts, both_ways, eq-eqb, eqb-true, false_from_ne_true, ne_eqb}
-use Rattle.std.proofs.lemmas.List.{length_push}
+use Rattle.std.proofs.Math.Bool.{or-false}
+use Rattle.std.proofs.lemmas.Bool.{both_ways, false_from_ne_true}
+use Rattle.std.proofs.lemmas.List.{length-append, length-map, length_push, map-append}
 use Rattle.std.proofs.lemmas.List.Folds.{list_any-append}
-use Rattle.wf_words.specs.Filtered.{any_left}
-use Rattle.wf_words.specs.Found.{any_by, any_first, any_found, any_mapped, find_filtered, none_at, passes, some_at}
+use Rattle.wf_words.specs.Each.{each_at, each_set}
+use Rattle.wf_words.specs.Filtered.{filter_mapped}
+use Rattle.wf_words.specs.Found.{any_first, any_found, any_mapped, find_filtered, or_true}
 use Rattle.wf_words.specs.Keyed.{change, is_in, map_change}
-use Rattle.wf_words.specs.Once.{by_number, is_in-without, without_itself}
-use Rattle.wf_words.specs.Places.{length_map, map_set}
-use Rattle.wf_words.specs.Rising.{Rises, all_stay, none_over}
+use Rattle.wf_words.specs.Places.{map_set}
+use Rattle.wf_words.specs.Rising.{Rises, none_over}
 use Rattle.wf_life.specs.declared.Kind.{Kind}
 use Rattle.wf_life.specs.declared.Kind.TheVariants as kind
 use Rattle.wf_life.specs.Handles.{IsRising, Live, same_kind}
 use Rattle.wf_life.specs.Living.{of_kind}
-use Rattle.wf_links.specs.Lists.{lowest, without}
+use Rattle.wf_links.specs.Lists.{lowest}
 use Rattle.wf_members.specs.Membership.{Membership, is_open, member_count, members_of, most_members, most_owners, open_count}
 use Rattle.wf_members.specs.Calls.{Adds, Closes, HasNone, Opens, Removes}
 use Rattle.wf_stream.specs.Streams.{StoreView}
 use Rattle.wf_calls.specs.declared.code.Code.{Code}
-use Rattle.wf_model.specs.Objects.{Context, CoreState, Device}
+use Rattle.wf_model.specs.Core.{without_source}
+use Rattle.wf_model.specs.Objects.{Context, CoreState, Device, Source, no_objects}
 use Rattle.wf_objects.specs.declared.objects.Objects.TheInside.{Inside}
 use Rattle.wf_objects.specs.Fits.{HandlesFit, context_live, device_live}
 use Rattle.wf_objects.specs.Inside.{HasFewLayers, IsKept, tables_of}
-use Rattle.wf_words.specs.Each.{each_at, each_set}
-use Rattle.wf_objects.specs.Tracks.{Tracks}
+use Rattle.wf_objects.specs.Links.{link_kind, link_live, links, with_links}
+use Rattle.wf_objects.specs.Losses.{but_context}
+use Rattle.wf_objects.specs.Tracks.{AreTracked, Tracks, context_handles, context_key, device_handles, link_key, link_keys}
+use Rattle.wf_objects.proofs.Fitting.{links_live}
 use Rattle.wf_objects.proofs.Lookups.{rises_kind}
-
--- what of a device and of a context the members tell
-
-abbrev device_key : Device → ℕ
-device_key x = x.handle
-
-abbrev context_key : Context → ℕ × ℕ
-context_key c = (c.handle, c.device)
-
--- lists
-
-any_more : {A : Type 0} (p : A → Bool) (xs : List A) (y : A) → list_any p (xs ++ y ∷ []) ≡ (p y || list_any p xs)
-any_more p xs y =
-    list_any-append p xs (y ∷ [])
-    ∙ elim (p y) as (λ b. (list_any p xs || (b || false)) ≡ (b || list_any p xs)) [
-      | true ↦ or-true (list_any p xs)
-      | false ↦ or-false (list_any p xs)
-    ]
-
--- what is left out is not there
-pub any_out : {A : Type 0} (p q : A → Bool) → ((x : A) → q x ≡ true → p x ≡ true) → (xs : List A)
-    → list_any q (filter (λ x. not (p x)) xs) ≡ false
-any_out p q out [] = refl
-any_out p q out (x ∷ xs) = by_test (p x) refl (any_out p q out xs)
-  where
-    by_test : (b : Bool) → p x ≡ b → list_any q (filter (λ y. not (p y)) xs) ≡ false
-        → list_any q (cond (not b) (x ∷ filter (λ y. not (p y)) xs) (filter (λ y. not (p y)) xs)) ≡ false
-    by_test true is later = later
-    by_test false is later =
-        let fails : q x ≡ false = false_from_ne_true (q x) (λ there. both_ways (p x) is (out x there)) in
-        rw fails later
-
-same_way : (a b : ℕ) → (a == b) ≡ (b == a)
-same_way a b =
-    by_number ((a == b) ≡ (b == a)) a b
-    (λ is same. is ∙ sym (eq-eqb b a (sym same)))
-    (λ other. other ∙ sym (ne_eqb b a (λ same. both_ways (a == b) other (eq-eqb a b (sym same)))))
-
--- of the elements with a number that passes a test, those that are left
-any_but : {A : Type 0} (f : A → ℕ) (q : A → Bool) (n m : ℕ) (xs : List A)
-    → list_any (λ x. (f x == n) && q x) (filter (λ x. not (f x == m)) xs) ≡ (not (n == m) && list_any (λ x. (f x == n) && q x) xs)
-any_but f q n m xs =
-    by_number (list_any (λ x. (f x == n) && q x) (filter (λ x. not (f x == m)) xs)
-    ≡ (not (n == m) && list_any (λ x. (f x == n) && q x) xs)) n m
-    (λ is same. rw (is, ← same) (any_out (λ x. f x == n) (λ x. (f x == n) && q x) (λ x there. (and_parts (f x == n) (q x) there).0) xs))
-    (λ other. rw other (any_left (λ x. (f x == n) && q x) (λ x. f x == m) (λ x is.
-    (let apart : (f x == n) ≡ false = ne_eqb (f x) n (λ same. both_ways (n == m) other
-    (eq-eqb n m (sym same ∙ eqb-true (f x) m is))) in ap (λ b. b && q x) apart)) xs))
-
--- one that leaves is one less
-one_less : {A : Type 0} (f : A → ℕ) (n low : ℕ) (xs : List A) → Rises f low xs → list_any (λ x. f x == n) xs ≡ true
-    → length (filter (λ x. not (f x == n)) xs) + 1 ≡ length xs
-one_less f n low [] rises there = absurd cc
-one_less f n low (x ∷ xs) rises there =
-    by_number (length (filter (λ y. not (f y == n)) (x ∷ xs)) + 1 ≡ length (x ∷ xs)) (f x) n
-    (λ is same. (let all : length (filter (λ y. not (f y == n)) xs) ≡ length xs =
-    ap length (all_stay f n (f x) xs rises.1 (omega (arith, same))) in rw is (omega (arith, all))))
-    (λ other. rw other (omega (arith, one_less f n (f x) xs rises.1 (rw other at there))))
-
-nothing_in : (xs : List ℕ) → ((n : ℕ) → is_in n xs ≡ false) → xs ≡ []
-nothing_in [] none = refl
-nothing_in (x ∷ xs) none = absurd (both_ways (is_in x (x ∷ xs)) (none x) (ap (λ b. b || is_in x xs) (eq-eqb x x refl)))
-
-pub lowest_in : (n : ℕ) (xs : List ℕ) → Some n ≡ lowest xs → is_in n xs ≡ true
-lowest_in n [] is = absurd cc
-lowest_in n (x ∷ xs) is = let here : x ≡ n = cc in ap (λ b. b || is_in n xs) (eq-eqb x n here)
+use Rattle.wf_objects.proofs.Members.{any_but, any_more, any_stays, bare, nobodys, none_tracked, one_less, owned_tracked, owned_untracked}
+use Rattle.wf_objects.proofs.Members.{owner_of, owner_tracked, owner_untracked, owns, owns_nothing}
 
 -- the handle that comes next is that of no object
 
@@ -106,184 +45,398 @@ fresh k g made xs others rising is =
     ∙ ap is_some (sym (find_filtered (λ l. l.handle == made + 1) (λ l. same_kind l.kind k) others)
     ∙ none_over (λ l. l.handle) (λ l. same_kind l.kind k) 0 made (made + 1) others rising (omega arith))
 
-pub fresh_device : (core : CoreState) (store : StoreView) → HandlesFit core store
-    → list_any (λ x. x.handle == store.made + 1) core.devices ≡ false
-fresh_device core store fits = fresh kind.Device device_live store.made core.devices store.others fits.rising fits.devices
+module _ (core : CoreState) (store : StoreView) (fits : HandlesFit core store) where
+  pub fresh_device : list_any (λ x. x.handle == store.made + 1) core.devices ≡ false
+  fresh_device = fresh kind.Device device_live store.made core.devices store.others fits.rising fits.devices
 
-pub fresh_context : (core : CoreState) (store : StoreView) → HandlesFit core store → (d : ℕ)
-    → list_any (λ c. (c.handle == store.made + 1) && (c.device == d)) core.contexts ≡ false
-fresh_context core store fits d =
-    false_from_ne_true (list_any (λ c. (c.handle == store.made + 1) && (c.device == d)) core.contexts)
-    (λ there. both_ways (list_any (λ c. c.handle == store.made + 1) core.contexts)
-    (fresh kind.Context context_live store.made core.contexts store.others fits.rising fits.contexts)
-    (any_first (λ c. c.handle == store.made + 1) (λ c. c.device == d) core.contexts there))
+  pub fresh_context : list_any (λ c. c.handle == store.made + 1) core.contexts ≡ false
+  fresh_context = fresh kind.Context context_live store.made core.contexts store.others fits.rising fits.contexts
+
+  pub fresh_link : (mask : Bool) → list_any (λ s. s.handle == store.made + 1) (links mask core) ≡ false
+  fresh_link mask =
+      fresh (link_kind mask) (link_live mask) store.made (links mask core) store.others fits.rising (links_live core store fits mask)
+
+  pub rises_devices : Rises (λ x. x.handle) 0 core.devices
+  rises_devices = rises_kind kind.Device device_live core.devices store.others store.made fits.rising fits.devices
+
+-- the handles of a table rise as its rows do
+rise_mapped : {A : Type 0} (f : A → ℕ) (low : ℕ) (xs : List A) → Rises f low xs → Rises (λ n. n) low (map f xs)
+rise_mapped f low [] rises = tt
+rise_mapped f low (x ∷ xs) rises = (rises.0, rise_mapped f (f x) xs rises.1)
+
+-- a list of two parts, of which one has one more
+any_within : {A : Type 0} (p : A → Bool) (xs zs : List A) (y : A)
+    → list_any p ((xs ++ y ∷ []) ++ zs) ≡ (p y || list_any p (xs ++ zs))
+any_within p xs zs y =
+    list_any-append p (xs ++ y ∷ []) zs ∙ ap (λ b. b || list_any p zs) (any_more p xs y)
+    ∙ joined (p y) (list_any p xs) (list_any p zs) ∙ ap (λ b. p y || b) (sym (list_any-append p xs zs))
+  where
+    joined : (a b c : Bool) → ((a || b) || c) ≡ (a || (b || c))
+    joined true b c = refl
+    joined false b c = refl
+
+any_behind : {A : Type 0} (p : A → Bool) (xs zs : List A) (y : A)
+    → list_any p (xs ++ (zs ++ y ∷ [])) ≡ (p y || list_any p (xs ++ zs))
+any_behind p xs zs y = ap (list_any p) (sym (append_assoc xs zs (y ∷ []))) ∙ any_more p (xs ++ zs) y
+
+-- a test that fails in both parts
+or_less : (a b c : Bool) → ((a && b) || (a && c)) ≡ (a && (b || c))
+or_less true b c = refl
+or_less false b c = refl
 
 -- no objects
+pub nothing_tracked : (m l : Membership) → HasNone 16 8 m → HasNone 256 16 l → AreTracked m l no_objects
+nothing_tracked m l none free = record { of_devices = none_tracked m 8 16 none; of_contexts = none_tracked l 16 256 free }
 
-pub none_tracked : (m : Membership) → HasNone 16 8 m → Tracks m [] []
-none_tracked m none =
-    record {
-      opened = none.closed;
-      members_are = λ d h. ap (is_in h) (none.bare d);
-      owner_count = none.no_owners;
-      count = none.no_members;
-      limits_are = none.limits_are;
-    }
+-- a source or a mask has a handle and is one of a context
+abbrev is_link : ℕ → ℕ → Source → Bool
+is_link c h s = (s.handle == h) && (s.context == c)
 
-module _ (m : Membership) (ds : List Device) (cs : List Context) (old : Tracks m ds cs) where
+module _ (m l : Membership) (core : CoreState) (old : AreTracked m l core) where
   -- what the members tell
 
-  pub is_member : (d h : ℕ) → is_in h (members_of d m) ≡ true → list_any (λ c. (c.handle == h) && (c.device == d)) cs ≡ true
-  is_member d h there = sym (old.members_are d h) ∙ there
+  pub live_device_open : (d : ℕ) → list_any (λ x. x.handle == d) core.devices ≡ true → is_open d m ≡ true
+  live_device_open d live = old.of_devices.opened d ∙ any_mapped (λ n. n == d) (λ x. x.handle) core.devices ∙ live
 
-  -- a context that lives is somebody's
-  pub owner_of : (h : ℕ) → list_any (λ c. c.handle == h) cs ≡ true → (d : ℕ) × (is_in h (members_of d m) ≡ true)
-  owner_of h live =
-      let c = some_at (λ x. x.handle == h) cs live in (
-        c.0.device,
-        old.members_are c.0.device h ∙ any_by (λ x. x.handle == h) (λ x. (x.handle == h) && (x.device == c.0.device)) cs c.0 c.1
-            (and_from (c.0.handle == h) (c.0.device == c.0.device) (passes (λ x. x.handle == h) cs c.0 c.1)
-            (eq-eqb c.0.device c.0.device refl)),
+  pub live_context_open : (h : ℕ) → list_any (λ c. c.handle == h) core.contexts ≡ true → is_open h l ≡ true
+  live_context_open h live = old.of_contexts.opened h ∙ any_mapped (λ n. n == h) (λ c. c.handle) core.contexts ∙ live
+
+  pub no_device_open : (d : ℕ) → list_any (λ x. x.handle == d) core.devices ≡ false → is_open d m ≡ false
+  no_device_open d dead = old.of_devices.opened d ∙ any_mapped (λ n. n == d) (λ x. x.handle) core.devices ∙ dead
+
+  pub no_context_open : (h : ℕ) → list_any (λ c. c.handle == h) core.contexts ≡ false → is_open h l ≡ false
+  no_context_open h dead = old.of_contexts.opened h ∙ any_mapped (λ n. n == h) (λ c. c.handle) core.contexts ∙ dead
+
+  -- a context of a device, and a device without contexts
+
+  pub is_context_of : (d h : ℕ) → is_in h (members_of d m) ≡ true
+      → list_any (λ c. (c.handle == h) && (c.device == d)) core.contexts ≡ true
+  is_context_of d h there =
+      sym (any_mapped (λ k. (k.0 == h) && (k.1 == d)) context_key core.contexts)
+      ∙ owns (8, 16) m (device_handles core) (map context_key core.contexts) old.of_devices d h there
+
+  pub has_no_context : (d : ℕ) → None ≡ lowest (members_of d m) → list_any (λ c. c.device == d) core.contexts ≡ false
+  has_no_context d none =
+      sym (any_mapped (λ k. k.1 == d) context_key core.contexts)
+      ∙ owns_nothing (8, 16) m (device_handles core) (map context_key core.contexts) old.of_devices d none
+
+  pub bare_device : (d : ℕ) → list_any (λ c. c.device == d) core.contexts ≡ false → members_of d m ≡ []
+  bare_device d none =
+      bare (8, 16) m (device_handles core) (map context_key core.contexts) old.of_devices d
+      (any_mapped (λ k. k.1 == d) context_key core.contexts ∙ none)
+
+  pub a_device_has : (h : ℕ) → list_any (λ c. c.handle == h) core.contexts ≡ true → (d : ℕ) × (is_in h (members_of d m) ≡ true)
+  a_device_has h live =
+      owner_of (8, 16) m (device_handles core) (map context_key core.contexts) old.of_devices h
+      (any_mapped (λ k. k.0 == h) context_key core.contexts ∙ live)
+
+  pub no_device_has : (h : ℕ) → list_any (λ c. c.handle == h) core.contexts ≡ false → (d : ℕ) → is_in h (members_of d m) ≡ false
+  no_device_has h none =
+      nobodys (8, 16) m (device_handles core) (map context_key core.contexts) old.of_devices h
+      (any_mapped (λ k. k.0 == h) context_key core.contexts ∙ none)
+
+  -- a source or a mask of a context, and a context without them
+
+  any_link : (p : ℕ × ℕ → Bool) → list_any p (link_keys core)
+      ≡ (list_any (λ s. p (link_key s)) core.sources || list_any (λ s. p (link_key s)) core.masks)
+  any_link p =
+      list_any-append p (map link_key core.sources) (map link_key core.masks)
+      ∙ ap (λ b. b || list_any p (map link_key core.masks)) (any_mapped p link_key core.sources)
+      ∙ ap (λ b. list_any (λ s. p (link_key s)) core.sources || b) (any_mapped p link_key core.masks)
+
+  none_of_both : (p : ℕ × ℕ → Bool) → ((mask : Bool) → list_any (λ s. p (link_key s)) (links mask core) ≡ false)
+      → list_any p (link_keys core) ≡ false
+  none_of_both p none =
+      any_link p ∙ ap (λ b. b || list_any (λ s. p (link_key s)) core.masks) (none false) ∙ none true
+
+  -- a link of one kind is a context's where its handle is that of no link of the other kind
+  pub is_link_of : (mask : Bool) (c h : ℕ) → is_in h (members_of c l) ≡ true
+      → list_any (λ s. s.handle == h) (links (not mask) core) ≡ false
+      → list_any (λ s. (s.handle == h) && (s.context == c)) (links mask core) ≡ true
+  is_link_of mask c h there alone =
+      by_kind mask (false_from_ne_true (list_any (is_link c h) (links (not mask) core)) (λ some.
+      both_ways (list_any (λ s. s.handle == h) (links (not mask) core)) alone
+      (any_first (λ s. s.handle == h) (λ s. s.context == c) (links (not mask) core) some)))
+      (sym (any_link (λ k. (k.0 == h) && (k.1 == c)))
+      ∙ owns (16, 256) l (context_handles core) (link_keys core) old.of_contexts c h there)
+    where
+      by_kind : (b : Bool) → list_any (is_link c h) (links (not b) core) ≡ false → (list_any (is_link c h) core.sources || list_any (is_link c h) core.masks) ≡ true
+          → list_any (is_link c h) (links b core) ≡ true
+      by_kind false other both = sym (ap (λ b. list_any (is_link c h) core.sources || b) other ∙ or-false (list_any (is_link c h) core.sources)) ∙ both
+      by_kind true other both = sym (ap (λ b. b || list_any (is_link c h) core.masks) other) ∙ both
+
+  pub has_no_link : (c : ℕ) → None ≡ lowest (members_of c l) → (mask : Bool) → list_any (λ s. s.context == c) (links mask core) ≡ false
+  has_no_link c none mask =
+      by_kind mask (sym (any_link (λ k. k.1 == c)) ∙ owns_nothing (16, 256) l (context_handles core) (link_keys core) old.of_contexts c none)
+    where
+      both : (a b : Bool) → (a || b) ≡ false → (a ≡ false) × (b ≡ false)
+      both true b none = absurd cc
+      both false b none = (refl, none)
+
+      by_kind : (b : Bool) → (list_any (λ s. s.context == c) core.sources || list_any (λ s. s.context == c) core.masks) ≡ false
+          → list_any (λ s. s.context == c) (links b core) ≡ false
+      by_kind false is = (both (list_any (λ s. s.context == c) core.sources) (list_any (λ s. s.context == c) core.masks) is).0
+      by_kind true is = (both (list_any (λ s. s.context == c) core.sources) (list_any (λ s. s.context == c) core.masks) is).1
+
+  pub bare_context : (c : ℕ) → ((mask : Bool) → list_any (λ s. s.context == c) (links mask core) ≡ false) → members_of c l ≡ []
+  bare_context c none =
+      bare (16, 256) l (context_handles core) (link_keys core) old.of_contexts c (none_of_both (λ k. k.1 == c) none)
+
+  pub a_context_has : (mask : Bool) (h : ℕ) → list_any (λ s. s.handle == h) (links mask core) ≡ true
+      → (c : ℕ) × (is_in h (members_of c l) ≡ true)
+  a_context_has mask h live =
+      owner_of (16, 256) l (context_handles core) (link_keys core) old.of_contexts h (any_link (λ k. k.0 == h) ∙ by_kind mask live)
+    where
+      by_kind : (b : Bool) → list_any (λ s. s.handle == h) (links b core) ≡ true
+          → (list_any (λ s. s.handle == h) core.sources || list_any (λ s. s.handle == h) core.masks) ≡ true
+      by_kind false some = ap (λ b. b || list_any (λ s. s.handle == h) core.masks) some
+      by_kind true some = or_true (list_any (λ s. s.handle == h) core.sources) (list_any (λ s. s.handle == h) core.masks) some
+
+  pub no_context_has : (h : ℕ) → ((mask : Bool) → list_any (λ s. s.handle == h) (links mask core) ≡ false)
+      → (c : ℕ) → is_in h (members_of c l) ≡ false
+  no_context_has h none =
+      nobodys (16, 256) l (context_handles core) (link_keys core) old.of_contexts h (none_of_both (λ k. k.0 == h) none)
+
+  -- room
+
+  pub devices_room : length core.devices < 8 → open_count m < most_owners m
+  devices_room less =
+      omega (arith, less, old.of_devices.owner_count, length-map core.devices (λ x. x.handle), ap (λ (k : ℕ × ℕ). k.0) old.of_devices.limits_are)
+
+  pub contexts_room : length core.contexts < 16 → member_count m < most_members m
+  contexts_room less =
+      omega (arith, less, old.of_devices.count, length-map core.contexts context_key, ap (λ (k : ℕ × ℕ). k.1) old.of_devices.limits_are)
+
+  pub owners_room : length core.contexts < 16 → open_count l < most_owners l
+  owners_room less =
+      omega (
+        arith,
+        less,
+        old.of_contexts.owner_count,
+        length-map core.contexts (λ c. c.handle),
+        ap (λ (k : ℕ × ℕ). k.0) old.of_contexts.limits_are,
       )
 
-  -- a device without contexts has no members, and the other way round
+  link_count : length (link_keys core) ≡ length core.sources + length core.masks
+  link_count =
+      omega (
+        arith,
+        length-append (map link_key core.sources) (map link_key core.masks),
+        length-map core.sources link_key,
+        length-map core.masks link_key,
+      )
 
-  pub bare : (d : ℕ) → list_any (λ c. c.device == d) cs ≡ false → members_of d m ≡ []
-  bare d none =
-      nothing_in (members_of d m) (λ h. old.members_are d h
-      ∙ false_from_ne_true (list_any (λ c. (c.handle == h) && (c.device == d)) cs) (λ there.
-      (let c = some_at (λ x. (x.handle == h) && (x.device == d)) cs there in
-      both_ways (list_any (λ x. x.device == d) cs) none (any_by (λ x. (x.handle == h) && (x.device == d)) (λ x. x.device == d) cs c.0 c.1
-      (and_parts (c.0.handle == h) (c.0.device == d) (passes (λ x. (x.handle == h) && (x.device == d)) cs c.0 c.1)).1))))
+  pub links_room : length core.sources + length core.masks < 256 → member_count l < most_members l
+  links_room less =
+      omega (arith, less, old.of_contexts.count, link_count, ap (λ (k : ℕ × ℕ). k.1) old.of_contexts.limits_are)
 
-  pub no_context : (d : ℕ) → None ≡ lowest (members_of d m) → find (λ c. c.device == d) cs ≡ None
-  no_context d none = none_at (λ c. c.device == d) cs (false_from_ne_true (list_any (λ c. c.device == d) cs) (λ there.
-      (let c = some_at (λ x. x.device == d) cs there in
-      let named = any_by (λ x. x.device == d) (λ x. (x.handle == c.0.handle) && (x.device == d)) cs c.0 c.1
-      (and_from (c.0.handle == c.0.handle) (c.0.device == d) (eq-eqb c.0.handle c.0.handle refl)
-      (passes (λ x. x.device == d) cs c.0 c.1)) in
-      both_ways (is_in c.0.handle (members_of d m)) (ap (is_in c.0.handle) (no_lowest (members_of d m) none))
-      (old.members_are d c.0.handle ∙ named))))
-    where
-      no_lowest : (xs : List ℕ) → None ≡ lowest xs → xs ≡ []
-      no_lowest [] is = refl
-      no_lowest (x ∷ xs) is = absurd cc
+  -- changes that leave each handle with its owner
 
-  -- changes that leave each device's handle, and each context's handle and device
-
-  pub tracked_on : (es : List Device) (xs : List Context) → map device_key es ≡ map device_key ds
-      → map context_key xs ≡ map context_key cs → Tracks m es xs
-  tracked_on es xs devices contexts =
+  pub tracked_on : (new : CoreState) → device_handles new ≡ device_handles core → map context_key new.contexts ≡ map context_key core.contexts
+      → context_handles new ≡ context_handles core → link_keys new ≡ link_keys core → AreTracked m l new
+  tracked_on new devices contexts handles keys =
       record {
-        opened = λ d. old.opened d ∙ sym (any_mapped (λ h. h == d) device_key ds) ∙ ap (list_any (λ h. h == d)) (sym devices)
-            ∙ any_mapped (λ h. h == d) device_key es;
-        members_are = λ d h. (let of : ℕ × ℕ → Bool = λ k. (k.0 == h) && (k.1 == d) in
-            old.members_are d h ∙ sym (any_mapped of context_key cs) ∙ ap (list_any of) (sym contexts)
-            ∙ any_mapped of context_key xs);
-        owner_count = old.owner_count ∙ sym (length_map device_key es ds devices);
-        count = old.count ∙ sym (length_map context_key xs cs contexts);
-        limits_are = old.limits_are;
+        of_devices =
+            subst (λ ds. Tracks (8, 16) m ds (map context_key new.contexts)) (sym devices)
+            (subst (λ cs. Tracks (8, 16) m (device_handles core) cs) (sym contexts) old.of_devices);
+        of_contexts =
+            subst (λ cs. Tracks (16, 256) l cs (link_keys new)) (sym handles)
+            (subst (λ ks. Tracks (16, 256) l (context_handles core) ks) (sym keys) old.of_contexts);
       }
 
-  pub tracked_in : (i : ℕ) (x y : Context) → slice_get cs i ≡ Some x → y.handle ≡ x.handle → y.device ≡ x.device
-      → Tracks m ds (set cs i y)
-  tracked_in i x y at handle device =
-      tracked_on ds (set cs i y) refl (map_set context_key cs i x y at
+  pub context_written : (i : ℕ) (x y : Context) → slice_get core.contexts i ≡ Some x → y.handle ≡ x.handle → y.device ≡ x.device
+      → AreTracked m l (record core { contexts = set core.contexts i y })
+  context_written i x y at handle device =
+      tracked_on (record core { contexts = set core.contexts i y }) refl
+      (map_set context_key core.contexts i x y at
       (let key : ℕ → ℕ → ℕ × ℕ = λ h d. (h, d) in ap (λ h. key h y.device) handle ∙ ap (key x.handle) device))
+      (map_set (λ c. c.handle) core.contexts i x y at handle) refl
 
   pub registers_tracked : (d : ℕ) (f : Option Code → Option Code)
-      → Tracks m (change (λ x. x.handle) d (λ x. record x { register = f x.register }) ds) cs
+      → AreTracked m l (record core { devices = change (λ x. x.handle) d (λ x. record x { register = f x.register }) core.devices })
   registers_tracked d f =
-      tracked_on (change (λ x. x.handle) d (λ x. record x { register = f x.register }) ds) cs
-      (map_change (λ x. x.handle) d (λ x. record x { register = f x.register }) (λ x. x.handle) (λ x. refl) ds) refl
+      tracked_on (record core { devices = change (λ x. x.handle) d (λ x. record x { register = f x.register }) core.devices })
+      (map_change (λ x. x.handle) d (λ x. record x { register = f x.register }) (λ x. x.handle) (λ x. refl) core.devices) refl refl refl
 
-  module _ (new : Membership) where
-    -- one more device, or one less
+  -- one more device, or one less
 
-    pub device_tracked : (x : Device) → Opens x.handle m new → Tracks new (ds ++ x ∷ []) cs
-    device_tracked x opens =
-        record {
-          opened = λ d. opens.opened d ∙ ap (λ b. b || is_open d m) (same_way d x.handle)
-              ∙ ap (λ b. (x.handle == d) || b) (old.opened d) ∙ sym (any_more (λ y. y.handle == d) ds x);
-          members_are = λ d h. ap (is_in h) (opens.members d) ∙ old.members_are d h;
-          owner_count = omega (arith, opens.owner_count, old.owner_count, length_push ds x);
-          count = opens.count ∙ old.count;
-          limits_are = opens.limits_stay ∙ old.limits_are;
-        }
+  pub device_tracked : (new : Membership) (x : Device) → Opens x.handle m new
+      → AreTracked new l (record core { devices = core.devices ++ x ∷ [] })
+  device_tracked new x opens =
+      record {
+        of_devices =
+            subst (λ ds. Tracks (8, 16) new ds (map context_key core.contexts)) (sym (map-append (λ d. d.handle) core.devices (x ∷ [])))
+            (owner_tracked (8, 16) m (device_handles core) (map context_key core.contexts) old.of_devices new x.handle opens);
+        of_contexts = old.of_contexts;
+      }
 
-    pub device_untracked : (h : ℕ) → Closes h m new → Rises (λ x. x.handle) 0 ds → list_any (λ x. x.handle == h) ds ≡ true
-        → Tracks new (filter (λ x. not (x.handle == h)) ds) cs
-    device_untracked h closes rises live =
-        record {
-          opened = λ d. closes.closed d ∙ ap (λ b. not (d == h) && b) (old.opened d) ∙ sym (left d);
-          members_are = λ d n. ap (is_in n) (closes.members d) ∙ old.members_are d n;
-          owner_count = omega (arith, closes.owner_count, old.owner_count, one_less (λ x. x.handle) h 0 ds rises live);
-          count = closes.count ∙ old.count;
-          limits_are = closes.limits_stay ∙ old.limits_are;
-        }
-      where
-        left : (d : ℕ) → list_any (λ x. x.handle == d) (filter (λ x. not (x.handle == h)) ds)
-            ≡ (not (d == h) && list_any (λ x. x.handle == d) ds)
-        left d =
-            by_number (list_any (λ x. x.handle == d) (filter (λ x. not (x.handle == h)) ds)
-            ≡ (not (d == h) && list_any (λ x. x.handle == d) ds)) d h
-            (λ is same. rw (is, ← same) (any_out (λ x. x.handle == d) (λ x. x.handle == d) (λ x there. there) ds))
-            (λ other. rw other (any_left (λ x. x.handle == d) (λ x. x.handle == h) (λ x is.
-            ne_eqb x.handle d (λ same. both_ways (d == h) other (eq-eqb d h (sym same ∙ eqb-true x.handle h is)))) ds))
+  pub device_untracked : (new : Membership) (h : ℕ) → Closes h m new → Rises (λ x. x.handle) 0 core.devices
+      → list_any (λ x. x.handle == h) core.devices ≡ true
+      → AreTracked new l (record core { devices = filter (λ x. not (x.handle == h)) core.devices })
+  device_untracked new h closes rises live =
+      record {
+        of_devices =
+            subst (λ ds. Tracks (8, 16) new ds (map context_key core.contexts))
+            (filter_mapped (λ n. not (n == h)) (λ x. x.handle) core.devices)
+            (owner_untracked (8, 16) m (device_handles core) (map context_key core.contexts) old.of_devices new h closes
+            (rise_mapped (λ x. x.handle) 0 core.devices rises) (any_mapped (λ n. n == h) (λ x. x.handle) core.devices ∙ live));
+        of_contexts = old.of_contexts;
+      }
 
-    -- one more context, or one less
+  -- one more context, or one less
 
-    pub context_tracked : (c : Context) → Adds c.device c.handle m new → Tracks new ds (cs ++ c ∷ [])
-    context_tracked c adds =
-        record {
-          opened = λ d. adds.opened d ∙ old.opened d;
-          members_are = λ d h. ap (is_in h) (adds.members d) ∙ more d h (d == c.device) refl
-              ∙ sym (any_more (λ x. (x.handle == h) && (x.device == d)) cs c);
-          owner_count = adds.owner_count ∙ old.owner_count;
-          count = omega (arith, adds.count, old.count, length_push cs c);
-          limits_are = adds.limits_stay ∙ old.limits_are;
-        }
-      where
-        more : (d h : ℕ) (b : Bool) → (d == c.device) ≡ b → is_in h (if b then c.handle ∷ members_of d m else members_of d m)
-            ≡ (((c.handle == h) && (c.device == d)) || list_any (λ x. (x.handle == h) && (x.device == d)) cs)
-        more d h true is =
-            let own : (c.device == d) ≡ true = same_way c.device d ∙ is in
-            rw own (ap (λ b. (c.handle == h) || b) (old.members_are d h)
-            ∙ elim (c.handle == h) as (λ b. (b || list_any (λ x. (x.handle == h) && (x.device == d)) cs)
-            ≡ ((b && true) || list_any (λ x. (x.handle == h) && (x.device == d)) cs)) [ true ↦ refl | false ↦ refl ])
-        more d h false is =
-            let other : (c.device == d) ≡ false = same_way c.device d ∙ is in
-            rw other (old.members_are d h
-            ∙ elim (c.handle == h) as (λ b. list_any (λ x. (x.handle == h) && (x.device == d)) cs
-            ≡ ((b && false) || list_any (λ x. (x.handle == h) && (x.device == d)) cs)) [ true ↦ refl | false ↦ refl ])
+  pub context_tracked : (new free : Membership) (c : Context) → Adds c.device c.handle m new → Opens c.handle l free
+      → AreTracked new free (record core { contexts = core.contexts ++ c ∷ [] })
+  context_tracked new free c adds opens =
+      record {
+        of_devices = owned_tracked (8, 16) m (device_handles core) (map context_key core.contexts) old.of_devices new c.device c.handle
+            (map context_key (core.contexts ++ c ∷ [])) adds
+            (λ p. ap (list_any p) more ∙ any_more p (map context_key core.contexts) (context_key c))
+            (ap length more ∙ length_push (map context_key core.contexts) (context_key c));
+        of_contexts =
+            subst (λ cs. Tracks (16, 256) free cs (link_keys core)) (sym (map-append (λ x. x.handle) core.contexts (c ∷ [])))
+            (owner_tracked (16, 256) l (context_handles core) (link_keys core) old.of_contexts free c.handle opens);
+      }
+    where
+      more : map context_key (core.contexts ++ c ∷ []) ≡ map context_key core.contexts ++ context_key c ∷ []
+      more = map-append context_key core.contexts (c ∷ [])
 
-    pub context_untracked : (h : ℕ) → Removes h m new → Rises (λ c. c.handle) 0 cs → list_any (λ c. c.handle == h) cs ≡ true
-        → Tracks new ds (filter (λ c. not (c.handle == h)) cs)
-    context_untracked h removes rises live =
-        record {
-          opened = λ d. removes.opened d ∙ old.opened d;
-          members_are = λ d n. ap (is_in n) (removes.members d) ∙ less n (members_of d m)
-              ∙ ap (λ b. not (n == h) && b) (old.members_are d n)
-              ∙ sym (any_but (λ c. c.handle) (λ c. c.device == d) n h cs);
-          owner_count = removes.owner_count ∙ old.owner_count;
-          count = omega (arith, removes.count, old.count, one_less (λ c. c.handle) h 0 cs rises live);
-          limits_are = removes.limits_stay ∙ old.limits_are;
-        }
-      where
-        less : (n : ℕ) (xs : List ℕ) → is_in n (without h xs) ≡ (not (n == h) && is_in n xs)
-        less n xs =
-            by_number (is_in n (without h xs) ≡ (not (n == h) && is_in n xs)) n h
-            (λ is same. rw (is, same) (without_itself h xs))
-            (λ other. rw other (is_in-without n h xs (same_way h n ∙ other)))
+  pub context_untracked : (new free : Membership) (h : ℕ) → Removes h m new → Closes h l free → Rises (λ c. c.handle) 0 core.contexts
+      → list_any (λ c. c.handle == h) core.contexts ≡ true → AreTracked new free (but_context h core)
+  context_untracked new free h removes closes rises live =
+      record {
+        of_devices = owned_untracked (8, 16) m (device_handles core) (map context_key core.contexts) old.of_devices new h
+            (map context_key (but_context h core).contexts) removes
+            (λ d n. any_mapped (λ k. (k.0 == n) && (k.1 == d)) context_key (but_context h core).contexts
+            ∙ any_but (λ c. c.handle) (λ c. c.device == d) n h core.contexts
+            ∙ ap (λ b. not (n == h) && b) (sym (any_mapped (λ k. (k.0 == n) && (k.1 == d)) context_key core.contexts)))
+            (omega (
+              arith,
+              length-map (but_context h core).contexts context_key,
+              length-map core.contexts context_key,
+              one_less (λ c. c.handle) h 0 core.contexts rises live,
+            ));
+        of_contexts =
+            subst (λ cs. Tracks (16, 256) free cs (link_keys core)) (filter_mapped (λ n. not (n == h)) (λ c. c.handle) core.contexts)
+            (owner_untracked (16, 256) l (context_handles core) (link_keys core) old.of_contexts free h closes
+            (rise_mapped (λ c. c.handle) 0 core.contexts rises) (any_mapped (λ n. n == h) (λ c. c.handle) core.contexts ∙ live));
+      }
 
--- the context at a place is written, which keeps its handle and its device
-written : (m : Membership) (view core : CoreState) (place : ℕ) (x y : Context) → Tracks m view.devices view.contexts → view ≡ core
-    → slice_get core.contexts place ≡ Some x → y.handle ≡ x.handle → y.device ≡ x.device
-    → Tracks m view.devices (set view.contexts place y)
-written m view core place x y old is at handle device =
-    tracked_in m view.devices view.contexts old place x y (subst (λ k. slice_get k.contexts place ≡ Some x) (sym is) at) handle device
+  -- one more source or mask, or one less
 
--- the same of all tables
+  pub link_tracked : (new : Membership) (mask : Bool) (s : Source) → Adds s.context s.handle l new
+      → AreTracked m new (with_links mask (links mask core ++ s ∷ []) core)
+  link_tracked new mask s adds = by_kind mask
+    where
+      tracked : (ks : List (ℕ × ℕ)) → ((p : ℕ × ℕ → Bool) → list_any p ks ≡ (p (link_key s) || list_any p (link_keys core)))
+          → length ks ≡ length (link_keys core) + 1 → Tracks (16, 256) new (context_handles core) ks
+      tracked ks = λ all longer. owned_tracked (16, 256) l (context_handles core) (link_keys core) old.of_contexts new s.context s.handle ks
+          adds all longer
+
+      by_kind : (b : Bool) → AreTracked m new (with_links b (links b core ++ s ∷ []) core)
+      by_kind false =
+          let more = map-append link_key core.sources (s ∷ []) in
+          record {
+            of_devices = old.of_devices;
+            of_contexts = tracked (map link_key (core.sources ++ s ∷ []) ++ map link_key core.masks)
+                (λ p. ap (λ ks. list_any p (ks ++ map link_key core.masks)) more
+                ∙ any_within p (map link_key core.sources) (map link_key core.masks) (link_key s))
+                (omega (
+                  arith,
+                  length-append (map link_key (core.sources ++ s ∷ [])) (map link_key core.masks),
+                  length-map (core.sources ++ s ∷ []) link_key,
+                  length_push core.sources s,
+                  length-map core.masks link_key,
+                  link_count,
+                ));
+          }
+      by_kind true =
+          let more = map-append link_key core.masks (s ∷ []) in
+          record {
+            of_devices = old.of_devices;
+            of_contexts = tracked (map link_key core.sources ++ map link_key (core.masks ++ s ∷ []))
+                (λ p. ap (λ ks. list_any p (map link_key core.sources ++ ks)) more
+                ∙ any_behind p (map link_key core.sources) (map link_key core.masks) (link_key s))
+                (omega (
+                  arith,
+                  length-append (map link_key core.sources) (map link_key (core.masks ++ s ∷ [])),
+                  length-map (core.masks ++ s ∷ []) link_key,
+                  length_push core.masks s,
+                  length-map core.sources link_key,
+                  link_count,
+                ));
+          }
+
+  pub link_untracked : (new : Membership) (mask : Bool) (h : ℕ) → Removes h l new → Rises (λ s. s.handle) 0 (links mask core)
+      → list_any (λ s. s.handle == h) (links mask core) ≡ true → list_any (λ s. s.handle == h) (links (not mask) core) ≡ false
+      → AreTracked m new (with_links mask (without_source h (links mask core)) core)
+  link_untracked new mask h removes = by_kind mask
+    where
+      gone : (ss : List Source) (c n : ℕ) → list_any (λ k. (k.0 == n) && (k.1 == c)) (map link_key (without_source h ss))
+          ≡ (not (n == h) && list_any (λ s. (s.handle == n) && (s.context == c)) ss)
+      gone ss c n =
+          any_mapped (λ k. (k.0 == n) && (k.1 == c)) link_key (without_source h ss)
+          ∙ any_but (λ s. s.handle) (λ s. s.context == c) n h ss
+
+      stay : (ss : List Source) (c n : ℕ) → list_any (λ s. s.handle == h) ss ≡ false
+          → list_any (λ k. (k.0 == n) && (k.1 == c)) (map link_key ss)
+          ≡ (not (n == h) && list_any (λ s. (s.handle == n) && (s.context == c)) ss)
+      stay ss c n none =
+          any_mapped (λ k. (k.0 == n) && (k.1 == c)) link_key ss ∙ any_stays (λ s. s.handle) (λ s. s.context == c) n h ss none
+
+      less : (xs ys : List (ℕ × ℕ)) (c n : ℕ)
+          → list_any (λ k. (k.0 == n) && (k.1 == c)) xs
+          ≡ (not (n == h) && list_any (λ s. (s.handle == n) && (s.context == c)) core.sources)
+          → list_any (λ k. (k.0 == n) && (k.1 == c)) ys
+          ≡ (not (n == h) && list_any (λ s. (s.handle == n) && (s.context == c)) core.masks)
+          → list_any (λ k. (k.0 == n) && (k.1 == c)) (xs ++ ys)
+          ≡ (not (n == h) && list_any (λ k. (k.0 == n) && (k.1 == c)) (link_keys core))
+      less xs ys c n first second =
+          let sources : Bool = list_any (λ s. (s.handle == n) && (s.context == c)) core.sources in
+          let masks : Bool = list_any (λ s. (s.handle == n) && (s.context == c)) core.masks in
+          list_any-append (λ k. (k.0 == n) && (k.1 == c)) xs ys
+          ∙ ap (λ b. b || list_any (λ k. (k.0 == n) && (k.1 == c)) ys) first
+          ∙ ap (λ b. (not (n == h) && sources) || b) second
+          ∙ or_less (not (n == h)) sources masks
+          ∙ ap (λ b. not (n == h) && b) (sym (any_link (λ k. (k.0 == n) && (k.1 == c))))
+
+      by_kind : (b : Bool) → Rises (λ s. s.handle) 0 (links b core) → list_any (λ s. s.handle == h) (links b core) ≡ true
+          → list_any (λ s. s.handle == h) (links (not b) core) ≡ false
+          → AreTracked m new (with_links b (without_source h (links b core)) core)
+      by_kind false rises live alone =
+          record {
+            of_devices = old.of_devices;
+            of_contexts = owned_untracked (16, 256) l (context_handles core) (link_keys core) old.of_contexts new h
+                (map link_key (without_source h core.sources) ++ map link_key core.masks) removes
+                (λ c n. less (map link_key (without_source h core.sources)) (map link_key core.masks) c n
+                (gone core.sources c n) (stay core.masks c n alone))
+                (omega (
+                  arith,
+                  length-append (map link_key (without_source h core.sources)) (map link_key core.masks),
+                  length-map (without_source h core.sources) link_key,
+                  length-map core.masks link_key,
+                  one_less (λ s. s.handle) h 0 core.sources rises live,
+                  link_count,
+                ));
+          }
+      by_kind true rises live alone =
+          record {
+            of_devices = old.of_devices;
+            of_contexts = owned_untracked (16, 256) l (context_handles core) (link_keys core) old.of_contexts new h
+                (map link_key core.sources ++ map link_key (without_source h core.masks)) removes
+                (λ c n. less (map link_key core.sources) (map link_key (without_source h core.masks)) c n
+                (stay core.sources c n alone) (gone core.masks c n))
+                (omega (
+                  arith,
+                  length-append (map link_key core.sources) (map link_key (without_source h core.masks)),
+                  length-map (without_source h core.masks) link_key,
+                  length-map core.sources link_key,
+                  one_less (λ s. s.handle) h 0 core.masks rises live,
+                  link_count,
+                ));
+          }
+
+-- the context at a place is written, which keeps its handle and its device: all tables are kept
 pub kept_in : (s : Inside) (core : CoreState) (place : ℕ) (x y : Context) → IsKept s → tables_of s ≡ core
     → slice_get core.contexts place ≡ Some x → y.handle ≡ x.handle → y.device ≡ x.device
     → (HasFewLayers x → HasFewLayers y)
@@ -296,39 +449,10 @@ kept_in s core place x y kept is at handle device few =
       masks = kept.masks;
       layers = each_set HasFewLayers s.contexts.items place y kept.layers (few (each_at HasFewLayers s.contexts.items place x kept.layers
           (subst (λ k. slice_get k.contexts place ≡ Some x) (sym is) at)));
-      tracked = written s.members (tables_of s) core place x y kept.tracked is at handle device;
+      tracked = context_written s.members s.linked (tables_of s) kept.tracked place x y
+          (subst (λ k. slice_get k.contexts place ≡ Some x) (sym is) at) handle device;
     }
 
--- a device that lives is open, and one that has no contexts has no members
-
-module _ (m : Membership) (view core : CoreState) (old : Tracks m view.devices view.contexts) (is : view ≡ core) where
-  pub live_open : (d : ℕ) → list_any (λ x. x.handle == d) core.devices ≡ true → is_open d m ≡ true
-  live_open d live = old.opened d ∙ subst (λ k. list_any (λ x. x.handle == d) k.devices ≡ true) (sym is) live
-
-  pub dead_shut : (d : ℕ) → list_any (λ x. x.handle == d) core.devices ≡ false → is_open d m ≡ false
-  dead_shut d dead = old.opened d ∙ subst (λ k. list_any (λ x. x.handle == d) k.devices ≡ false) (sym is) dead
-
-  pub no_members : (d : ℕ) → list_any (λ c. c.device == d) core.contexts ≡ false → members_of d m ≡ []
-  no_members d none =
-      bare m view.devices view.contexts old d (subst (λ k. list_any (λ c. c.device == d) k.contexts ≡ false) (sym is) none)
-
-  pub is_nobodys : (h : ℕ) → ((d : ℕ) → list_any (λ c. (c.handle == h) && (c.device == d)) core.contexts ≡ false)
-      → (d : ℕ) → is_in h (members_of d m) ≡ false
-  is_nobodys h none d =
-      old.members_are d h
-      ∙ subst (λ k. list_any (λ c. (c.handle == h) && (c.device == d)) k.contexts ≡ false) (sym is) (none d)
-
-  pub somebodys : (h : ℕ) → list_any (λ c. c.handle == h) core.contexts ≡ true → (d : ℕ) × (is_in h (members_of d m) ≡ true)
-  somebodys h live =
-      owner_of m view.devices view.contexts old h (subst (λ k. list_any (λ c. c.handle == h) k.contexts ≡ true) (sym is) live)
-
-  pub devices_room : length core.devices < 8 → open_count m < most_owners m
-  devices_room less =
-      omega (arith, less, old.owner_count, ap (λ k. length k.devices) is, ap (λ (k : ℕ × ℕ). k.0) old.limits_are)
-
-  pub contexts_room : length core.contexts < 16 → member_count m < most_members m
-  contexts_room less =
-      omega (arith, less, old.count, ap (λ k. length k.contexts) is, ap (λ (k : ℕ × ℕ). k.1) old.limits_are)
-
-pub rises_devices : (core : CoreState) (store : StoreView) → HandlesFit core store → Rises (λ x. x.handle) 0 core.devices
-rises_devices core store fits = rises_kind kind.Device device_live core.devices store.others store.made fits.rising fits.devices
+-- what is tracked is what the objects are seen as
+pub tracked_as : (s : Inside) (core : CoreState) → IsKept s → tables_of s ≡ core → AreTracked s.members s.linked core
+tracked_as s core kept is = subst (AreTracked s.members s.linked) is kept.tracked

@@ -4,7 +4,7 @@ use Rattle.std.specs.List.{AllByRecursion}
 use Rattle.std.specs.Vec.{vec_capacity}
 use Rattle.wf_objects.specs.declared.objects.Objects.TheInside.{Inside}
 use Rattle.wf_model.specs.Objects.{Context, CoreState}
-use Rattle.wf_objects.specs.Tracks.{Tracks}
+use Rattle.wf_objects.specs.Tracks.{AreTracked}
 
 -- what the fields stand for
 abbrev pub tables_of : Inside → CoreState
@@ -20,11 +20,11 @@ tables_of c =
 abbrev pub HasFewLayers : Context → Type 0
 HasFewLayers c = length c.committed.layers.items ≤ 32
 
--- there is room for all objects that may live, committed scenes are short, and the members are the contexts of the devices
+-- there is room for all objects that may live, committed scenes are short, and the members are what devices and contexts have
 pub record IsKept (c : Inside) : Type 0 where
   pub devices : vec_capacity c.devices ≡ 8
   pub contexts : vec_capacity c.contexts ≡ 16
   pub sources : vec_capacity c.sources ≡ 256
   pub masks : vec_capacity c.masks ≡ 256
   pub layers : AllByRecursion HasFewLayers c.contexts.items
-  pub tracked : Tracks c.members c.devices.items c.contexts.items
+  pub tracked : AreTracked c.members c.linked (tables_of c)

@@ -3,6 +3,7 @@
 ghost use Rattle.std.specs.Prelude.{◌≡◌, ◌<◌, ◌==◌, length, slice_get, IfSome, IsSome, IsTrue, IsFalse, Ok, Some, not, filter};
 ghost use Rattle.std.specs.List.{list_any};
 ghost use Rattle.std.specs.Vec.{vec_capacity};
+ghost use Rattle.wf_words.specs.Rising.{Rises};
 ghost use Rattle.wf_life.specs.Handles.{is_live, key_of, without};
 ghost use Rattle.wf_stream.specs.Names.{NamesFit, Recounts};
 ghost use Rattle.wf_scene.specs.Cached.{forget};
@@ -57,10 +58,14 @@ fn leave_out_device(devices: &mut Vec<Device>, handle: u32)
 }
 
 impl Objects {
-    /// Leaves out the source, or the mask, of a handle.
+    /// Leaves out the source, or the mask, of a handle, which is that of no link of the other kind.
     fn leave_out_link(&mut self, mask: bool, handle: u32)
+        requires rises { Rises (λ s. s.handle) 0 (links mask self.old) }
+        requires live { IsTrue (list_any (λ s. s.handle == handle) (links mask self.old)) }
+        requires alone { IsFalse (list_any (λ s. s.handle == handle) (links (not mask) self.old)) }
         ensures { self.new ≡ with_links mask (without_source handle (links mask self.old)) self.old }
     {
+        self.linked.remove(handle);
         if mask {
             leave_out(&mut self.masks, handle);
         } else {

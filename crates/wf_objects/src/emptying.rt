@@ -1,32 +1,30 @@
 //! Contexts that are destroyed with all that is theirs, one object after another.
 
-ghost use Rattle.std.specs.Prelude.{◌≡◌, ◌<◌, ◌==◌, [], not, filter, find, length, option_map, IsTrue};
+ghost use Rattle.std.specs.Prelude.{◌≡◌, ◌<◌, ◌==◌, [], Bool, not, filter, is_some, length, IsTrue, IsFalse};
 ghost use Rattle.std.specs.List.{list_any};
 ghost use Rattle.std.specs.Vec.{vec_capacity};
 ghost use Rattle.wf_stream.specs.Names.{NamesFit, Recounts};
 ghost use Rattle.wf_model.specs.Names.{core_names};
-ghost use Rattle.wf_model.specs.Core.{without_context, without_those_of};
+ghost use Rattle.wf_life.specs.declared.Kind.TheVariants as kind;
+ghost use Rattle.wf_life.specs.Handles.{key_of};
+ghost use Rattle.wf_model.specs.Core.{without_context};
 ghost use Rattle.wf_objects.specs.Fits.{Fits, elements_of};
-ghost use Rattle.wf_objects.specs.Links.{links, with_links};
-ghost use Rattle.wf_objects.specs.Losses.{Loses, but_context, but_contexts_of};
+ghost use Rattle.wf_objects.specs.Links.{links};
+ghost use Rattle.wf_objects.specs.Losses.{Loses, but_context, but_contexts_of, but_links};
 ghost use Rattle.wf_objects.specs.Owners.{StandsAt};
 
 use crate::dropping::drop_handle;
+use crate::finding::key_of;
 use crate::naming::end_context;
 use crate::objects::Objects;
-use crate::rows::{Context, Link};
-use wf_stream::Store;
+use crate::rows::Context;
+use wf_stream::{Kind, Store};
 
-/// The handle of the first link of a context.
-fn first_of(links: &[Link], context: u32) -> Option<u32>
-    ensures { result ≡ option_map (λ s. s.handle) (find (λ s. s.context == context) links.now) }
+/// The live handle of a source or of a mask is that of a mask.
+fn is_mask(store: &Store, link: u32) -> bool
+    ensures { result ≡ is_some (key_of link kind.Mask store.now.others) }
 {
-    for link in links {
-        if link.context == context {
-            return Some(link.handle);
-        }
-    }
-    None
+    key_of(store, link, Kind::Mask).is_some()
 }
 
 /// Leaves out the context of a handle.
@@ -38,16 +36,17 @@ fn leave_out_context(contexts: &mut Vec<Context>, handle: u32)
 }
 
 impl Objects {
-    /// Takes out all sources, or all masks, of a context, and their handles.
-    fn drop_links(&mut self, store: &mut Store, mask: bool, context: u32)
+    /// Takes out all sources and masks of a context, and their handles.
+    fn drop_links(&mut self, store: &mut Store, context: u32)
         requires fits { Fits self.old store.old }
         requires names { NamesFit (core_names self.old) store.old }
-        ensures dropped { self.new ≡ with_links mask (without_those_of context (links mask self.old)) self.old }
+        ensures dropped { self.new ≡ but_links context self.old }
         ensures loses { Loses store.old store.new }
         ensures names { Recounts (core_names self.old) (core_names self.new) store.old store.new }
         ensures fits { Fits self.new store.new }
     {
-        while let Some(link) = first_of(self.links(mask), context) {
+        while let Some(link) = self.linked.first(context) {
+            let mask = is_mask(store, link);
             self.drop_link(store, mask, link);
         }
     }
@@ -70,11 +69,12 @@ impl Objects {
         }
     }
 
-    /// Takes out a context that has no elements, and its handle.
+    /// Takes out a context that has no sources, masks or elements, and its handle.
     fn drop_bare_context(&mut self, store: &mut Store, context: u32)
         requires fits { Fits self.old store.old }
         requires names { NamesFit (core_names self.old) store.old }
         requires live { IsTrue (list_any (λ c. c.handle == context) self.old.contexts) }
+        requires unlinked { (mask : Bool) → IsFalse (list_any (λ s. s.context == context) (links mask self.old)) }
         requires bare { elements_of context store.old.others ≡ [] }
         ensures dropped { self.new ≡ but_context context self.old }
         ensures loses { Loses store.old store.new }
@@ -85,6 +85,7 @@ impl Objects {
         drop_handle(store, context);
         end_context(store, &self.contexts[place]);
         self.members.remove(context);
+        self.linked.close(context);
         leave_out_context(&mut self.contexts, context);
     }
 
@@ -99,8 +100,7 @@ impl Objects {
         ensures names { Recounts (core_names self.old) (core_names self.new) store.old store.new }
         ensures fits { Fits self.new store.new }
     {
-        self.drop_links(store, false, context);
-        self.drop_links(store, true, context);
+        self.drop_links(store, context);
         self.drop_elements(store, place, context);
         self.drop_bare_context(store, context);
     }

@@ -1,6 +1,7 @@
 //! New objects, each under the handle that comes next.
 
-ghost use Rattle.std.specs.Prelude.{◌≡◌, ◌+◌, ◌<◌, ◌++◌, ◌∷◌, [], false, length, Ok, IfOk, IsSomeAnd, IsTrue, OnOk, OnErr};
+ghost use Rattle.std.specs.Prelude.{◌≡◌, ◌≢◌, ◌+◌, ◌<◌, ◌==◌, ◌++◌, ◌∷◌, [], Bool, false, length, Ok, IfOk, IsSomeAnd, IsTrue, IsFalse, OnOk, OnErr};
+ghost use Rattle.std.specs.List.{list_any};
 ghost use Rattle.wf_pixel.specs.Choice.{is_a8};
 ghost use Rattle.wf_stream.specs.Streams.{buffers_at, is_stream, with_other};
 ghost use Rattle.wf_stream.specs.Names.{HasRoom, NamesFit};
@@ -65,11 +66,15 @@ impl Objects {
         here >= MOST_SOURCES || here + there >= MOST_SOURCES
     }
 
-    /// One more source, or one more mask.
+    /// One more source, or one more mask, of a live context. Its handle is no other's.
     fn push_link(&mut self, mask: bool, link: Link)
-        requires { length self.old.sources + length self.old.masks < 256 }
+        requires few { length self.old.sources + length self.old.masks < 256 }
+        requires live { IsTrue (list_any (λ c. c.handle == link.context) self.old.contexts) }
+        requires named { link.handle ≢ 0 }
+        requires fresh { (m : Bool) → IsFalse (list_any (λ s. s.handle == link.handle) (links m self.old)) }
         ensures { self.new ≡ with_links mask (links mask self.old ++ link ∷ []) self.old }
     {
+        self.linked.add(link.context, link.handle);
         if mask {
             self.masks.push_reserved(link);
         } else {
@@ -119,6 +124,7 @@ impl Objects {
         let handle = mint(store, Kind::Context, device)?;
         begin_name(store, target.stream);
         self.members.add(device, handle);
+        self.linked.open(handle);
         self.contexts.push_reserved(Context {
             handle,
             device,
@@ -131,7 +137,7 @@ impl Objects {
         Ok(handle)
     }
 
-    /// Makes a source or a mask of a context, whose stream is kept and one of pixels or of alphas, and answers its handle.
+    /// Makes a source or a mask of a live context, whose stream is kept and one of pixels or of alphas, and answers its handle.
     /// Limit is a 257th source or mask, or that all handles were given.
     pub fn add_link(
         &mut self,
@@ -143,6 +149,7 @@ impl Objects {
         requires fits { Fits self.old store.old }
         requires names { NamesFit (core_names self.old) store.old }
         requires room { HasRoom store.old }
+        requires live { IsTrue (list_any (λ c. c.handle == context) self.old.contexts) }
         requires kept { IsSomeAnd (buffers_at stream store.old.streams) (λ b. is_a8 b.format ≡ mask) }
         ensures { Does (link_made mask context stream) self.old self.new store.old store.new result }
     {

@@ -24,7 +24,8 @@ pub(crate) const MOST_SOURCES: usize = 256;
 pub(crate) const MOST_ELEMENTS: u32 = 64;
 
 /// The objects of composition: devices, contexts, sources and masks, each by rising handle. A context has its elements in
-/// its cached scene. Beside them the members tell which contexts each device has. All room is taken when they are made.
+/// its cached scene. Beside them the members tell which contexts each device has, and which sources and masks each context.
+/// All room is taken when they are made.
 #[derive(Drop)]
 pub struct Objects {
     pub(crate) alloc: Global,
@@ -33,6 +34,7 @@ pub struct Objects {
     pub(crate) sources: Vec<Link>,
     pub(crate) masks: Vec<Link>,
     pub(crate) members: Members,
+    pub(crate) linked: Members,
 }
 
 impl Model for Objects {
@@ -59,6 +61,7 @@ impl Objects {
             sources: Vec::with_capacity(alloc, MOST_SOURCES)?,
             masks: Vec::with_capacity(alloc, MOST_SOURCES)?,
             members: Members::new(alloc, MOST_CONTEXTS as u32, MOST_DEVICES as u32)?,
+            linked: Members::new(alloc, MOST_SOURCES as u32, MOST_CONTEXTS as u32)?,
         })
     }
 

@@ -73,6 +73,7 @@ fn made(objects: &mut Objects, store: &mut Store) -> Result<[u32; 4], Refusal>
     let element = objects.add_element(store, place)?;
     let stream = pixels(store).ok_or(none)?;
     objects.few_names();
+    objects.context_place(store, device, context)?;
     let source = objects.add_link(store, false, context, stream)?;
     Ok([device, context, element, source])
 }

@@ -1,3 +1,6 @@
+use Rattle.std.proofs.Common.{◌==◌, eq-eqb}
+use Rattle.wf_words.specs.Found.{any_at}
+use Rattle.wf_words.specs.Places.{within}
 use Rattle.wf_model.specs.Names.{core_names}
 use Rattle.wf_objects.specs.Ours.{AreOurs, ours_again, ours_room}
 use Rattle.wf_objects.proofs.tests.made.Goals as goal
@@ -35,3 +38,11 @@ pub add_link-requires-clause-room : goal.add_link-requires-clause-room
 add_link-requires-clause-room c =
     ours_room (core_names c.add_element.new.self) c.add_element.new.store
     (with_element (goal.at.add_link-requires-clause-room c).After-add_element) c.few_names-2.ensures
+
+pub add_link-requires-clause-live : goal.add_link-requires-clause-live
+add_link-requires-clause-live c =
+    let here = c.in_ok-context_place in
+    let contexts = c.add_element.new.self.contexts in
+    let x = within contexts here.field-0 here.ensures.within in
+    any_at (λ y. y.handle == c.in_ok-context.context) contexts here.field-0 x.0 x.1
+    (eq-eqb x.0.handle c.in_ok-context.context (rw x.1 at here.ensures.here))

@@ -10,7 +10,8 @@ use Rattle.wf_objects.specs.Does.{Does, context_made}
 use Rattle.wf_objects.specs.Fits.{ContextFits}
 use Rattle.wf_objects.specs.Inside.{tables_of}
 use Rattle.wf_objects.proofs.Lookups.{device_lives}
-use Rattle.wf_objects.proofs.Tracking.{context_tracked, contexts_room, fresh_context, is_nobodys, live_open}
+use Rattle.wf_objects.proofs.Tracking.{context_tracked, contexts_room, fresh_context, live_device_open, no_context_open, no_device_has}
+use Rattle.wf_objects.proofs.Tracking.{owners_room, tracked_as}
 use Rattle.wf_objects.proofs.Makings.{context_fits, creates}
 use Rattle.std.proofs.Common.{rules, ◌∙◌}
 use Rattle.std.proofs.lemmas.Grind.{common_steps}
@@ -26,20 +27,35 @@ pub add-requires-clause-is_open : goal.add-requires-clause-is_open
 add-requires-clause-is_open c =
     let s = c.self.inside in
     let a = c.args in
-    live_open s.members (tables_of s) a.self.now c.self.invariant.tracked c.self.view_is a.device
+    live_device_open s.members s.linked a.self.now (tracked_as s a.self.now c.self.invariant c.self.view_is) a.device
     (device_lives a.device a.self.now a.store.now c.requires.live)
 
 pub add-requires-clause-nobodys : goal.add-requires-clause-nobodys
 add-requires-clause-nobodys c =
     let s = c.self.inside in
     let a = c.args in
-    rw c.in_ok-handle.ensures.handle (is_nobodys s.members (tables_of s) a.self.now c.self.invariant.tracked c.self.view_is
+    rw c.in_ok-handle.ensures.handle (no_device_has s.members s.linked a.self.now (tracked_as s a.self.now c.self.invariant c.self.view_is)
     (a.store.now.made + 1) (fresh_context a.self.now a.store.now c.requires.fits.handles))
+
+pub open-requires-clause-closed : goal.open-requires-clause-closed
+open-requires-clause-closed c =
+    let s = c.self.inside in
+    let a = c.args in
+    rw c.in_ok-handle.ensures.handle (no_context_open s.members s.linked a.self.now (tracked_as s a.self.now c.self.invariant c.self.view_is)
+    (a.store.now.made + 1) (fresh_context a.self.now a.store.now c.requires.fits.handles))
+
+pub open-requires-clause-room : goal.open-requires-clause-room
+open-requires-clause-room c =
+    let s = c.self.inside in
+    let core = c.args.self.now in
+    owners_room s.members s.linked core (tracked_as s core c.self.invariant c.self.view_is)
+    (omega (arith, c.if-len-ge-MOST_CONTEXTS.false, c.len.ensures, ap (λ k. length k.contexts) c.self.view_is))
 
 pub add-requires-clause-room : goal.add-requires-clause-room
 add-requires-clause-room c =
     let s = c.self.inside in
-    contexts_room s.members (tables_of s) c.args.self.now c.self.invariant.tracked c.self.view_is
+    let core = c.args.self.now in
+    contexts_room s.members s.linked core (tracked_as s core c.self.invariant c.self.view_is)
     (omega (arith, c.if-len-ge-MOST_CONTEXTS.false, c.len.ensures, ap (λ k. length k.contexts) c.self.view_is))
 
 pub invariant_of-self : goal.invariant_of-self
@@ -53,7 +69,7 @@ invariant_of-self c =
       layers = rw c.push_reserved.ensures.items (each_more HasFewLayers s.contexts.items _ c.self.invariant.layers
           (rw c.blank_scene.ensures (omega arith)));
       tracked = rw c.push_reserved.ensures.items
-          (context_tracked s.members s.devices.items s.contexts.items c.self.invariant.tracked _ _ c.add.ensures);
+          (context_tracked s.members s.linked (tables_of s) c.self.invariant.tracked _ _ _ c.add.ensures c.open.ensures);
     }
 
 pub returns : goal.returns

@@ -9,20 +9,22 @@ use Rattle.wf_model.specs.Names.{core_names}
 use Rattle.wf_objects.specs.Does.{Does, refuses, unchanged}
 use Rattle.wf_stream.specs.Renames.{names_stay}
 use Rattle.wf_objects.specs.Inside.{tables_of}
-use Rattle.wf_objects.proofs.Tracking.{dead_shut, device_tracked, devices_room, fresh_device}
+use Rattle.wf_objects.proofs.Tracking.{device_tracked, devices_room, fresh_device, no_device_open, tracked_as}
 use Rattle.wf_objects.proofs.Makings.{creates, device_fits}
 use Rattle.wf_objects.proofs.objects.Objects.add_device.Goals as goal
 
 pub open-requires-clause-closed : goal.open-requires-clause-closed
 open-requires-clause-closed c =
     let s = c.self.inside in
-    rw c.in_ok-handle.ensures.handle (dead_shut s.members (tables_of s) c.args.self.now c.self.invariant.tracked c.self.view_is
-    (c.args.store.now.made + 1) (fresh_device c.args.self.now c.args.store.now c.requires.handles))
+    let core = c.args.self.now in
+    rw c.in_ok-handle.ensures.handle (no_device_open s.members s.linked core (tracked_as s core c.self.invariant c.self.view_is)
+    (c.args.store.now.made + 1) (fresh_device core c.args.store.now c.requires.handles))
 
 pub open-requires-clause-room : goal.open-requires-clause-room
 open-requires-clause-room c =
     let s = c.self.inside in
-    devices_room s.members (tables_of s) c.args.self.now c.self.invariant.tracked c.self.view_is
+    let core = c.args.self.now in
+    devices_room s.members s.linked core (tracked_as s core c.self.invariant c.self.view_is)
     (omega (arith, c.if-len-ge-MOST_DEVICES.false, c.len.ensures, ap (λ k. length k.devices) c.self.view_is))
 
 pub invariant_of-self : goal.invariant_of-self
@@ -35,7 +37,7 @@ invariant_of-self c =
       masks = c.self.invariant.masks;
       layers = c.self.invariant.layers;
       tracked = rw c.push_reserved.ensures.items
-          (device_tracked s.members s.devices.items s.contexts.items c.self.invariant.tracked _
+          (device_tracked s.members s.linked (tables_of s) c.self.invariant.tracked _
           (record { handle = c.in_ok-handle.handle; register = None }) c.open.ensures);
     }
 

@@ -11,6 +11,7 @@ use Rattle.wf_stream.specs.Names.{but_names}
 use Rattle.wf_stream.specs.Streams.{with_other}
 use Rattle.wf_objects.proofs.Endings.{begun_fits, begun_names}
 use Rattle.wf_objects.proofs.NameCounts.{link_more}
+use Rattle.wf_objects.proofs.Tracking.{fresh_link}
 use Rattle.wf_objects.proofs.objects.Objects.add_link.Goals as goal
 
 pub returns-then-sources_full : goal.returns-then-sources_full
@@ -27,6 +28,10 @@ returns-in_err-handle c =
       names = unchanged c.args.self.now c.args.store.now c.mint.new.store (search rules);
       fits = search rules;
     }
+
+pub push_link-requires-clause-fresh : goal.push_link-requires-clause-fresh
+push_link-requires-clause-fresh c =
+    λ mask. rw c.in_ok-handle.ensures.handle (fresh_link c.args.self.now c.args.store.now c.requires.fits.handles mask)
 
 pub returns : goal.returns
 returns c =

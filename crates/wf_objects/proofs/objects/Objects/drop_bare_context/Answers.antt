@@ -4,7 +4,7 @@ use Rattle.wf_words.specs.Rising.{Rises, found_at}
 use Rattle.wf_life.specs.declared.Kind.TheVariants as kind
 use Rattle.wf_objects.specs.Inside.{HasFewLayers, tables_of}
 use Rattle.wf_objects.proofs.Lookups.{rises_contexts}
-use Rattle.wf_objects.proofs.Tracking.{context_untracked, somebodys}
+use Rattle.wf_objects.proofs.Tracking.{a_device_has, bare_context, context_untracked, live_context_open, tracked_as}
 use Rattle.wf_objects.proofs.Dropped.{context_dropped, context_under, dead, loses}
 use Rattle.wf_life.specs.Living.{lives}
 use Rattle.wf_words.specs.Each.{each_filtered}
@@ -28,7 +28,20 @@ drop_handle-requires c =
 pub remove-requires : goal.remove-requires
 remove-requires c =
     let s = c.self.inside in
-    somebodys s.members (tables_of s) c.args.self.now c.self.invariant.tracked c.self.view_is c.args.context c.requires.live
+    let core = c.args.self.now in
+    a_device_has s.members s.linked core (tracked_as s core c.self.invariant c.self.view_is) c.args.context c.requires.live
+
+pub close-requires-clause-is_open : goal.close-requires-clause-is_open
+close-requires-clause-is_open c =
+    let s = c.self.inside in
+    let core = c.args.self.now in
+    live_context_open s.members s.linked core (tracked_as s core c.self.invariant c.self.view_is) c.args.context c.requires.live
+
+pub close-requires-clause-bare : goal.close-requires-clause-bare
+close-requires-clause-bare c =
+    let s = c.self.inside in
+    let core = c.args.self.now in
+    bare_context s.members s.linked core (tracked_as s core c.self.invariant c.self.view_is) c.args.context c.requires.unlinked
 
 pub invariant_of-self : goal.invariant_of-self
 invariant_of-self c =
@@ -42,7 +55,7 @@ invariant_of-self c =
       layers = rw c.leave_out_context.ensures.left
           (each_filtered HasFewLayers (λ x. not (x.handle == a.context)) s.contexts.items c.self.invariant.layers);
       tracked = rw c.leave_out_context.ensures.left
-          (context_untracked s.members s.devices.items s.contexts.items c.self.invariant.tracked _ a.context c.remove.ensures
+          (context_untracked s.members s.linked (tables_of s) c.self.invariant.tracked _ _ a.context c.remove.ensures c.close.ensures
           (subst (λ k. Rises (λ x. x.handle) 0 k.contexts) (sym c.self.view_is)
           (rises_contexts a.self.now a.store.now c.requires.fits.handles))
           (subst (λ k. list_any (λ x. x.handle == a.context) k.contexts ≡ true) (sym c.self.view_is) c.requires.live));

@@ -5,7 +5,7 @@ use Rattle.std.specs.List.{list_any}
 use Rattle.wf_words.specs.Rising.{Rises}
 use Rattle.wf_life.specs.declared.Kind.TheVariants as kind
 use Rattle.wf_objects.specs.Inside.{tables_of}
-use Rattle.wf_objects.proofs.Tracking.{device_untracked, live_open, no_members, rises_devices}
+use Rattle.wf_objects.proofs.Tracking.{bare_device, device_untracked, live_device_open, rises_devices, tracked_as}
 use Rattle.wf_objects.proofs.Dropped.{dead, device_dropped, device_under, loses}
 use Rattle.wf_life.specs.Living.{lives}
 use Rattle.wf_stream.specs.Names.{Recounts}
@@ -19,12 +19,14 @@ drop_handle-requires c =
 pub close-requires-clause-is_open : goal.close-requires-clause-is_open
 close-requires-clause-is_open c =
     let s = c.self.inside in
-    live_open s.members (tables_of s) c.args.self.now c.self.invariant.tracked c.self.view_is c.args.device c.requires.live
+    let core = c.args.self.now in
+    live_device_open s.members s.linked core (tracked_as s core c.self.invariant c.self.view_is) c.args.device c.requires.live
 
 pub close-requires-clause-bare : goal.close-requires-clause-bare
 close-requires-clause-bare c =
     let s = c.self.inside in
-    no_members s.members (tables_of s) c.args.self.now c.self.invariant.tracked c.self.view_is c.args.device c.requires.bare
+    let core = c.args.self.now in
+    bare_device s.members s.linked core (tracked_as s core c.self.invariant c.self.view_is) c.args.device c.requires.bare
 
 pub invariant_of-self : goal.invariant_of-self
 invariant_of-self c =
@@ -37,7 +39,7 @@ invariant_of-self c =
       masks = c.self.invariant.masks;
       layers = c.self.invariant.layers;
       tracked = rw c.leave_out_device.ensures.left
-          (device_untracked s.members s.devices.items s.contexts.items c.self.invariant.tracked _ a.device c.close.ensures
+          (device_untracked s.members s.linked (tables_of s) c.self.invariant.tracked _ a.device c.close.ensures
           (subst (λ k. Rises (λ x. x.handle) 0 k.devices) (sym c.self.view_is)
           (rises_devices a.self.now a.store.now c.requires.fits.handles))
           (subst (λ k. list_any (λ x. x.handle == a.device) k.devices ≡ true) (sym c.self.view_is) c.requires.live));

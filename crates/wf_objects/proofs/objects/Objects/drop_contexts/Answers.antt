@@ -1,10 +1,12 @@
-use Rattle.std.proofs.Common.{◌≡◌, ◌∙◌, ◌&&◌, ◌==◌, true, find, subst, None, sym, ap}
+use Rattle.std.proofs.Common.{◌≡◌, ◌∙◌, ◌&&◌, ◌==◌, true, sym, ap}
 use Rattle.std.specs.List.{list_any}
 use Rattle.wf_words.specs.Found.{any_first}
 use Rattle.wf_objects.specs.Losses.{but_contexts_of}
 use Rattle.wf_objects.proofs.Dropped.{then_lost}
 use Rattle.wf_objects.proofs.Remainders.{contexts_fewer, no_contexts, one_context_fewer, one_of}
-use Rattle.wf_objects.proofs.Tracking.{is_member, lowest_in, no_context}
+use Rattle.wf_objects.proofs.Members.{lowest_in}
+use Rattle.wf_objects.proofs.Tracking.{has_no_context, is_context_of, tracked_as}
+use Rattle.wf_words.specs.Found.{none_at}
 use Rattle.wf_model.specs.Names.{core_names}
 use Rattle.wf_stream.specs.Renames.{named_again, then_named}
 use Rattle.std.proofs.Common.{refl}
@@ -17,9 +19,9 @@ owned : (c : In-Some) → list_any (λ x. (x.handle == c.in-Some.context) && (x.
 owned c =
     let s = c.self.inside in
     let h = c.in-Some.context in
-    subst (λ k. list_any (λ x. (x.handle == h) && (x.device == c.args.device)) k.contexts ≡ true) c.self.view_is
-    (is_member s.members s.devices.items s.contexts.items c.self.invariant.tracked c.args.device h
-    (lowest_in h _ (sym c.in-Some.is ∙ c.first.ensures)))
+    let core = c.loop-context.self in
+    is_context_of s.members s.linked core (tracked_as s core c.self.invariant c.self.view_is) c.args.device h
+    (lowest_in h _ (sym c.in-Some.is ∙ c.first.ensures))
 
 pub live_place-place-requires : goal.live_place-place-requires
 live_place-place-requires c =
@@ -52,8 +54,9 @@ returns-clause-dropped c =
     let l = c.loop-context in
     let s = c.self.inside in
     let d = c.args.device in
-    let none = subst (λ k. find (λ x. x.device == d) k.contexts ≡ None) c.self.view_is
-    (no_context s.members s.devices.items s.contexts.items c.self.invariant.tracked d (sym c.in_default.is ∙ c.first.ensures)) in
+    let none = none_at (λ x. x.device == d) l.self.contexts
+    (has_no_context s.members s.linked l.self (tracked_as s l.self c.self.invariant c.self.view_is) d
+    (sym c.in_default.is ∙ c.first.ensures)) in
     sym (no_contexts d l.self none) ∙ l.invariant.rest
 
 pub drop_context-requires-clause-names : goal.drop_context-requires-clause-names

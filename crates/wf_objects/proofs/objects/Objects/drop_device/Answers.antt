@@ -1,6 +1,6 @@
 use Rattle.std.proofs.Common.{◌==◌}
 use Rattle.wf_objects.proofs.Lookups.{device_lives}
-use Rattle.wf_objects.proofs.Tracking.{any_out}
+use Rattle.wf_objects.proofs.Members.{any_out}
 use Rattle.wf_model.specs.Names.{core_names}
 use Rattle.wf_stream.specs.Renames.{then_named}
 use Rattle.wf_objects.proofs.objects.Objects.drop_device.Goals as goal

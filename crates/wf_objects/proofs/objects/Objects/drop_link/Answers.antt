@@ -9,7 +9,7 @@ use Rattle.wf_model.specs.Objects.{CoreState}
 use Rattle.wf_stream.specs.Renames.{Renames}
 use Rattle.wf_objects.proofs.Endings.{ended_fit, ended_fits, ended_loses, ended_names}
 use Rattle.wf_objects.proofs.LayerNames.{alone}
-use Rattle.wf_objects.proofs.Remainders.{Linked, linked_at, rises_links}
+use Rattle.wf_objects.proofs.Remainders.{Linked, apart, linked_at, rises_links}
 use Rattle.wf_objects.proofs.Dropped.{dead, link_dropped, link_loses, link_under}
 use Rattle.wf_life.specs.Living.{lives}
 use Rattle.wf_objects.proofs.objects.Objects.drop_link.Goals as goal
@@ -81,3 +81,9 @@ returns-clause-fits c =
     rw c.leave_out_link.ensures (ended_fits a.self.now (left k) a.store.now (dead a.link a.store.now) refl refl
     (c.stream_of-stream.result ∷ []) c.requires.names (leaves k) c.end_name.new.store
     (ended (goal.at.returns-clause-fits c).After-end_name) (link_dropped a.self.now a.store.now c.requires.fits a.link a.mask u))
+
+pub leave_out_link-requires-clause-rises : goal.leave_out_link-requires-clause-rises
+leave_out_link-requires-clause-rises c = rises_links c.args.self.now c.args.store.now c.requires.fits.handles c.args.mask
+
+pub leave_out_link-requires-clause-alone : goal.leave_out_link-requires-clause-alone
+leave_out_link-requires-clause-alone c = apart c.args.self.now c.args.store.now c.requires.fits c.args.link c.args.mask c.requires.live

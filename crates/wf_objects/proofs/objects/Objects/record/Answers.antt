@@ -1,6 +1,7 @@
 use Rattle.std.proofs.Common.{refl, arith}
 use Rattle.std.proofs.lemmas.List.{with_items_is}
 use Rattle.wf_model.specs.Composition.{recorded}
+use Rattle.wf_objects.specs.Inside.{tables_of}
 use Rattle.wf_objects.proofs.Tracking.{registers_tracked}
 use Rattle.wf_objects.proofs.Fitting.{register_fits}
 use Rattle.wf_objects.proofs.objects.Objects.record.Goals as goal
@@ -15,7 +16,7 @@ invariant_of-self c =
       masks = c.self.invariant.masks;
       layers = c.self.invariant.layers;
       tracked = rw (with_items_is s.devices c.record_in.new.devices (omega arith), c.record_in.ensures, c.deref_mut.ensures.value)
-          (registers_tracked s.members s.devices.items s.contexts.items c.self.invariant.tracked c.args.device (recorded c.args.code));
+          (registers_tracked s.members s.linked (tables_of s) c.self.invariant.tracked c.args.device (recorded c.args.code));
     }
 
 pub returns-clause-fits : goal.returns-clause-fits

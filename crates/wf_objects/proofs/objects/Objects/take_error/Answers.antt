@@ -3,6 +3,7 @@ use Rattle.wf_objects.specs.Does.{refuses}
 use Rattle.std.proofs.Common.{rules, ◌≡◌, ◌∙◌, sym, refl, None, arith}
 use Rattle.std.proofs.lemmas.List.{with_items_is}
 use Rattle.wf_words.specs.Keyed.{at_key}
+use Rattle.wf_objects.specs.Inside.{tables_of}
 use Rattle.wf_objects.proofs.Tracking.{registers_tracked}
 use Rattle.wf_objects.proofs.Fitting.{takes_error}
 use Rattle.wf_objects.proofs.objects.Objects.take_error.Goals as goal
@@ -17,7 +18,7 @@ invariant_of-self c =
       masks = c.self.invariant.masks;
       layers = c.self.invariant.layers;
       tracked = rw (with_items_is s.devices c.clear_in.new.devices (omega arith), c.clear_in.ensures, c.deref_mut.ensures.value)
-          (registers_tracked s.members s.devices.items s.contexts.items c.self.invariant.tracked c.args.device (λ _. None));
+          (registers_tracked s.members s.linked (tables_of s) c.self.invariant.tracked c.args.device (λ _. None));
     }
 
 pub returns-in-Some : goal.returns-in-Some
