@@ -4,8 +4,6 @@
 mod checking;
 mod comparing;
 mod laws;
-#[cfg(test)]
-mod tests;
 mod verdict;
 
 pub use checking::check;

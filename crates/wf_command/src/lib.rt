@@ -3,8 +3,6 @@
 
 mod asked;
 mod command;
-#[cfg(test)]
-mod tests;
 
 pub use asked::{Asked, Mode, WordsStop};
 pub use command::asked_by;

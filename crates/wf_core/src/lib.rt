@@ -12,8 +12,6 @@ mod elements;
 mod running;
 mod sources;
 mod streams;
-#[cfg(test)]
-mod tests;
 
 pub use composition::Core;
 pub use wf_objects::Shown;

@@ -14,8 +14,6 @@ mod ports;
 mod running;
 mod scenes;
 mod sources;
-#[cfg(test)]
-mod tests;
 
 pub use display::Display;
 pub use wf_words::NoMemory;

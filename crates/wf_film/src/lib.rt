@@ -11,8 +11,6 @@ mod laws;
 mod pieces;
 mod reading;
 mod rule;
-#[cfg(test)]
-mod tests;
 mod writer;
 
 pub use fault::FilmStop;

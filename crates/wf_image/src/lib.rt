@@ -8,8 +8,6 @@ mod contents;
 mod image;
 mod paint;
 mod painting;
-#[cfg(test)]
-mod tests;
 
 pub use canvas::Canvas;
 pub use contents::Contents;

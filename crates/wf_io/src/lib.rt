@@ -9,8 +9,6 @@ mod sink;
 mod source;
 mod standard;
 mod tally;
-#[cfg(test)]
-mod tests;
 mod writing;
 
 pub use memory_sink::MemorySink;

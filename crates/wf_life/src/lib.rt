@@ -3,8 +3,6 @@
 
 mod handles;
 mod pool;
-#[cfg(test)]
-mod tests;
 
 pub use handles::{BadHandle, Handles, MakeStop};
 pub use pool::{Kept, Pool};

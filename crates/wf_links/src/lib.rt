@@ -3,8 +3,6 @@
 
 mod laws;
 mod links;
-#[cfg(test)]
-mod tests;
 
 pub use links::Links;
 pub use wf_words::NoMemory;

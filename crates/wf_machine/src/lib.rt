@@ -16,8 +16,6 @@ mod port;
 mod replies;
 mod screens;
 mod streams;
-#[cfg(test)]
-mod tests;
 
 pub use laws::{frames_are_left_alone, frames_take_each_image_once};
 pub use machine::Machine;

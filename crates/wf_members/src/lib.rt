@@ -2,8 +2,6 @@
 #![tactic(auto)]
 
 mod members;
-#[cfg(test)]
-mod tests;
 
 pub use members::Members;
 pub use wf_words::NoMemory;

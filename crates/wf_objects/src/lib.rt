@@ -14,8 +14,6 @@ mod objects;
 mod registers;
 mod rows;
 mod shown;
-#[cfg(test)]
-mod tests;
 
 pub use editing::by_scene;
 pub use objects::Objects;

@@ -10,8 +10,6 @@ mod linked;
 mod look;
 mod slots;
 mod style;
-#[cfg(test)]
-mod tests;
 pub mod values;
 
 ghost use Rattle.std.specs.Prelude.{◌≡◌};

@@ -48,5 +48,3 @@ pub use printing::print;
 pub use reading::parse;
 pub use script::Script;
 
-#[cfg(test)]
-mod tests;

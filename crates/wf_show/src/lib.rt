@@ -11,8 +11,6 @@ mod player;
 mod players;
 mod playing;
 mod teaching;
-#[cfg(test)]
-mod tests;
 mod together;
 
 pub use client::run_client;

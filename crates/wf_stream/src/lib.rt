@@ -5,8 +5,6 @@ mod naming;
 mod store;
 mod stream;
 mod streams;
-#[cfg(test)]
-mod tests;
 
 pub use naming::{begin_name, end_name};
 pub use store::Store;

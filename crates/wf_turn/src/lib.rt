@@ -17,8 +17,6 @@ mod show;
 mod skipping;
 mod stage;
 mod taking;
-#[cfg(test)]
-mod tests;
 mod turning;
 
 pub use laws::{each_frame_is_of_a_moment, each_frame_tells_its_place, each_screen_is_of_a_moment};
