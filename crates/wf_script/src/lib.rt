@@ -47,4 +47,3 @@ pub use name::Name;
 pub use printing::print;
 pub use reading::parse;
 pub use script::Script;
-
