@@ -1,7 +1,7 @@
 //! A call, and what it does.
 
-ghost use Rattle.std.specs.Prelude.{◌≡◌, IsTrue, MatchOption};
-ghost use Rattle.wf_calls.specs.Parts.{carries, is_of_core, part_of};
+ghost use Rattle.std.specs.Prelude.{◌≡◌, IsTrue, IsFalse, MatchOption};
+ghost use Rattle.wf_calls.specs.Parts.{carries, is_begin, is_of_core, part_of};
 ghost use Rattle.wf_calls.specs.Replies.{bare};
 ghost use Rattle.wf_machine.specs.Object.{IsAct};
 
@@ -62,20 +62,31 @@ impl Parts {
         self.display.run(&mut self.store, call)
     }
 
-    /// Does what a call asks for that may bring a write buffer or a Job, or takes one. A function of its own, so that the
-    /// other calls move none.
+    /// Begins the frame that a call asks for.
+    pub(crate) fn act_begin(&mut self, call: &Call) -> Reply
+        requires { IsTrue (is_begin call.now) }
+        ensures { IsAct self.old call.now self.new result }
+    {
+        match call {
+            Call::BeginNext { after } => self.begin_next(*after),
+            Call::BeginPort { port } => self.begin_port(*port),
+            Call::BeginContext { device, context } => self.begin_composed(*device, *context),
+            _ => unreachable!(),
+        }
+    }
+
+    /// Does what a call asks for that brings a write buffer, or takes one or a Job. A function of its own, so that the other
+    /// calls move none.
     #[inline(never)]
     pub(crate) fn act_carrying(&mut self, call: Call) -> Reply
-        requires { IsTrue (carries (part_of call)) }
+        requires carries { IsTrue (carries (part_of call)) }
+        requires other { IsFalse (is_begin call) }
         ensures { IsAct self.old call self.new result }
     {
         match call {
             Call::Acquire { stream } => self.acquire(stream),
             Call::Post(canvas) => self.post(canvas),
             Call::Discard(canvas) => self.discard(canvas),
-            Call::BeginNext { after } => self.begin_next(after),
-            Call::BeginPort { port } => self.begin_port(port),
-            Call::BeginContext { device, context } => self.begin_composed(device, context),
             Call::End(job) => self.end(job),
             _ => unreachable!(),
         }

@@ -1,6 +1,6 @@
 //! The machine.
 
-ghost use Rattle.std.specs.Prelude.{◌≡◌, ◌<◌, IfOk, IfSome, IsTrue, length, true};
+ghost use Rattle.std.specs.Prelude.{◌≡◌, ◌<◌, IfOk, IfSome, IsTrue, IsFalse, length, true};
 ghost use Rattle.std.specs.Option.{IfNone};
 ghost use Rattle.wf_stream.specs.Streams.{held};
 ghost use Rattle.wf_calls.specs.Creations.{is_creation};
@@ -9,7 +9,7 @@ ghost use Rattle.wf_calls.specs.Replies.{bare};
 ghost use Rattle.wf_calls.specs.PortRules.{may_declare};
 ghost use Rattle.wf_model.specs.Names.{kept, names};
 ghost use Rattle.wf_model.specs.State.{opening};
-ghost use Rattle.wf_machine.specs.Object.{IsMarkedStep, IsRefusal, IsStep, MayAnswer, MayDeny, after, denied, is_ready};
+ghost use Rattle.wf_machine.specs.Object.{IsMarkedStep, IsRefusal, MayAnswer, MayDeny, after, denied, is_ready};
 ghost use Rattle.wf_calls.specs.Parts.{is_begin};
 
 use crate::parts::Parts;
@@ -59,12 +59,42 @@ impl Machine {
         self.parts.act_plain(call)
     }
 
-    /// Runs a client's call that may bring a write buffer or a Job, or takes one.
-    fn carry(&mut self, client: u8, call: Call) -> Reply
-        requires { IsTrue (carries (part_of call)) }
-        ensures { IsStep self.old client call self.new result }
+    /// Runs a client's call that begins a frame, as `run` does, and leaves the call where it is.
+    pub fn begin(&mut self, client: u8, call: &Call) -> Reply
+        requires { IsTrue (is_begin call.now) }
+        ensures after { self.new ≡ after self.old client call.now result }
+        ensures may { MayAnswer self.old client call.now result }
+        ensures lifetime { self.new.streams ≡ kept self.new }
+        ensures refused { IsRefusal self.old self.new call.now result.code }
+    {
+        self.parts.act_begin(call)
+    }
+
+    /// Runs a client's call that brings a write buffer, or takes one or a Job, as `run` does.
+    pub fn carry(&mut self, client: u8, call: Call) -> Reply
+        requires carries { IsTrue (carries (part_of call)) }
+        requires other { IsFalse (is_begin call) }
+        ensures after { self.new ≡ after self.old client call result }
+        ensures may { MayAnswer self.old client call result }
+        ensures lifetime { self.new.streams ≡ kept self.new }
+        ensures refused { IsRefusal self.old self.new call result.code }
     {
         self.parts.act_carrying(call)
+    }
+
+    /// Runs a client's call that `answer` does not.
+    fn run_carrying(&mut self, client: u8, call: Call) -> Reply
+        requires { IsTrue (carries (part_of call)) }
+        ensures after { self.new ≡ after self.old client call result }
+        ensures may { MayAnswer self.old client call result }
+        ensures lifetime { self.new.streams ≡ kept self.new }
+        ensures refused { IsRefusal self.old self.new call result.code }
+    {
+        if call.is_begin() {
+            self.begin(client, &call)
+        } else {
+            self.carry(client, call)
+        }
     }
 
     /// Runs a client's call, as one indivisible step. A stream that the call leaves without a name is dropped in it. A
@@ -78,7 +108,7 @@ impl Machine {
     {
         match self.answer(client, &call) {
             Some(answer) => Reply::bare(answer),
-            None => self.carry(client, call),
+            None => self.run_carrying(client, call),
         }
     }
 

@@ -1,5 +1,7 @@
 //! One turn of a program.
 
+ghost use Rattle.std.specs.Prelude.{IsTrue, IsFalse};
+ghost use Rattle.wf_calls.specs.Parts.{carries, is_begin, part_of};
 ghost use Rattle.wf_turn.specs.Playing.{Answers, IsReady, TakesTurn};
 ghost use Rattle.wf_turn.specs.Program.{is_work, worked};
 ghost use Rattle.wf_turn.specs.Ready.{IsWork};
@@ -34,17 +36,44 @@ pub(crate) fn take_turn(
     }
 }
 
-/// The turn of a call that may carry an image, or bring one: a function of its own, so that the other turns move none.
-#[inline(never)]
+/// The turn of a call that begins a frame, or that carries an image or brings one: functions of their own, so that the other
+/// turns move none.
 pub(crate) fn take_carrying_turn(
     machine: &mut Machine,
     program: &mut Program,
     client: u8,
     call: &mut Call,
 ) -> Turn
+    requires { IsTrue (carries (part_of call.old)) }
     ensures { Answers client machine.old machine.new call.old program.old program.new result }
 {
-    let reply = machine.run(client, mem::replace(call, Call::DeviceNew));
+    if call.is_begin() {
+        take_begin(machine, program, client, call)
+    } else {
+        take_image(machine, program, client, call)
+    }
+}
+
+/// The turn of a call that begins a frame.
+#[inline(never)]
+fn take_begin(machine: &mut Machine, program: &mut Program, client: u8, call: &Call) -> Turn
+    requires { IsTrue (is_begin call.now) }
+    ensures { Answers client machine.old machine.new call.now program.old program.new result }
+{
+    let reply = machine.begin(client, call);
+    let turn = reply.entry(client);
+    program.took(reply);
+    turn
+}
+
+/// The turn of a call that carries an image or brings one.
+#[inline(never)]
+fn take_image(machine: &mut Machine, program: &mut Program, client: u8, call: &mut Call) -> Turn
+    requires carries { IsTrue (carries (part_of call.old)) }
+    requires other { IsFalse (is_begin call.old) }
+    ensures { Answers client machine.old machine.new call.old program.old program.new result }
+{
+    let reply = machine.carry(client, mem::replace(call, Call::DeviceNew));
     let turn = reply.entry(client);
     program.took(reply);
     turn

@@ -48,3 +48,6 @@ returns-in-None-clause-takes c = (carried c).0
 
 pub returns-in-None-clause-work : goal.returns-in-None-clause-work
 returns-in-None-clause-work c = (carried c).1
+
+pub take_carrying_turn-requires : goal.take_carrying_turn-requires
+take_carrying_turn-requires c = (rw c.in-None.is at c.answer.ensures.carries).0

@@ -12,5 +12,14 @@ made c =
 pub invariant_of-self : goal.invariant_of-self
 invariant_of-self c = (made c).settled
 
-pub returns : goal.returns
-returns c = made c
+pub returns-clause-after : goal.returns-clause-after
+returns-clause-after c = (made c).after_is
+
+pub returns-clause-may : goal.returns-clause-may
+returns-clause-may c = (made c).answer
+
+pub returns-clause-lifetime : goal.returns-clause-lifetime
+returns-clause-lifetime c = (made c).settled
+
+pub returns-clause-refused : goal.returns-clause-refused
+returns-clause-refused c = (made c).refused
