@@ -62,7 +62,8 @@ pub any_stays : {A : Type 0} (f : A → ℕ) (q : A → Bool) (n m : ℕ) (xs : 
 any_stays f q n m xs none =
     by_number (list_any (λ x. (f x == n) && q x) xs ≡ (not (n == m) && list_any (λ x. (f x == n) && q x) xs)) n m
     (λ is same. rw is (false_from_ne_true (list_any (λ x. (f x == n) && q x) xs) (λ there.
-    both_ways (list_any (λ x. f x == m) xs) none (ap (λ k. list_any (λ x. f x == k) xs) (sym same) ∙ any_first (λ x. f x == n) q xs there))))
+    both_ways (list_any (λ x. f x == m) xs) none (ap (λ k. list_any (λ x. f x == k) xs) (sym same)
+    ∙ any_first (λ x. f x == n) q xs there))))
     (λ other. rw other refl)
 
 -- one that leaves is one less

@@ -1,6 +1,6 @@
 -- A context or a device that loses what is its, one object after another.
-use Rattle.std.proofs.Common.{◌≡◌, ℕ, ◌<◌, Bool, true, false, cond, not, ◌==◌, ◌&&◌, ◌||◌, List, [], ◌∷◌, ◌+◌, length, filter, find, option_map}
-use Rattle.std.proofs.Common.{Option, Some, None, is_some, refl, sym, ap, ◌∙◌, map, set, slice_get, IfSome, arith, length-set}
+use Rattle.std.proofs.Common.{◌≡◌, ℕ, ◌<◌, Bool, true, false, cond, not, ◌==◌, ◌&&◌, ◌||◌, List, [], ◌∷◌, ◌+◌, length, filter, find}
+use Rattle.std.proofs.Common.{option_map, Option, Some, None, is_some, refl, sym, ap, ◌∙◌, map, set, slice_get, IfSome, arith, length-set}
 use Rattle.std.specs.List.{list_any}
 use Rattle.wf_stream.specs.Streams.{StoreView}
 use Rattle.wf_model.specs.Objects.{Context, CoreState, Source}
@@ -95,7 +95,8 @@ pub link_of : (core : CoreState) (store : StoreView) → HandlesFit core store �
     → list_any (λ s. (s.handle == h) && (s.context == c)) (links mask core) ≡ true → IsLinkOf c h (links mask core)
 link_of core store fits mask c h there =
     let s = some_at (λ x. (x.handle == h) && (x.context == c)) (links mask core) there in
-    let parts = and_parts (s.0.handle == h) (s.0.context == c) (passes (λ x. (x.handle == h) && (x.context == c)) (links mask core) s.0 s.1) in
+    let parts = and_parts (s.0.handle == h) (s.0.context == c)
+    (passes (λ x. (x.handle == h) && (x.context == c)) (links mask core) s.0 s.1) in
     record {
       source = s.0;
       found = ap (λ n. find (λ x. x.handle == n) (links mask core)) (sym (eqb-true s.0.handle h parts.0))

@@ -160,14 +160,17 @@ module _ (m l : Membership) (core : CoreState) (old : AreTracked m l core) where
       (sym (any_link (λ k. (k.0 == h) && (k.1 == c)))
       ∙ owns (16, 256) l (context_handles core) (link_keys core) old.of_contexts c h there)
     where
-      by_kind : (b : Bool) → list_any (is_link c h) (links (not b) core) ≡ false → (list_any (is_link c h) core.sources || list_any (is_link c h) core.masks) ≡ true
+      by_kind : (b : Bool) → list_any (is_link c h) (links (not b) core) ≡ false
+          → (list_any (is_link c h) core.sources || list_any (is_link c h) core.masks) ≡ true
           → list_any (is_link c h) (links b core) ≡ true
-      by_kind false other both = sym (ap (λ b. list_any (is_link c h) core.sources || b) other ∙ or-false (list_any (is_link c h) core.sources)) ∙ both
+      by_kind false other both =
+          let sources : Bool = list_any (is_link c h) core.sources in sym (ap (λ b. sources || b) other ∙ or-false sources) ∙ both
       by_kind true other both = sym (ap (λ b. b || list_any (is_link c h) core.masks) other) ∙ both
 
   pub has_no_link : (c : ℕ) → None ≡ lowest (members_of c l) → (mask : Bool) → list_any (λ s. s.context == c) (links mask core) ≡ false
   has_no_link c none mask =
-      by_kind mask (sym (any_link (λ k. k.1 == c)) ∙ owns_nothing (16, 256) l (context_handles core) (link_keys core) old.of_contexts c none)
+      by_kind mask (sym (any_link (λ k. k.1 == c))
+      ∙ owns_nothing (16, 256) l (context_handles core) (link_keys core) old.of_contexts c none)
     where
       both : (a b : Bool) → (a || b) ≡ false → (a ≡ false) × (b ≡ false)
       both true b none = absurd cc
@@ -201,7 +204,13 @@ module _ (m l : Membership) (core : CoreState) (old : AreTracked m l core) where
 
   pub devices_room : length core.devices < 8 → open_count m < most_owners m
   devices_room less =
-      omega (arith, less, old.of_devices.owner_count, length-map core.devices (λ x. x.handle), ap (λ (k : ℕ × ℕ). k.0) old.of_devices.limits_are)
+      omega (
+        arith,
+        less,
+        old.of_devices.owner_count,
+        length-map core.devices (λ x. x.handle),
+        ap (λ (k : ℕ × ℕ). k.0) old.of_devices.limits_are,
+      )
 
   pub contexts_room : length core.contexts < 16 → member_count m < most_members m
   contexts_room less =
@@ -232,7 +241,8 @@ module _ (m l : Membership) (core : CoreState) (old : AreTracked m l core) where
 
   -- changes that leave each handle with its owner
 
-  pub tracked_on : (new : CoreState) → device_handles new ≡ device_handles core → map context_key new.contexts ≡ map context_key core.contexts
+  pub tracked_on : (new : CoreState) → device_handles new ≡ device_handles core
+      → map context_key new.contexts ≡ map context_key core.contexts
       → context_handles new ≡ context_handles core → link_keys new ≡ link_keys core → AreTracked m l new
   tracked_on new devices contexts handles keys =
       record {

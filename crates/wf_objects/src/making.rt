@@ -1,6 +1,7 @@
 //! New objects, each under the handle that comes next.
 
-ghost use Rattle.std.specs.Prelude.{◌≡◌, ◌≢◌, ◌+◌, ◌<◌, ◌==◌, ◌++◌, ◌∷◌, [], Bool, false, length, Ok, IfOk, IsSomeAnd, IsTrue, IsFalse, OnOk, OnErr};
+ghost use Rattle.std.specs.Prelude.{◌≡◌, ◌≢◌, ◌+◌, ◌<◌, ◌==◌, ◌++◌, ◌∷◌, [], Bool, false, length, Ok};
+ghost use Rattle.std.specs.Prelude.{IfOk, IsSomeAnd, IsTrue, IsFalse, OnOk, OnErr};
 ghost use Rattle.std.specs.List.{list_any};
 ghost use Rattle.wf_pixel.specs.Choice.{is_a8};
 ghost use Rattle.wf_stream.specs.Streams.{buffers_at, is_stream, with_other};

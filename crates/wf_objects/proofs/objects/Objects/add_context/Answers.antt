@@ -41,7 +41,8 @@ pub open-requires-clause-closed : goal.open-requires-clause-closed
 open-requires-clause-closed c =
     let s = c.self.inside in
     let a = c.args in
-    rw c.in_ok-handle.ensures.handle (no_context_open s.members s.linked a.self.now (tracked_as s a.self.now c.self.invariant c.self.view_is)
+    let tracked = tracked_as s a.self.now c.self.invariant c.self.view_is in
+    rw c.in_ok-handle.ensures.handle (no_context_open s.members s.linked a.self.now tracked
     (a.store.now.made + 1) (fresh_context a.self.now a.store.now c.requires.fits.handles))
 
 pub open-requires-clause-room : goal.open-requires-clause-room
