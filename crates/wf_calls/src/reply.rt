@@ -2,7 +2,7 @@
 
 ghost use Rattle.std.specs.Prelude.{◌≡◌};
 ghost use Rattle.wf_calls.specs.Codes.{entry};
-ghost use Rattle.wf_calls.specs.Replies.{bare, done, gives_back_canvas, gives_back_job, gives_canvas, gives_job, refusal, refused, told};
+ghost use Rattle.wf_calls.specs.Replies.{bare, done, refusal, refused, told, with_canvas, with_job};
 
 use crate::call::Job;
 use crate::code::Code;
@@ -93,47 +93,31 @@ impl Reply {
         }
     }
 
-    /// The reply that gives a write buffer.
-    pub fn giving_canvas(canvas: Canvas) -> Reply
-        ensures { result ≡ gives_canvas canvas }
+    /// The reply with which a write buffer comes, or nothing.
+    pub fn with_canvas(answer: Answer, canvas: Option<Canvas>) -> Reply
+        ensures { result ≡ with_canvas (answer, canvas) }
     {
         Reply {
-            code: Code::Ok,
-            value: 0,
-            payload: Payload::Canvas(canvas),
+            code: answer.code,
+            value: answer.value,
+            payload: match canvas {
+                Some(canvas) => Payload::Canvas(canvas),
+                None => Payload::Nothing,
+            },
         }
     }
 
-    /// The reply that gives a Job beside its value.
-    pub fn giving_job(value: u32, job: Job) -> Reply
-        ensures { result ≡ gives_job value job }
+    /// The reply with which a Job comes, or nothing.
+    pub fn with_job(answer: Answer, job: Option<Job>) -> Reply
+        ensures { result ≡ with_job answer job }
     {
         Reply {
-            code: Code::Ok,
-            value,
-            payload: Payload::Job(job),
-        }
-    }
-
-    /// The reply that hands a refused canvas back.
-    pub fn giving_back_canvas(canvas: Canvas) -> Reply
-        ensures { result ≡ gives_back_canvas canvas }
-    {
-        Reply {
-            code: Code::BadHandle,
-            value: 0,
-            payload: Payload::Canvas(canvas),
-        }
-    }
-
-    /// The reply that hands a refused Job back.
-    pub fn giving_back_job(job: Job) -> Reply
-        ensures { result ≡ gives_back_job job }
-    {
-        Reply {
-            code: Code::BadHandle,
-            value: 0,
-            payload: Payload::Job(job),
+            code: answer.code,
+            value: answer.value,
+            payload: match job {
+                Some(job) => Payload::Job(job),
+                None => Payload::Nothing,
+            },
         }
     }
 

@@ -4,7 +4,7 @@ use Rattle.wf_machine.proofs.Common.{◌∙◌, Live, Canvas, Bitmap, Buffers, K
 use Rattle.wf_machine.proofs.Common.{is_out_of_memory, CoreState, screen_of, end, is_of_frame, bare, refused, Running, State, act}
 use Rattle.wf_machine.proofs.Common.{acquire_step, canvas_back, is_out_at_client, Fits, Inside, Holds, IsSound, IsSettled, settled_so}
 use Rattle.wf_machine.proofs.Common.{state_of, IsAct, IsAnswer}
-use Rattle.wf_machine.proofs.Common.{SameImage, ◌+◌, length, map, length-map}
+use Rattle.wf_machine.proofs.Common.{IfSome, SameImage, ◌+◌, length, map, length-map}
 use Rattle.wf_machine.proofs.Common.{DisplayState, modes_of, core_names, display_names, settle}
 use Rattle.wf_life.specs.declared.Kind.{Kind}
 use Rattle.wf_life.specs.declared.Kind.TheVariants as lives
@@ -18,7 +18,8 @@ use Rattle.wf_model.specs.Composing.{composed, core_side, with_side}
 use Rattle.wf_model.specs.Core.{core_call}
 use Rattle.wf_calls.specs.Parts.{device_of, is_of_core, of_core, part_of}
 use Rattle.wf_calls.specs.declared.reply.Answer.{Answer}
-use Rattle.wf_calls.specs.Replies.{told}
+use Rattle.wf_calls.specs.Replies.{told, with_job}
+use Rattle.wf_calls.specs.declared.call.Call.TheVariants as call
 use Rattle.wf_calls.specs.declared.part.Part.TheVariants as part
 use Rattle.std.proofs.lemmas.List.Sums.{length-filter}
 use Rattle.wf_life.specs.Handles.{same_kind}
@@ -131,6 +132,14 @@ plain_end job h = of_frame h.frame refl
     of_frame : (o : Option Running) → h.frame ≡ o → IsPlain (end job h).1
     of_frame None free = rw free tt
     of_frame (Some f) runs = of_test f runs (is_of_frame job f) refl
+
+-- the Job that stands in a place is ended
+pub as_ended : (h left : State) (a : Answer) (o now : Option Job) → IfSome o (λ job. settled_so (end job h) ≡ (left, with_job a now))
+    → IfSome o (λ job. IsAct h (call.End job) left (with_job a now))
+unfolding act
+as_ended h left a None now ends = tt
+as_ended h left a (Some job) now ends =
+    as_act h left (call.End job) (call.End job) (with_job a now) refl ends (plain_of _ _ _ ends (plain_end job h))
 
 -- what calls see of the machine is what they see of its state
 

@@ -4,8 +4,10 @@ use Rattle.wf_machine.proofs.Common.{is_out_of_memory, Register, no_register, of
 use Rattle.wf_machine.proofs.Common.{offered}
 use Rattle.wf_machine.proofs.Common.{State, act, step}
 use Rattle.wf_machine.proofs.Common.{IsAct, IsSettled, IsStep, IsTrue, Option, None, Some, bare}
-use Rattle.std.specs.Option.{IfNone, IfSome, MatchOption}
+use Rattle.std.specs.Option.{IfNone, IfSome, IsSome, MatchOption}
 use Rattle.wf_calls.specs.Parts.{carries, part_of}
+use Rattle.wf_calls.specs.declared.call.Call.TheVariants as call
+use Rattle.wf_calls.specs.declared.call.Job.{Job}
 use Rattle.wf_calls.specs.declared.reply.Answer.{Answer}
 use Rattle.wf_model.specs.Effects.{refused_leaves}
 use Rattle.wf_machine.specs.Object.{IsMarkedAct, IsMarkedStep, IsRefusal, MayAnswer, after}
@@ -69,6 +71,24 @@ marked_acts m h was seen c left r done = subst (λ t. IsMarkedAct m t c left r) 
 
 pub acts : (h was : State) → was ≡ h → (c : Call) (left : State) (r : Reply) → IsAct was c left r → IsAct h c left r
 acts h was seen c left r done = marked_acts (is_out_of_memory r.code) h was seen c left r done
+
+-- what the parts did is a step of the machine that is made of them
+pub ran : (m : Bool) (h was : State) (client : ℕ) (c : Call) (left : State) (r : Reply) → was ≡ h → IsSettled was
+    → IsMarkedAct m was c left r → IsMarkedStep m h client c left r
+ran m h was client c left r seen named done =
+    marked_stepped m h client c left r (marked_acts m h was seen c left r done) (subst IsSettled seen named)
+
+-- so it is where that ends the Job of a place
+
+pub ran_end : (h was : State) (client : ℕ) (left : State) (r : Reply) (o : Option Job) → was ≡ h → IsSettled was
+    → IfSome o (λ job. IsAct was (call.End job) left r) → IfSome o (λ job. IsStep h client (call.End job) left r)
+ran_end h was client left r None seen named did = tt
+ran_end h was client left r (Some job) seen named did = ran (is_out_of_memory r.code) h was client (call.End job) left r seen named did
+
+pub end_settled : (h : State) (client : ℕ) (left : State) (r : Reply) (o : Option Job) → IsSome o
+    → IfSome o (λ job. IsStep h client (call.End job) left r) → IsSettled left
+end_settled h client left r None some did = absurd cc
+end_settled h client left r (Some job) some did = did.settled
 
 -- a call that carries nothing is answered, and any other is left
 

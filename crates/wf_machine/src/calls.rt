@@ -1,12 +1,13 @@
 //! A call, and what it does.
 
-ghost use Rattle.std.specs.Prelude.{◌≡◌, IsTrue, IsFalse, MatchOption};
+ghost use Rattle.std.specs.Prelude.{◌≡◌, IsTrue, IfSome, IsSome, MatchOption, None};
 ghost use Rattle.wf_calls.specs.Parts.{carries, is_begin, is_of_core, part_of};
-ghost use Rattle.wf_calls.specs.Replies.{bare};
+ghost use Rattle.wf_calls.specs.Replies.{bare, with_canvas, with_job};
 ghost use Rattle.wf_machine.specs.Object.{IsAct};
 
 use crate::parts::Parts;
-use wf_calls::{Answer, Call, Part, Reply};
+use wf_calls::{Answer, Call, Job, Part};
+use wf_image::Canvas;
 
 impl Parts {
     /// Does what a call asks for that brings nothing and takes nothing, or none where it is another call.
@@ -62,33 +63,46 @@ impl Parts {
         self.display.run(&mut self.store, call)
     }
 
-    /// Begins the frame that a call asks for.
-    pub(crate) fn act_begin(&mut self, call: &Call) -> Reply
-        requires { IsTrue (is_begin call.now) }
-        ensures { IsAct self.old call.now self.new result }
+    /// Begins the frame that a call asks for. Its Job is put in a place that holds none.
+    pub(crate) fn act_begin(&mut self, call: &Call, job: &mut Option<Job>) -> Answer
+        requires begins { IsTrue (is_begin call.now) }
+        requires empty { job.old ≡ None }
+        ensures { IsAct self.old call.now self.new (with_job result job.new) }
     {
         match call {
-            Call::BeginNext { after } => self.begin_next(*after),
-            Call::BeginPort { port } => self.begin_port(*port),
-            Call::BeginContext { device, context } => self.begin_composed(*device, *context),
+            Call::BeginNext { after } => self.begin_next(*after, job),
+            Call::BeginPort { port } => self.begin_port(*port, job),
+            Call::BeginContext { device, context } => self.begin_composed(*device, *context, job),
             _ => unreachable!(),
         }
     }
 
-    /// Does what a call asks for that brings a write buffer, or takes one or a Job. A function of its own, so that the other
-    /// calls move none.
-    #[inline(never)]
-    pub(crate) fn act_carrying(&mut self, call: Call) -> Reply
-        requires carries { IsTrue (carries (part_of call)) }
-        requires other { IsFalse (is_begin call) }
-        ensures { IsAct self.old call self.new result }
+    /// Ends the frame of the Job in a place.
+    pub(crate) fn act_end(&mut self, job: &mut Option<Job>) -> Answer
+        requires { IsSome job.old }
+        ensures { IfSome job.old (λ j. IsAct self.old (Call.End j) self.new (with_job result job.new)) }
     {
-        match call {
-            Call::Acquire { stream } => self.acquire(stream),
-            Call::Post(canvas) => self.post(canvas),
-            Call::Discard(canvas) => self.discard(canvas),
-            Call::End(job) => self.end(job),
-            _ => unreachable!(),
-        }
+        self.end(job)
+    }
+
+    /// Takes a stream's write buffer.
+    pub(crate) fn act_acquire(&mut self, stream: u32) -> (Answer, Option<Canvas>)
+        ensures { IsAct self.old (Call.Acquire stream) self.new (with_canvas result) }
+    {
+        self.acquire(stream)
+    }
+
+    /// Makes a write buffer the newest image of its stream.
+    pub(crate) fn act_post(&mut self, canvas: Canvas) -> (Answer, Option<Canvas>)
+        ensures { IsAct self.old (Call.Post canvas) self.new (with_canvas result) }
+    {
+        self.post(canvas)
+    }
+
+    /// Gives a write buffer back unseen.
+    pub(crate) fn act_discard(&mut self, canvas: Canvas) -> (Answer, Option<Canvas>)
+        ensures { IsAct self.old (Call.Discard canvas) self.new (with_canvas result) }
+    {
+        self.discard(canvas)
     }
 }

@@ -1,46 +1,55 @@
 //! Frames that clients compose.
 
-ghost use Rattle.std.specs.Prelude.{◌≡◌};
+ghost use Rattle.std.specs.Prelude.{◌≡◌, None};
 ghost use Rattle.wf_calls.specs.Parts.{no_register, of_device};
+ghost use Rattle.wf_calls.specs.Replies.{with_job};
 ghost use Rattle.wf_model.specs.Frames.{begin_composed, started};
 ghost use Rattle.wf_machine.specs.Object.{IsAnswer, IsSettled};
 
 use crate::parts::Parts;
-use crate::replies::refused;
-use wf_calls::{Code, Reply};
+use crate::replies::refuse;
+use wf_calls::{Answer, Code, Job};
 
 impl Parts {
     /// Begins a frame of a device's context that is not active. The device's register takes a refusal.
     #[inline(never)]
-    pub(crate) fn begin_composed(&mut self, device: u32, context: u32) -> Reply
+    pub(crate) fn begin_composed(
+        &mut self,
+        device: u32,
+        context: u32,
+        job: &mut Option<Job>,
+    ) -> Answer
+        requires empty { job.old ≡ None }
         ensures left { self.new ≡ (started (of_device device) self.old (begin_composed device context self.old)).0 }
         ensures settled { IsSettled self.new }
-        ensures answer { IsAnswer (started (of_device device) self.old (begin_composed device context self.old)).1 result }
+        ensures answer { IsAnswer (started (of_device device) self.old (begin_composed device context self.old)).1
+            (with_job result job.new) }
     {
-        let reply = self.compose(device, context);
-        if !reply.code.is_ok() {
-            self.core.record(device, reply.code);
+        let answer = self.compose(device, context, job);
+        if !answer.code.is_ok() {
+            self.core.record(device, answer.code);
         }
-        reply
+        answer
     }
 
     /// Begins a frame of a device's context that is not active. No register takes a refusal yet.
-    fn compose(&mut self, device: u32, context: u32) -> Reply
+    fn compose(&mut self, device: u32, context: u32, job: &mut Option<Job>) -> Answer
+        requires empty { job.old ≡ None }
         ensures left { self.new ≡ (started no_register self.old (begin_composed device context self.old)).0 }
         ensures settled { IsSettled self.new }
-        ensures answer { IsAnswer (started no_register self.old (begin_composed device context self.old)).1 result }
+        ensures answer { IsAnswer (started no_register self.old (begin_composed device context self.old)).1 (with_job result job.new) }
     {
         self.all_named();
         let shown = match self.core.context(device, context) {
             Ok(shown) => shown,
-            Err(code) => return refused(code),
+            Err(code) => return refuse(code),
         };
         if shown.active {
-            return refused(Code::Unsupported);
+            return refuse(Code::Unsupported);
         }
         if self.is_busy() {
-            return refused(Code::Busy);
+            return refuse(Code::Busy);
         }
-        self.begin_context(0, context, shown)
+        self.begin_context(0, context, &shown, job)
     }
 }

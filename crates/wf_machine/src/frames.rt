@@ -4,6 +4,7 @@ ghost use Rattle.std.specs.List.{AllByRecursion};
 ghost use Rattle.std.specs.Prelude.{◌≡◌, ◌<◌, ◌+◌, ◌-◌, ◌^◌, None, Ok, IfSome, IsSome, MatchOption, Some, length, map};
 ghost use Rattle.wf_words.specs.Keyed.{nth};
 ghost use Rattle.wf_calls.specs.Parts.{no_register};
+ghost use Rattle.wf_calls.specs.Replies.{with_job};
 ghost use Rattle.wf_stream.specs.Streams.{buffers_at};
 ghost use Rattle.wf_words.specs.Whole.{count_of};
 ghost use Rattle.wf_model.specs.Display.{begun_display, port_scene};
@@ -17,13 +18,13 @@ ghost use Rattle.wf_machine.specs.Ports.{sizes_of};
 ghost use Rattle.wf_machine.specs.Starting.{IsReady, IsTargetOf, MayStart, beginning_of};
 
 use crate::frame::Frame;
-use crate::latching::{bring_home, latch_scene, names};
+use crate::latching::{Latched, bring_home, latch_scene, names};
 use crate::naming::{begin_names, end_names};
 use crate::parts::Parts;
 use crate::port::{Port, put_image, take_image};
-use crate::replies::refused;
+use crate::replies::refuse;
 use crate::streams::{acquire_image, post_to};
-use wf_calls::{Answer, Code, Job, JobKind, Refusal, Reply};
+use wf_calls::{Answer, Code, Job, JobKind, Refusal};
 use wf_core::Shown;
 use wf_image::{Canvas, Image};
 use wf_scene::Scene;
@@ -73,39 +74,49 @@ impl Parts {
 
     /// Begins a frame of the next active context, if there is one.
     #[inline(never)]
-    pub(crate) fn begin_next(&mut self, after: u32) -> Reply
+    pub(crate) fn begin_next(&mut self, after: u32, job: &mut Option<Job>) -> Answer
+        requires empty { job.old ≡ None }
         ensures left { self.new ≡ (started no_register self.old (begin_next after self.old)).0 }
         ensures settled { IsSettled self.new }
-        ensures answer { IsAnswer (started no_register self.old (begin_next after self.old)).1 result }
+        ensures answer { IsAnswer (started no_register self.old (begin_next after self.old)).1 (with_job result job.new) }
     {
         self.all_named();
         if self.is_busy() {
-            return refused(Code::Busy);
+            return refuse(Code::Busy);
         }
         match self.core.next(after) {
-            Some((handle, shown)) => self.begin_context(handle, handle, shown),
-            None => Reply::bare(Answer::done(0)),
+            Some((handle, shown)) => self.begin_context(handle, handle, &shown, job),
+            None => Answer::done(0),
         }
     }
 
     /// Begins a frame of a context that is live, while none runs. A refusal has this value.
-    pub(crate) fn begin_context(&mut self, value: u32, handle: u32, shown: Shown) -> Reply
+    pub(crate) fn begin_context(
+        &mut self,
+        value: u32,
+        handle: u32,
+        shown: &Shown,
+        job: &mut Option<Job>,
+    ) -> Answer
+        requires empty { job.old ≡ None }
         requires free { self.old.frame ≡ None }
         requires home { AreAtHome self.old.streams }
-        requires fits { IsComposable self.old.streams shown.target shown.scene }
-        ensures left { self.new ≡ (started no_register self.old (begin_context value handle shown.target shown.scene self.old)).0 }
+        requires fits { IsComposable self.old.streams shown.now.target shown.now.scene }
+        ensures left { self.new
+            ≡ (started no_register self.old (begin_context value handle shown.now.target shown.now.scene self.old)).0 }
         ensures settled { IsSettled self.new }
-        ensures answer { IsAnswer (started no_register self.old (begin_context value handle shown.target shown.scene self.old)).1 result }
+        ensures answer { IsAnswer (started no_register self.old (begin_context value handle shown.now.target shown.now.scene self.old)).1
+            (with_job result job.new) }
     {
         self.all_named();
-        if let Err(refusal) = self.target_ready(value, &shown) {
-            return Reply::bare(Answer::refused(refusal));
+        if let Err(refusal) = self.target_ready(value, shown) {
+            return Answer::refused(refusal);
         }
         let kind = JobKind::Context {
             handle,
             target: shown.target,
         };
-        self.start_frame(kind, 0, shown.scene, handle)
+        self.start_frame(kind, 0, &shown.scene, handle, job)
     }
 
     /// A frame of a context may be drawn into its target, which is kept. A refusal has this value.
@@ -132,31 +143,33 @@ impl Parts {
 
     /// Begins a frame of a port, which is counted from 1, where it gives frames.
     #[inline(never)]
-    pub(crate) fn begin_port(&mut self, port: i64) -> Reply
+    pub(crate) fn begin_port(&mut self, port: i64, job: &mut Option<Job>) -> Answer
+        requires empty { job.old ≡ None }
         ensures left { self.new ≡ (settled_so (started no_register self.old (begin_port port self.old))).0 }
-        ensures answer { IsAnswer (started no_register self.old (begin_port port self.old)).1 result }
+        ensures answer { IsAnswer (started no_register self.old (begin_port port self.old)).1 (with_job result job.new) }
     {
         self.all_named();
         let Some(number) = self.declared_screen(port) else {
-            return refused(Code::BadHandle);
+            return refuse(Code::BadHandle);
         };
         if self.is_busy() {
-            return refused(Code::Busy);
+            return refuse(Code::Busy);
         }
         if !self.display.gives_frames(number) {
-            return Reply::bare(Answer::done(0));
+            return Answer::done(0);
         }
         if self.begun == u64::MAX {
-            return refused(Code::Limit);
+            return refuse(Code::Limit);
         }
         self.core.few_names();
         self.display.few_names();
         self.display.begin(&mut self.store, number);
-        self.start_port(number)
+        self.start_port(number, job)
     }
 
     /// Begins a frame of a port that gives frames, once what waited at its pipelines is current, while no frame runs.
-    fn start_port(&mut self, port: u32) -> Reply
+    fn start_port(&mut self, port: u32, job: &mut Option<Job>) -> Answer
+        requires empty { job.old ≡ None }
         requires free { self.old.frame ≡ None }
         requires few { self.old.begun < 2 ^ 64 - 1 }
         requires shows { IsSome (port_scene port self.old.display) }
@@ -167,7 +180,7 @@ impl Parts {
         ensures layers { IfSome (port_scene port self.old.display)
             (λ scene. AllByRecursion (LayerFits self.old.streams) scene.layers.items) }
         ensures answer { IfSome (port_scene port self.old.display)
-            (λ scene. IsAnswer (start (beginning_of (JobKind.Port port) scene port self.old) self.old).1 result) }
+            (λ scene. IsAnswer (start (beginning_of (JobKind.Port port) scene port self.old) self.old).1 (with_job result job.new)) }
     {
         let Some(mode) = self.display.mode(port) else {
             unreachable!()
@@ -175,24 +188,32 @@ impl Parts {
         let Some(scene) = self.display.scene(port) else {
             unreachable!()
         };
-        self.start_frame(JobKind::Port { port }, mode, scene, port)
+        self.start_frame(JobKind::Port { port }, mode, &scene, port, job)
     }
 
-    /// Begins a frame that may begin, while none runs: the newest images of its scene's streams go into its Job, which is
-    /// answered with a value.
-    fn start_frame(&mut self, kind: JobKind, mode: u32, scene: Scene, value: u32) -> Reply
+    /// Begins a frame that may begin, while none runs: the newest images of its scene's streams go into its Job, which is put
+    /// in its place, and a value is answered.
+    fn start_frame(
+        &mut self,
+        kind: JobKind,
+        mode: u32,
+        scene: &Scene,
+        value: u32,
+        job: &mut Option<Job>,
+    ) -> Answer
         requires free { self.old.frame ≡ None }
         requires few { self.old.begun < 2 ^ 64 - 1 }
-        requires may { MayStart kind mode scene self.old }
-        ensures left { self.new ≡ (start (beginning_of kind scene value self.old) self.old).0 }
+        requires may { MayStart kind mode scene.now self.old }
+        ensures left { self.new ≡ (start (beginning_of kind scene.now value self.old) self.old).0 }
         ensures settled { IsSettled self.new }
-        ensures answer { IsAnswer (start (beginning_of kind scene value self.old) self.old).1 result }
+        ensures answer { IsAnswer (start (beginning_of kind scene.now value self.old) self.old).1 (with_job result job.new) }
     {
-        let (contents, shapes) = latch_scene(&mut self.store, &scene).into_parts();
+        let mut latched = Latched::new();
+        latch_scene(&mut self.store, scene, &mut latched);
         let image = take_target(&mut self.store, &mut self.ports, kind, mode);
         self.core.few_names();
         self.display.few_names();
-        begin_names(&mut self.store, shapes.as_slice(), kind);
+        begin_names(&mut self.store, latched.shapes.as_slice(), kind);
         self.begun += 1;
         self.frame = Some(Frame {
             number: self.begun,
@@ -200,16 +221,16 @@ impl Parts {
             mode,
             size: image.size(),
             format: image.format(),
-            contents: shapes,
+            contents: latched.shapes,
         });
-        let job = Job {
+        *job = Some(Job {
             number: self.begun,
             kind,
-            scene,
-            contents,
+            scene: scene.copy(),
+            contents: latched.contents,
             image,
-        };
-        Reply::giving_job(value, job)
+        });
+        Answer::done(value)
     }
 
     /// Whether a Job is the running frame's.
@@ -222,13 +243,18 @@ impl Parts {
         }
     }
 
-    /// Ends the running frame, whose Job this is, and brings its images home. Any other Job comes back.
-    pub(crate) fn end(&mut self, job: Job) -> Reply
-        ensures { settled_so (end job self.old) ≡ (self.new, result) }
+    /// Ends the running frame, whose Job is in this place, and brings its images home. Any other Job stays there.
+    pub(crate) fn end(&mut self, place: &mut Option<Job>) -> Answer
+        requires { IsSome place.old }
+        ensures { IfSome place.old (λ job. settled_so (end job self.old) ≡ (self.new, with_job result place.new)) }
     {
         self.all_named();
+        let Some(job) = place.take() else {
+            unreachable!()
+        };
         if !self.is_of_running(&job) {
-            return Reply::giving_back_job(job);
+            *place = Some(job);
+            return refuse(Code::BadHandle);
         }
         let Some(frame) = self.frame.take() else {
             unreachable!()
@@ -243,6 +269,6 @@ impl Parts {
             job.image,
         );
         end_names(&mut self.store, frame.contents.as_slice(), kind);
-        Reply::bare(Answer::done(0))
+        Answer::done(0)
     }
 }

@@ -19,8 +19,8 @@ use wf_stream::Store;
 /// The images that a frame took so far, and the size and format of each, in the same order.
 #[derive(Drop)]
 pub(crate) struct Latched {
-    contents: Contents,
-    shapes: ArrayVec<Content, 64>,
+    pub contents: Contents,
+    pub shapes: ArrayVec<Content, 64>,
 }
 
 impl Model for Latched {
@@ -37,7 +37,7 @@ impl Model for Latched {
 
 impl Latched {
     /// Nothing was taken.
-    fn new() -> Latched
+    pub(crate) fn new() -> Latched
         ensures { result ≡ [] }
     {
         Latched {
@@ -74,14 +74,6 @@ impl Latched {
             }
         }
     }
-
-    /// The images, and their shapes.
-    pub(crate) fn into_parts(self) -> (Contents, ArrayVec<Content, 64>)
-        ensures contents { result.0 ≡ self }
-        ensures shapes { result.1.items ≡ map content_shape self }
-    {
-        (self.contents, self.shapes)
-    }
 }
 
 /// The newest image of a stream that is kept. It is away until the frame ends.
@@ -98,20 +90,19 @@ fn newest_taken(store: &mut Store, number: u32) -> Option<Image>
 }
 
 /// Takes the newest images of the streams that a scene names: of each layer, from the bottom up, its stream and then
-/// its mask.
-pub(crate) fn latch_scene(store: &mut Store, scene: &Scene) -> Latched
+/// its mask. Nothing was taken before.
+pub(crate) fn latch_scene(store: &mut Store, scene: &Scene, images: &mut Latched)
+    requires none { images.old ≡ [] }
     requires numbered { IsNumbered 0 store.old.streams store.old.numbered }
     requires home { AreAtHome store.old.streams }
-    ensures contents { result ≡ newest_images (scene_streams scene.now) store.old.streams }
+    ensures contents { images.new ≡ newest_images (scene_streams scene.now) store.old.streams }
     ensures store { store.new ≡ record store.old { streams = latch (scene_streams scene.now) store.old.streams } }
-    ensures shaped { AreShapedAs store.new.streams result }
+    ensures shaped { AreShapedAs store.new.streams images.new }
 {
-    let mut images = Latched::new();
     for layer in scene.layers.as_slice() {
         images.take(store, layer.stream);
         images.take(store, layer.mask);
     }
-    images
 }
 
 /// Whether a layer shows a stream, or has it as its mask.

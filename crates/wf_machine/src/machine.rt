@@ -1,21 +1,23 @@
 //! The machine.
 
-ghost use Rattle.std.specs.Prelude.{◌≡◌, ◌<◌, IfOk, IfSome, IsTrue, IsFalse, length, true};
+ghost use Rattle.std.specs.Prelude.{◌≡◌, ◌<◌, IfOk, IfSome, IsSome, IsTrue, IsFalse, length, true};
 ghost use Rattle.std.specs.Option.{IfNone};
 ghost use Rattle.wf_stream.specs.Streams.{held};
 ghost use Rattle.wf_calls.specs.Creations.{is_creation};
 ghost use Rattle.wf_calls.specs.Parts.{carries, part_of};
-ghost use Rattle.wf_calls.specs.Replies.{bare};
+ghost use Rattle.wf_calls.specs.Replies.{bare, with_canvas, with_job};
 ghost use Rattle.wf_calls.specs.PortRules.{may_declare};
 ghost use Rattle.wf_model.specs.Names.{kept, names};
 ghost use Rattle.wf_model.specs.State.{opening};
-ghost use Rattle.wf_machine.specs.Object.{IsMarkedStep, IsRefusal, MayAnswer, MayDeny, after, denied, is_ready};
+ghost use Rattle.wf_machine.specs.Object.{IsMarkedStep, IsRefusal, IsStep, MayAnswer, MayDeny, after, denied, is_ready};
 ghost use Rattle.wf_calls.specs.Parts.{is_begin};
 
 use crate::parts::Parts;
+use crate::replies::with_canvas;
 use std::alloc::Global;
 use std::marker::Model;
-use wf_calls::{Answer, Call, Ports, Reply};
+use wf_calls::{Answer, Call, Job, Ports, Reply};
+use wf_image::Canvas;
 use wf_stream::Held;
 use wf_words::NoMemory;
 
@@ -59,41 +61,93 @@ impl Machine {
         self.parts.act_plain(call)
     }
 
-    /// Runs a client's call that begins a frame, as `run` does, and leaves the call where it is.
-    pub fn begin(&mut self, client: u8, call: &Call) -> Reply
+    /// Begins a frame as `run` does for a call that begins one. The Job that comes is put in this place, which is empty where none
+    /// comes: so no Job is moved.
+    pub fn begin(&mut self, client: u8, call: &Call, job: &mut Option<Job>) -> Answer
         requires { IsTrue (is_begin call.now) }
-        ensures after { self.new ≡ after self.old client call.now result }
-        ensures may { MayAnswer self.old client call.now result }
+        ensures step { IsStep self.old client call.now self.new (with_job result job.new) }
         ensures lifetime { self.new.streams ≡ kept self.new }
-        ensures refused { IsRefusal self.old self.new call.now result.code }
     {
-        self.parts.act_begin(call)
+        *job = None;
+        self.parts.act_begin(call, job)
     }
 
-    /// Runs a client's call that brings a write buffer, or takes one or a Job, as `run` does.
-    pub fn carry(&mut self, client: u8, call: Call) -> Reply
+    /// Ends the running frame as `run` does, by the Job in this place. A Job that is not the running frame's stays there.
+    pub fn end(&mut self, client: u8, job: &mut Option<Job>) -> Answer
+        requires { IsSome job.old }
+        ensures step { IfSome job.old (λ j. IsStep self.old client (Call.End j) self.new (with_job result job.new)) }
+        ensures lifetime { self.new.streams ≡ kept self.new }
+    {
+        self.parts.act_end(job)
+    }
+
+    /// Takes a stream's write buffer, as `run` does, if it is free.
+    pub fn acquire(&mut self, client: u8, stream: u32) -> (Answer, Option<Canvas>)
+        ensures step { IsStep self.old client (Call.Acquire stream) self.new (with_canvas result) }
+        ensures lifetime { self.new.streams ≡ kept self.new }
+    {
+        self.parts.act_acquire(stream)
+    }
+
+    /// Makes a write buffer the newest image of its stream, as `run` does. One that is refused comes back.
+    pub fn post(&mut self, client: u8, canvas: Canvas) -> (Answer, Option<Canvas>)
+        ensures step { IsStep self.old client (Call.Post canvas) self.new (with_canvas result) }
+        ensures lifetime { self.new.streams ≡ kept self.new }
+    {
+        self.parts.act_post(canvas)
+    }
+
+    /// Gives a write buffer back unseen, as `run` does. One that is refused comes back.
+    pub fn discard(&mut self, client: u8, canvas: Canvas) -> (Answer, Option<Canvas>)
+        ensures step { IsStep self.old client (Call.Discard canvas) self.new (with_canvas result) }
+        ensures lifetime { self.new.streams ≡ kept self.new }
+    {
+        self.parts.act_discard(canvas)
+    }
+
+    /// Runs a client's call that begins a frame.
+    fn run_begin(&mut self, client: u8, call: &Call) -> Reply
+        requires { IsTrue (is_begin call.now) }
+        ensures step { IsStep self.old client call.now self.new result }
+    {
+        let mut job = None;
+        let answer = self.begin(client, call, &mut job);
+        Reply::with_job(answer, job)
+    }
+
+    /// Runs a client's End.
+    fn run_end(&mut self, client: u8, job: Job) -> Reply
+        ensures step { IsStep self.old client (Call.End job) self.new result }
+    {
+        let mut job = Some(job);
+        let answer = self.end(client, &mut job);
+        Reply::with_job(answer, job)
+    }
+
+    /// Runs a client's call that brings a write buffer or a Job, or takes a write buffer.
+    fn run_handing(&mut self, client: u8, call: Call) -> Reply
         requires carries { IsTrue (carries (part_of call)) }
         requires other { IsFalse (is_begin call) }
-        ensures after { self.new ≡ after self.old client call result }
-        ensures may { MayAnswer self.old client call result }
-        ensures lifetime { self.new.streams ≡ kept self.new }
-        ensures refused { IsRefusal self.old self.new call result.code }
+        ensures step { IsStep self.old client call self.new result }
     {
-        self.parts.act_carrying(call)
+        match call {
+            Call::Acquire { stream } => with_canvas(self.acquire(client, stream)),
+            Call::Post(canvas) => with_canvas(self.post(client, canvas)),
+            Call::Discard(canvas) => with_canvas(self.discard(client, canvas)),
+            Call::End(job) => self.run_end(client, job),
+            _ => unreachable!(),
+        }
     }
 
     /// Runs a client's call that `answer` does not.
     fn run_carrying(&mut self, client: u8, call: Call) -> Reply
         requires { IsTrue (carries (part_of call)) }
-        ensures after { self.new ≡ after self.old client call result }
-        ensures may { MayAnswer self.old client call result }
-        ensures lifetime { self.new.streams ≡ kept self.new }
-        ensures refused { IsRefusal self.old self.new call result.code }
+        ensures step { IsStep self.old client call self.new result }
     {
         if call.is_begin() {
-            self.begin(client, &call)
+            self.run_begin(client, &call)
         } else {
-            self.carry(client, call)
+            self.run_handing(client, call)
         }
     }
 

@@ -13,14 +13,14 @@ ghost use Rattle.wf_image.specs.Bitmap.{blank};
 ghost use Rattle.wf_stream.specs.Streams.{KeptStream, buffers_at, change_stream, has_no_room, held, stream_at, with_live_stream};
 ghost use Rattle.wf_model.specs.Streams.{acquirable, acquire_step, canvas_back, canvas_of, is_out_at_client, is_out_of, may_make};
 ghost use Rattle.wf_model.specs.Streams.{new_buffers, stat, stream_destroy, stream_new, stream_step};
-ghost use Rattle.wf_calls.specs.Replies.{bare, done};
+ghost use Rattle.wf_calls.specs.Replies.{bare, done, with_canvas};
 ghost use Rattle.wf_machine.specs.Latching.{IsOutFrom};
 ghost use Rattle.wf_machine.specs.Object.{IsSettled, settled_so};
 
 use crate::frame::is_target;
 use crate::parts::Parts;
-use crate::replies::{refuse, refused};
-use wf_calls::{Answer, Code, Reply, StatWord};
+use crate::replies::{giving_back_canvas, giving_canvas, refuse, refused, taking_canvas};
+use wf_calls::{Answer, Code, StatWord};
 use wf_image::{Canvas, Image};
 use wf_life::MakeStop;
 use wf_pixel::{Format, Size};
@@ -237,8 +237,8 @@ impl Parts {
     }
 
     /// Takes a stream's write buffer.
-    pub(crate) fn acquire(&mut self, stream: u32) -> Reply
-        ensures acquired { acquire_step self.old (acquirable stream self.old) ≡ (self.new, result) }
+    pub(crate) fn acquire(&mut self, stream: u32) -> (Answer, Option<Canvas>)
+        ensures acquired { acquire_step self.old (acquirable stream self.old) ≡ (self.new, with_canvas result) }
         ensures settled { IsSettled self.new }
     {
         let Ok(number) = self.store.number(stream) else {
@@ -252,7 +252,7 @@ impl Parts {
         self.core.few_names();
         self.display.few_names();
         begin_name(&mut self.store, number);
-        Reply::giving_canvas(canvas)
+        giving_canvas(canvas)
     }
 
     /// A canvas is the write buffer of a kept stream, out at a client: not at the running frame.
@@ -263,28 +263,28 @@ impl Parts {
     }
 
     /// Makes a write buffer the newest image of its stream.
-    pub(crate) fn post(&mut self, canvas: Canvas) -> Reply
-        ensures { settled_so (canvas_back canvas (posted canvas.image) self.old) ≡ (self.new, result) }
+    pub(crate) fn post(&mut self, canvas: Canvas) -> (Answer, Option<Canvas>)
+        ensures { settled_so (canvas_back canvas (posted canvas.image) self.old) ≡ (self.new, with_canvas result) }
     {
         if !self.is_out_at_client(&canvas) {
-            return Reply::giving_back_canvas(canvas);
+            return giving_back_canvas(canvas);
         }
         let stream = canvas.stream;
         post_to(&mut self.store, canvas);
         end_name(&mut self.store, stream);
-        Reply::bare(Answer::done(0))
+        taking_canvas()
     }
 
     /// Gives a write buffer back unseen.
-    pub(crate) fn discard(&mut self, canvas: Canvas) -> Reply
-        ensures { settled_so (canvas_back canvas discarded self.old) ≡ (self.new, result) }
+    pub(crate) fn discard(&mut self, canvas: Canvas) -> (Answer, Option<Canvas>)
+        ensures { settled_so (canvas_back canvas discarded self.old) ≡ (self.new, with_canvas result) }
     {
         if !self.is_out_at_client(&canvas) {
-            return Reply::giving_back_canvas(canvas);
+            return giving_back_canvas(canvas);
         }
         let stream = canvas.stream;
         discard_to(&mut self.store, canvas);
         end_name(&mut self.store, stream);
-        Reply::bare(Answer::done(0))
+        taking_canvas()
     }
 }

@@ -16,7 +16,7 @@ use Rattle.wf_turn.specs.declared.stage.Phase.TheVariants as phase
 use Rattle.wf_turn.specs.declared.stage.Stage.{Stage}
 use Rattle.wf_turn.specs.declared.stage.Stage.TheVariants as stage
 use Rattle.wf_turn.specs.Program.{Program, answered, first_line, given_canvas, go_on, in_setup, is_work, line_done, painted_job, place_of}
-use Rattle.wf_turn.specs.Program.{ticking, took, took_at, took_canvas, took_first, took_frame, took_job}
+use Rattle.wf_turn.specs.Program.{ticking, took, took_at, took_canvas, took_first, took_frame, took_job, unheld}
 use Rattle.wf_turn.specs.Turns.{frames_of}
 use Rattle.wf_turn.proofs.Keeping.{same_script}
 use Rattle.wf_turn.proofs.Painting.{canvas_painted, done_painted, frame_painted, on_painted}
@@ -44,8 +44,8 @@ never ls q painted unpainted = absurd (let no : true ≡ false = sym unpainted �
 
 job_works : (p : Program) (given : Payload) (l : Option Phase) → p.unpainted ≡ false → Works p.lines (took_job p given l)
 job_works p (payload.Job job) l painted = λ unpainted. record { lines = refl; stage = refl }
-job_works p payload.Nothing l painted = never p.lines (go_on p l) (on_painted p painted l)
-job_works p (payload.Canvas canvas) l painted = never p.lines (go_on p l) (on_painted p painted l)
+job_works p payload.Nothing l painted = never p.lines (go_on (unheld p) l) (on_painted (unheld p) refl l)
+job_works p (payload.Canvas canvas) l painted = never p.lines (go_on (unheld p) l) (on_painted (unheld p) refl l)
 
 frame_works : (p : Program) (paint : Paint) (o : Option Canvas) → p.unpainted ≡ false → Works p.lines (took_frame p paint o)
 frame_works p paint o painted = never p.lines (took_frame p paint o) (frame_painted p painted paint o)

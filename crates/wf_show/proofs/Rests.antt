@@ -6,7 +6,7 @@ use Rattle.wf_turn.proofs.Common.{and_parts, Canvas, Paint, Payload, Reply, Line
 use Rattle.wf_turn.proofs.Common.{at_port}
 use Rattle.wf_turn.proofs.Common.{before, bound, first_line, given_canvas, go_on, in_setup, is_event, line_done, lines_from, painted_job}
 use Rattle.wf_turn.proofs.Common.{port_count, program, setup_lines, silent, skipped, ticking, took, took_at, took_first, took_frame}
-use Rattle.wf_turn.proofs.Common.{took_job}
+use Rattle.wf_turn.proofs.Common.{took_job, unheld}
 use Rattle.wf_turn.proofs.Common.{worked}
 use Rattle.wf_turn.specs.declared.stage.Phase.{Phase}
 use Rattle.wf_turn.specs.declared.stage.Stage.{Stage}
@@ -62,8 +62,8 @@ module _ (Q : Rows → Type 0) (tail : (l : ℕ × Line) (ls : Rows) → Q (l �
 
   job_keep : (p : Program) (given : Payload) (l : Option Phase) → Q p.lines → Q (took_job p given l).lines
   job_keep p (payload.Job job) l q = q
-  job_keep p payload.Nothing l q = on_keep p l q
-  job_keep p (payload.Canvas canvas) l q = on_keep p l q
+  job_keep p payload.Nothing l q = on_keep (unheld p) l q
+  job_keep p (payload.Canvas canvas) l q = on_keep (unheld p) l q
 
   frame_keep : (p : Program) (paint : Paint) (canvas : Option Canvas) → Q p.lines → Q (took_frame p paint canvas).lines
   frame_keep p paint None q = done_keep p 0 q

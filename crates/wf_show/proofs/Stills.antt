@@ -6,7 +6,7 @@ use Rattle.wf_turn.proofs.Common.{Reply, Line}
 use Rattle.wf_turn.proofs.Common.{Verb, PlainScript, State, by_begin, is_ok_code, step}
 use Rattle.wf_turn.proofs.Common.{is_out_of_memory, bound_name, Program, before, bound, given_canvas, line_done, lines_from}
 use Rattle.wf_turn.proofs.Common.{next}
-use Rattle.wf_turn.proofs.Common.{painted_job, program, took, took_at, took_first, took_frame, took_job, wanted_at, worked, frames_of}
+use Rattle.wf_turn.proofs.Common.{painted_job, program, took, took_at, took_first, took_frame, took_job, unheld, wanted_at, worked, frames_of}
 use Rattle.wf_turn.proofs.Common.{SamePayload}
 use Rattle.wf_turn.proofs.Common.{act, first_call, go_on, plain, waiting, handle, job_of, shown, took_canvas, eqb-true}
 use Rattle.wf_turn.specs.declared.stage.Stage.{Stage}
@@ -58,8 +58,8 @@ calm_done p v calm = of_lines p.lines refl
 
 calm_job : (p : Program) (given : Payload) → is_calm p.stage ≡ true → is_calm (took_job p given None).stage ≡ true
 calm_job p (payload.Job job) calm = refl
-calm_job p payload.Nothing calm = calm_done p 0 calm
-calm_job p (payload.Canvas canvas) calm = calm_done p 0 calm
+calm_job p payload.Nothing calm = calm_done (unheld p) 0 calm
+calm_job p (payload.Canvas canvas) calm = calm_done (unheld p) 0 calm
 
 calm_frame : (p : Program) (paint : Paint) (canvas : Option Canvas) → is_calm p.stage ≡ true
     → is_calm (took_frame p paint canvas).stage ≡ true
@@ -134,8 +134,8 @@ shows_job : (begin : ℕ) (p : Program) (given : Payload) → p.unpainted ≡ fa
 shows_job begin p (payload.Job job) painted of =
     let own = of job refl in
     ap (λ k. shown k p.tick begin (painted_job job)) own.2
-shows_job begin p payload.Nothing painted of = nothing_shown begin (line_done p 0) (done_painted p painted 0)
-shows_job begin p (payload.Canvas canvas) painted of = nothing_shown begin (line_done p 0) (done_painted p painted 0)
+shows_job begin p payload.Nothing painted of = nothing_shown begin (line_done (unheld p) 0) (done_painted (unheld p) refl 0)
+shows_job begin p (payload.Canvas canvas) painted of = nothing_shown begin (line_done (unheld p) 0) (done_painted (unheld p) refl 0)
 
 module _ (begin : ℕ) (p : Program) (h : State) (client : ℕ) (w : Wanted) (reply : Reply) (painted : p.unpainted ≡ false)
     (may : MayAnswer h client w.call reply) where

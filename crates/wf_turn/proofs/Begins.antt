@@ -1,4 +1,5 @@
 -- A turn and the running frame: a frame that begins is held by the program that began it, to be ended next.
+use Rattle.wf_turn.proofs.Common.{unheld}
 use Rattle.wf_turn.proofs.Common.{◌≡◌, ◌∙◌, ℕ, Bool, true, false, [], Option, Some, None, refl, sym, ap, subst, IfSome, Call, Job, Reply}
 use Rattle.wf_turn.proofs.Common.{Running, State, act, step, Line, Phase, Stage, Wanted, Ends, Program, first_line, given_canvas, go_on}
 use Rattle.wf_turn.proofs.Common.{line_done, next, plain, took, took_canvas, took_frame, took_job, worked, frames_of}
@@ -41,8 +42,8 @@ module _ (p : Program) (h : State) (client : ℕ) (m : Bool) (free : h.frame ≡
   unfolding step
   at_question w begin q next_of clean same =
       by_begin (λ x. Leaves p (took_job q x.1.payload (next_of x.1.value)) x.0.frame) h w.call m begin
-      (λ register code a. no_frame p (go_on q (next_of a.value)) (offered register code h).frame (offered_frame register code h ∙ free)
-      (on_painted q clean (next_of a.value)))
+      (λ register code a. no_frame p (go_on (unheld q) (next_of a.value)) (offered register code h).frame
+      (offered_frame register code h ∙ free) (on_painted (unheld q) refl (next_of a.value)))
       (λ b is. record { ends = (own_job b h, same); shows = λ none begin. absurd cc })
 
   at_end : (job : Job) (l : Option Phase) → Left (plain (call.End job)) (λ reply. go_on (record p { job = None; unpainted = false }) l)

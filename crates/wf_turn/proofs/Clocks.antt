@@ -1,4 +1,5 @@
 -- The clock, which is client 0, alone begins what is shown: no other client has a tick.
+use Rattle.wf_turn.proofs.Common.{unheld}
 use Rattle.wf_turn.proofs.Common.{◌≡◌, ◌∙◌, ℕ, zero, suc, ◌+◌, ◌==◌, Bool, true, false, not, cond, ◌&&◌, ◌||◌, List, [], ◌∷◌, ◌++◌}
 use Rattle.wf_turn.proofs.Common.{map, All, bound, bound_name, nat_tests, ◌<◌}
 use Rattle.wf_turn.proofs.Common.{Option, Some, None, refl, sym, ap, subst, set, pos, arith, filter, slice_get, is_some, enumerate_from}
@@ -72,8 +73,8 @@ frame_tickless p paint (Some canvas) is = record { lines = is.lines; stage = tt 
 
 job_tickless : (p : Program) (given : Payload) → IsTickless p → IsTickless (took_job p given None)
 job_tickless p (payload.Job job) is = record { lines = is.lines; stage = tt }
-job_tickless p payload.Nothing is = done_tickless p 0 is
-job_tickless p (payload.Canvas canvas) is = done_tickless p 0 is
+job_tickless p payload.Nothing is = done_tickless (unheld p) 0 (record { lines = is.lines; stage = is.stage })
+job_tickless p (payload.Canvas canvas) is = done_tickless (unheld p) 0 (record { lines = is.lines; stage = is.stage })
 
 canvas_tickless : (p : Program) (reply : Reply) → IsTickless p → IsTickless (took_canvas p reply.payload)
 canvas_tickless p reply is =

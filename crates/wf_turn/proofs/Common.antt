@@ -62,11 +62,12 @@ unfoldable pub use Rattle.wf_turn.specs.Play.{replay_from, serial_from}
 pub use Rattle.wf_turn.specs.Play.{serial_order}
 pub use Rattle.wf_turn.specs.Playing.{Answers, ArePainted, Ends, IsCast, PlaysTurns, StandsOwn, StopsTurns, TakesTurn, Turned, TurnsTo}
 pub use Rattle.wf_turn.specs.Playing.{all_painted, frames_if, has_work, may_turn, show_of, shown_by, with_frames, with_paint}
-pub use Rattle.wf_turn.specs.Program.{replied, Program, asked_for, asked_next, at_port, before, bound, first_call, first_line, first_of}
+pub use Rattle.wf_turn.specs.Program.{Program, asked_for, asked_next, at_port, before, bound, first_call, first_line, first_of}
 pub use Rattle.wf_turn.specs.Program.{given_canvas, go_on, issued, handle, in_setup, is_event, is_work, kept_first, line_done, lines_from}
 pub use Rattle.wf_turn.specs.Program.{next, painted_job, place_of, plain, port_count, program, setup_lines, silent, skipped, taught}
 pub use Rattle.wf_turn.specs.Program.{ticking, took, took_at, took_canvas, took_first, took_frame, took_job, took_phase, waiting, wanted_at}
-pub use Rattle.wf_turn.specs.Program.{worked}
+pub use Rattle.wf_turn.specs.Program.{unheld, worked}
+pub use Rattle.wf_calls.specs.Replies.{replied, with_canvas, with_job}
 pub use Rattle.wf_turn.specs.Quota.{all_left, left, line_quota, lines_left, most_turns, quota, quota_of}
 pub use Rattle.wf_turn.specs.Ready.{AreOf, IsAsking, IsAt, IsFit, IsWork}
 pub use Rattle.wf_turn.specs.Serial.{IsNextTurn, IsRun}

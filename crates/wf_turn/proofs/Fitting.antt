@@ -1,4 +1,5 @@
 -- A program that took an answer can make its next call.
+use Rattle.wf_turn.proofs.Common.{unheld}
 use Rattle.wf_turn.proofs.Common.{◌≡◌, ℕ, ◌+◌, ◌≤◌, ◌==◌, Bool, true, false, not, cond, ◌||◌, List, [], ◌∷◌, Option, Some, None, refl, sym}
 use Rattle.wf_turn.proofs.Common.{ap, subst, arith, IsTrue, nat_lt, is_some, option_map, IfSome, IsSome, ltb-true, Canvas, Paint, Job}
 use Rattle.wf_turn.proofs.Common.{Payload, Reply, Line, Verb, Phase, Stage, Wanted, bound_name, Program, asked_next, at_port, before, bound}
@@ -82,8 +83,8 @@ holds_on p (Some (phase.Ports port)) few = holds_ports p port few
 
 holds_job : (p : Program) (given : Payload) (l : Option Phase) → IsAnswered (port_count p) l → port_count p ≤ 4 → Holds (took_job p given l)
 holds_job p (payload.Job job) l answered few = record { at = if_some (first_line p) (λ m. (refl, answered)); ports = few }
-holds_job p payload.Nothing l answered few = holds_on p l few
-holds_job p (payload.Canvas canvas) l answered few = holds_on p l few
+holds_job p payload.Nothing l answered few = holds_on (unheld p) l few
+holds_job p (payload.Canvas canvas) l answered few = holds_on (unheld p) l few
 
 holds_frame : (p : Program) (paint : Paint) (canvas : Option Canvas) → port_count p ≤ 4 → Holds (took_frame p paint canvas)
 holds_frame p paint None few = holds_done p 0 few

@@ -2,7 +2,7 @@
 use Rattle.wf_turn.proofs.Common.{◌≡◌, ℕ, zero, suc, ◌+◌, Bool, true, false, not, cond, ◌==◌, ◌&&◌, ◌||◌, List, [], ◌∷◌, map, Option, Some}
 use Rattle.wf_turn.proofs.Common.{None, refl, set, nat_lt, Canvas, Paint, Job, Payload, Reply, is_begin, Line, PlainScript, Phase, Wanted}
 use Rattle.wf_turn.proofs.Common.{Program, at_port, given_canvas, go_on, line_done, next, port_count, program, taught, took, took_frame}
-use Rattle.wf_turn.proofs.Common.{took_job, all_taught, inherited, is_setting_up, each_mapped, AllByRecursion, range_with_len}
+use Rattle.wf_turn.proofs.Common.{unheld, took_job, all_taught, inherited, is_setting_up, each_mapped, AllByRecursion, range_with_len}
 use Rattle.wf_calls.specs.declared.reply.Payload.TheVariants as payload
 use Rattle.wf_turn.specs.declared.stage.Phase.TheVariants as phase
 use Rattle.wf_turn.specs.declared.stage.Stage.TheVariants as stage
@@ -43,11 +43,11 @@ module _ (Q : Option Job → Bool → Type 0) where
   frame_holds p paint (Some canvas) holds = holds
 
   -- a Job that comes is held, and is not painted yet
-  job_holds : (p : Program) (given : Payload) (l : Option Phase) → Holds p → ((job : Job) → given ≡ payload.Job job → Q (Some job) true)
+  job_holds : (p : Program) (given : Payload) (l : Option Phase) → Q None false → ((job : Job) → given ≡ payload.Job job → Q (Some job) true)
       → Holds (took_job p given l)
-  job_holds p (payload.Job job) l holds comes = comes job refl
-  job_holds p payload.Nothing l holds comes = on_holds p l holds
-  job_holds p (payload.Canvas canvas) l holds comes = on_holds p l holds
+  job_holds p (payload.Job job) l none comes = comes job refl
+  job_holds p payload.Nothing l none comes = on_holds (unheld p) l none
+  job_holds p (payload.Canvas canvas) l none comes = on_holds (unheld p) l none
 
   -- the answer to its next call
   module _ (none : Q None false) (p : Program) (w : Wanted) (reply : Reply) (holds : Q p.job p.unpainted)
@@ -63,8 +63,8 @@ module _ (Q : Option Job → Bool → Type 0) where
           value = λ c still comes. done_holds p reply.value holds;
           frame = λ s paint comes. frame_holds p paint (given_canvas reply.payload) holds;
           asks = λ w begins tick s next_of at comes.
-              job_holds (record p { tick = tick; stage = s }) reply.payload (next_of reply.value) holds (comes begins);
-          ended = λ job held l comes. on_holds (record p { job = None; unpainted = false }) l none;
+              job_holds (record p { tick = tick; stage = s }) reply.payload (next_of reply.value) none (comes begins);
+          ended = λ job held l comes. on_holds (unheld p) l none;
         }) asks comes
 
   -- programs

@@ -1,4 +1,5 @@
 -- What an answer leaves of a program: all but its lines, its names, what it holds, its stage and its tick.
+use Rattle.wf_turn.proofs.Common.{unheld}
 use Rattle.wf_turn.proofs.Common.{◌≡◌, ℕ, ◌+◌, Bool, true, false, not, cond, ◌==◌, ◌||◌, List, [], ◌∷◌, Option, Some, None, refl, sym, ap}
 use Rattle.wf_turn.proofs.Common.{subst, nat_lt, option_map, Canvas, Paint, Job, Payload, Reply, Line, Verb, Name, Phase, Stage, bound_name}
 use Rattle.wf_turn.proofs.Common.{Program, at_port, before, bound, first_line, given_canvas, go_on, line_done, painted_job, port_count}
@@ -54,8 +55,8 @@ module _ (P : Program
 
   keeps_job : (p : Program) (given : Payload) (l : Option Phase) → P p → P (took_job p given l)
   keeps_job p (payload.Job job) l holds = keeps p p.lines p.own p.canvas (Some job) true (stage.Ending l) p.tick holds
-  keeps_job p payload.Nothing l holds = keeps_on p l holds
-  keeps_job p (payload.Canvas canvas) l holds = keeps_on p l holds
+  keeps_job p payload.Nothing l holds = keeps_on (unheld p) l (keeps p p.lines p.own p.canvas None false p.stage p.tick holds)
+  keeps_job p (payload.Canvas canvas) l holds = keeps_on (unheld p) l (keeps p p.lines p.own p.canvas None false p.stage p.tick holds)
 
   keeps_canvas : (p : Program) (canvas : Option Canvas) → P p → P (line_done (record p { canvas = canvas }) 0)
   keeps_canvas p canvas holds = keeps_done (record p { canvas = canvas }) 0

@@ -1,7 +1,7 @@
 -- Each answer leaves a program with fewer events to make.
 use Rattle.wf_turn.proofs.Common.{◌≡◌, ◌∙◌, ℕ, ◌+◌, ◌*◌, ◌-◌, ◌≤◌, ◌==◌, true, false, not, cond, ◌||◌, List, [], ◌∷◌, Option, Some, None}
 use Rattle.wf_turn.proofs.Common.{refl, sym, ap, subst, arith, IsTrue, nat_lt, is_some, option_map, IfSome, sum_by-cons, Canvas, Paint}
-use Rattle.wf_turn.proofs.Common.{Payload, Reply, Line, Verb, Phase, Stage, bound_name, Program, asked_next, at_port, before, bound}
+use Rattle.wf_turn.proofs.Common.{unheld, Payload, Reply, Line, Verb, Phase, Stage, bound_name, Program, asked_next, at_port, before, bound}
 use Rattle.wf_turn.proofs.Common.{first_line, first_of, given_canvas, go_on, is_event, line_done, painted_job, port_count, silent, skipped}
 use Rattle.wf_turn.proofs.Common.{ticking, took, took_at, took_first, took_frame, took_job, took_phase, worked, left}
 use Rattle.wf_turn.proofs.Common.{line_quota, lines_left}
@@ -62,14 +62,15 @@ module _ (p : Program) (l : ℕ × Line) (ls : List (ℕ × Line)) where
   left_on (Some (phase.Contexts asked last)) = left_asked asked last
   left_on (Some (phase.Ports port)) = left_ports port
 
-  left_job : (given : Payload) (m : Option Phase) → left (took_job at_line given m) ≤ next_left (port_count p) m + 1 + lines_left ls
-  left_job (payload.Job job) m = omega arith
-  left_job payload.Nothing m = omega (arith, left_on m)
-  left_job (payload.Canvas canvas) m = omega (arith, left_on m)
-
   left_frame : (paint : Paint) (canvas : Option Canvas) → left (took_frame at_line paint canvas) ≤ 1 + lines_left ls
   left_frame paint None = omega (arith, left_done 0)
   left_frame paint (Some canvas) = omega arith
+
+left_job : (p : Program) (l : ℕ × Line) (ls : List (ℕ × Line)) (given : Payload) (m : Option Phase)
+    → left (took_job (record p { lines = l ∷ ls }) given m) ≤ next_left (port_count p) m + 1 + lines_left ls
+left_job p l ls (payload.Job job) m = omega arith
+left_job p l ls payload.Nothing m = omega (arith, left_on (unheld p) l ls m)
+left_job p l ls (payload.Canvas canvas) m = omega (arith, left_on (unheld p) l ls m)
 
 left_first : (p : Program) (l : ℕ × Line) (ls : List (ℕ × Line)) (v : Verb) (reply : Reply) → IsTrue (is_event (is_some p.canvas) v)
     → port_count p ≤ 4
@@ -97,7 +98,7 @@ left_at : (p : Program) (l : ℕ × Line) (ls : List (ℕ × Line)) (s : Stage) 
 left_at p l ls stage.Fresh reply at few = left_first p l ls l.1.verb reply at few
 left_at p l ls stage.Posting reply at few = omega (arith, left_done (record p { canvas = given_canvas reply.payload }) l ls 0)
 left_at p l ls (stage.Ticking m) reply at few = left_phase p l ls m reply at
-left_at p l ls (stage.Ending m) reply at few = omega (arith, left_on (record p { job = None; unpainted = false }) l ls m)
+left_at p l ls (stage.Ending m) reply at few = omega (arith, left_on (unheld p) l ls m)
 
 left_worked : (p : Program) → left (worked p) ≡ left p
 left_worked p =

@@ -58,9 +58,21 @@ unmarked_answers m client h left c p now t is answers other =
       entry_is = answers.entry_is;
     }
 
+-- the program that handed the call out takes the answer as the one before it does
+pub issued_again : (m : Bool) (client : ℕ) (h left : State) (c : Call) (p now : Program) (t : Turn)
+    → MarkedAnswers m client h left c (issued p) now t → MarkedAnswers m client h left c p now t
+issued_again m client h left c p now t answers =
+    record {
+      reply = answers.reply;
+      left_is = answers.left_is;
+      may = answers.may;
+      now_is = answers.now_is ∙ took_issued p answers.reply;
+      entry_is = answers.entry_is;
+    }
+
 -- the turn that a program takes
 module _ (m : Bool) (client : ℕ) (h left : State) (p now : Program) (w : Wanted) (t : Turn) (fit : IsFit p) (asks : next p ≡ Some w)
-    (free : (w.wait && is_running h) ≡ false) (answers : MarkedAnswers m client h left w.call (issued p) now t) where
+    (free : (w.wait && is_running h) ≡ false) (answers : MarkedAnswers m client h left w.call p now t) where
   abbrev reply : Reply
   reply = answers.reply
 
@@ -68,7 +80,7 @@ module _ (m : Bool) (client : ℕ) (h left : State) (p now : Program) (w : Wante
   wanted = step h client w.call m
 
   now_q : now ≡ took p reply
-  now_q = answers.now_is ∙ took_issued p reply
+  now_q = answers.now_is
 
   work : IsWork (took p reply)
   work = took_marked_work m p h client w reply fit.painted answers.may asks

@@ -6,7 +6,7 @@ use Rattle.wf_turn.proofs.Common.{frames_if, Program, first_line, issued, is_wor
 use Rattle.wf_turn.proofs.Common.{frames_of}
 use Rattle.wf_calls.specs.declared.code.Code.TheVariants as code
 use Rattle.wf_calls.specs.Codes.{code_number}
-use Rattle.wf_turn.proofs.Answering.{IsSame, same_outcome, took_issued}
+use Rattle.wf_turn.proofs.Answering.{IsSame, same_outcome}
 use Rattle.wf_turn.proofs.Begins.{ended}
 use Rattle.wf_turn.proofs.Painting.{took_work}
 
@@ -64,7 +64,7 @@ has_line p more = of_lines p.lines refl more
     of_lines (l ∷ ls) is more = (l.1, rw is refl)
 
 pub turn_taken : (client : ℕ) (h left : State) (p now : Program) (w : Wanted) (t : Turn) → IsFit p → IfSome h.frame (λ f. Ends f p)
-    → next p ≡ Some w → Answers client h left w.call (issued p) now t
+    → next p ≡ Some w → Answers client h left w.call p now t
     → TakesTurn client h left p (worked now) t (is_work now) × IsWork now
 turn_taken client h left p now w t fit alone asks answers = (takes, subst IsWork (sym now_q) work)
   where
@@ -75,7 +75,7 @@ turn_taken client h left p now w t fit alone asks answers = (takes, subst IsWork
     q = took p reply
 
     now_q : now ≡ q
-    now_q = answers.now_is ∙ took_issued p reply
+    now_q = answers.now_is
 
     work : IsWork q
     work = took_work p h client w reply fit.painted answers.may asks

@@ -8,7 +8,6 @@ use Rattle.wf_image.specs.Paints.{painted}
 use Rattle.wf_calls.specs.declared.call.Call.{Call}
 use Rattle.wf_calls.specs.declared.call.Call.TheVariants as call
 use Rattle.wf_calls.specs.declared.call.Job.{Job}
-use Rattle.wf_calls.specs.declared.reply.Answer.{Answer}
 use Rattle.wf_calls.specs.declared.reply.Payload.{Payload}
 use Rattle.wf_calls.specs.declared.reply.Payload.TheVariants as payload
 use Rattle.wf_calls.specs.declared.reply.Reply.{Reply}
@@ -187,19 +186,19 @@ go_on p None = line_done p 0
 go_on p (Some (phase.Contexts asked last)) = asked_next p asked last
 go_on p (Some (phase.Ports port)) = at_port p port
 
--- a Job is to be painted and then ended; without one the line goes on
+-- no Job is held
+abbrev pub unheld : Program → Program
+unheld p = record p { job = None; unpainted = false }
+
+-- a Job is to be painted and then ended; without one none is held, and the line goes on
 abbrev pub took_job : Program → Payload → Option Phase → Program
 took_job p (payload.Job job) l = record p { job = Some job; unpainted = true; stage = stage.Ending l }
-took_job p _ l = go_on p l
+took_job p _ l = go_on (unheld p) l
 
 -- the canvas that comes with a reply
 abbrev pub given_canvas : Payload → Option Canvas
 given_canvas (payload.Canvas canvas) = Some canvas
 given_canvas _ = None
-
--- an answer with what comes with it
-abbrev pub replied : Answer → Payload → Reply
-replied a given = record { code = a.code; value = a.value; payload = given }
 
 -- the line is through, with the canvas that came
 abbrev pub took_canvas : Program → Payload → Program
@@ -241,7 +240,7 @@ abbrev pub took_at : Program → Line → Reply → Stage → Program
 took_at p l reply stage.Fresh = took_first p l reply
 took_at p l reply stage.Posting = took_canvas p reply.payload
 took_at p l reply (stage.Ticking m) = took_phase p reply m
-took_at p l reply (stage.Ending m) = go_on (record p { job = None; unpainted = false }) m
+took_at p l reply (stage.Ending m) = go_on (unheld p) m
 
 -- a program after the answer to its next call
 abbrev pub took : Program → Reply → Program

@@ -54,6 +54,18 @@ pub record MarkedAnswers (memory_refused : Bool) (client : ℕ) (h left : State)
   pub now_is : now ≡ took p reply
   pub entry_is : t ≡ entry client reply
 
+-- the turn that a program takes, to which memory is refused or not, before the Job that came is painted: its call does not wait
+pub record TakenAgain (memory_refused : Bool) (client : ℕ) (h left : State) (p now : Program) (t : Turn) : Type 0 where
+  pub wanted : Wanted
+  pub asks : next p ≡ Some wanted
+  pub ready : (wanted.wait && is_running h) ≡ false
+  pub answers : MarkedAnswers memory_refused client h left wanted.call p now t
+
+-- or none where it has no turn now
+abbrev pub TakesAgain : Bool → ℕ → State → State → Program → Program → Option Turn → Type 0
+TakesAgain memory_refused client h left p now None = wanted_now h p ≡ None
+TakesAgain memory_refused client h left p now (Some t) = TakenAgain memory_refused client h left p now t
+
 -- one turn of a program, to which memory is refused or not: what it leaves of the machine and, with its Job painted, of the
 -- program, its entry, and whether there was a Job to paint
 pub record Retakes (memory_refused : Bool) (client : ℕ) (h left : State) (p now : Program) (t : Turn) (painted : Bool) : Type 0 where

@@ -1,9 +1,10 @@
-//! The answers that bring something: a canvas, or a Job. Each is moved by functions of its own, straight to where it is held.
+//! The answers that bring something: a canvas, or a Job, which a call that began a frame left in its place.
 
 ghost use Rattle.std.specs.Prelude.{◌≡◌, IsTrue, Some};
 ghost use Rattle.wf_image.specs.Paints.{is_paint};
 ghost use Rattle.wf_script.specs.Script.{is_line};
-ghost use Rattle.wf_turn.specs.Program.{port_count, replied, took, took_canvas, took_first, took_frame, took_job};
+ghost use Rattle.wf_calls.specs.Replies.{job_payload, replied, with_job};
+ghost use Rattle.wf_turn.specs.Program.{port_count, took, took_canvas, took_first, took_frame, took_job};
 ghost use Rattle.wf_turn.specs.Ready.{IsAnswered};
 
 use crate::program::Program;
@@ -39,14 +40,17 @@ impl<'a> Program<'a> {
         self.stage = Stage::Posting;
     }
 
-    /// Holds the Job of a frame, to be painted and then ended.
-    fn hold_job(&mut self, job: Job, phase: Option<Phase>)
+    /// Goes on behind a call that may have begun a frame: the Job that stands in its place is to be painted and then ended.
+    fn begun(&mut self, phase: Option<Phase>)
         requires { IsAnswered (port_count self.old) phase }
-        ensures { self.new ≡ took_job self.old (Payload.Job job) phase }
+        ensures { self.new ≡ took_job self.old (job_payload self.old.job) phase }
     {
-        self.job = Some(job);
-        self.unpainted = true;
-        self.stage = Stage::Ending(phase);
+        if self.job.is_some() {
+            self.unpainted = true;
+            self.stage = Stage::Ending(phase);
+        } else {
+            self.go_on_without(phase);
+        }
     }
 
     /// Takes a canvas that comes with the answer to the first call of a line.
@@ -64,7 +68,7 @@ impl<'a> Program<'a> {
 
     /// Takes a canvas with its answer.
     #[inline(never)]
-    fn took_canvas(&mut self, answer: Answer, canvas: Canvas)
+    pub(crate) fn took_canvas(&mut self, answer: Answer, canvas: Canvas)
         ensures { self.new ≡ took self.old (replied answer (Payload.Canvas canvas)) }
     {
         let Some(line) = self.first_line() else {
@@ -73,30 +77,42 @@ impl<'a> Program<'a> {
         match self.stage {
             Stage::Fresh => self.took_first_canvas(line, answer, canvas),
             Stage::Posting => self.keep_canvas(canvas),
-            Stage::Ticking(phase) => self.go_on(Some(self.answered(phase, answer.value))),
-            Stage::Ending(phase) => self.ended(phase),
+            Stage::Ticking(phase) => self.go_on_without(Some(self.answered(phase, answer.value))),
+            Stage::Ending(phase) => self.go_on_without(phase),
         }
     }
 
-    /// Takes a Job that comes with the answer to the first call of a line.
-    fn took_first_job(&mut self, line: &Line, answer: Answer, job: Job)
+    /// Takes the answer to the first call of a line. A Job that came stands in its place.
+    fn took_first_begun(&mut self, line: &Line, answer: Answer)
         requires line { IsTrue (is_line line.now) }
         requires fresh { self.old.stage ≡ Stage.Fresh }
-        ensures { self.new ≡ took_first self.old line.now (replied answer (Payload.Job job)) }
+        ensures { self.new ≡ took_first self.old line.now (with_job answer self.old.job) }
     {
         match &line.verb {
             Verb::Tick => {
                 self.start_tick();
-                self.hold_job(
-                    job,
-                    Some(Phase::Contexts {
-                        asked: 1,
-                        last: answer.value,
-                    }),
-                );
+                self.begun(Some(Phase::Contexts {
+                    asked: 1,
+                    last: answer.value,
+                }));
             }
-            Verb::Compose { .. } | Verb::TryCompose { .. } => self.hold_job(job, None),
+            Verb::Compose { .. } | Verb::TryCompose { .. } => self.begun(None),
             _ => self.took_first_answer(line, answer),
+        }
+    }
+
+    /// Takes an answer. A Job that came with it stands in its place.
+    pub(crate) fn took_begun(&mut self, answer: Answer)
+        ensures { self.new ≡ took self.old (with_job answer self.old.job) }
+    {
+        let Some(line) = self.first_line() else {
+            return;
+        };
+        match self.stage {
+            Stage::Fresh => self.took_first_begun(line, answer),
+            Stage::Posting => self.without_canvas(),
+            Stage::Ticking(phase) => self.begun(Some(self.answered(phase, answer.value))),
+            Stage::Ending(phase) => self.go_on_without(phase),
         }
     }
 
@@ -105,17 +121,11 @@ impl<'a> Program<'a> {
     fn took_job(&mut self, answer: Answer, job: Job)
         ensures { self.new ≡ took self.old (replied answer (Payload.Job job)) }
     {
-        let Some(line) = self.first_line() else {
-            return;
-        };
-        match self.stage {
-            Stage::Fresh => self.took_first_job(line, answer, job),
-            Stage::Posting => self.without_canvas(),
-            Stage::Ticking(phase) => {
-                let next = self.answered(phase, answer.value);
-                self.hold_job(job, Some(next));
-            }
-            Stage::Ending(phase) => self.ended(phase),
+        if self.takes_job() {
+            self.job = Some(job);
+            self.took_begun(answer);
+        } else {
+            self.took_answer(answer);
         }
     }
 

@@ -8,16 +8,6 @@ use crate::program::Program;
 use wf_calls::Call;
 use wf_script::{Value, Verb};
 
-/// Puts a call where another one stood.
-#[inline(always)]
-pub(crate) fn put(place: &mut Call, call: Call) -> bool
-    ensures given { result ≡ true }
-    ensures put { place.new ≡ call }
-{
-    *place = call;
-    true
-}
-
 impl<'a> Program<'a> {
     /// What an attribute is set to: four numbers, of which a handle is the first.
     fn set_to(&self, value: &'a Value) -> [i64; 4]
@@ -34,81 +24,93 @@ impl<'a> Program<'a> {
         ensures { IsPut (display_line (handle self.now) verb.now) call.new result }
     {
         match verb {
-            Verb::PortSet { port, attr, value } => put(
-                call,
-                Call::PortSet {
+            Verb::PortSet { port, attr, value } => {
+                *call = Call::PortSet {
                     port: *port,
                     attr: *attr,
                     value: self.set_to(value),
-                },
-            ),
-            Verb::PortGet { port, attr, index } => put(
-                call,
-                Call::PortGet {
+                };
+                true
+            }
+            Verb::PortGet { port, attr, index } => {
+                *call = Call::PortGet {
                     port: *port,
                     attr: *attr,
                     index: *index,
-                },
-            ),
-            Verb::Attach { port, on } => put(
-                call,
-                Call::Attach {
+                };
+                true
+            }
+            Verb::Attach { port, on } => {
+                *call = Call::Attach {
                     port: *port,
                     on: *on,
-                },
-            ),
-            Verb::PipeSet { pipe, attr, value } => put(
-                call,
-                Call::PipeSet {
+                };
+                true
+            }
+            Verb::PipeSet { pipe, attr, value } => {
+                *call = Call::PipeSet {
                     pipe: *pipe,
                     attr: *attr,
                     value: self.set_to(value),
-                },
-            ),
-            Verb::PipeGet { pipe, attr, index } => put(
-                call,
-                Call::PipeGet {
+                };
+                true
+            }
+            Verb::PipeGet { pipe, attr, index } => {
+                *call = Call::PipeGet {
                     pipe: *pipe,
                     attr: *attr,
                     index: *index,
-                },
-            ),
-            Verb::PipeBindPort { pipe, port } => put(
-                call,
-                Call::PipeBindPort {
+                };
+                true
+            }
+            Verb::PipeBindPort { pipe, port } => {
+                *call = Call::PipeBindPort {
                     pipe: *pipe,
                     port: *port,
-                },
-            ),
-            Verb::DisplaySource { pipe, stream } => put(
-                call,
-                Call::DisplaySource {
+                };
+                true
+            }
+            Verb::DisplaySource { pipe, stream } => {
+                *call = Call::DisplaySource {
                     pipe: *pipe,
                     stream: self.handle(stream),
-                },
-            ),
-            Verb::DisplaySourceDestroy { source } => put(
-                call,
-                Call::DisplaySourceDestroy {
+                };
+                true
+            }
+            Verb::DisplaySourceDestroy { source } => {
+                *call = Call::DisplaySourceDestroy {
                     source: self.handle(source),
-                },
-            ),
+                };
+                true
+            }
             Verb::PipeBindSource {
                 pipe,
                 source,
                 transition,
-            } => put(
-                call,
-                Call::PipeBindSource {
+            } => {
+                *call = Call::PipeBindSource {
                     pipe: *pipe,
                     source: self.handle(source),
                     transition: *transition,
-                },
-            ),
-            Verb::CommitDevice => put(call, Call::CommitDevice),
-            Verb::CommitPort { port } => put(call, Call::CommitPort { port: *port }),
-            Verb::CommitPipe { pipe } => put(call, Call::CommitPipe { pipe: *pipe }),
-            Verb::DisplayError => put(call, Call::DisplayError),
+                };
+                true
+            }
+            Verb::CommitDevice => {
+                *call = Call::CommitDevice;
+                true
+            }
+            Verb::CommitPort { port } => {
+                *call = Call::CommitPort { port: *port };
+                true
+            }
+            Verb::CommitPipe { pipe } => {
+                *call = Call::CommitPipe { pipe: *pipe };
+                true
+            }
+            Verb::DisplayError => {
+                *call = Call::DisplayError;
+                true
+            }
             _ => false,
         }
     }
@@ -122,40 +124,40 @@ impl<'a> Program<'a> {
                 device,
                 context,
                 stream,
-            } => put(
-                call,
-                Call::SourceNew {
+            } => {
+                *call = Call::SourceNew {
                     device: self.handle(device),
                     context: self.handle(context),
                     stream: self.handle(stream),
-                },
-            ),
-            Verb::SourceDestroy { device, source } => put(
-                call,
-                Call::SourceDestroy {
+                };
+                true
+            }
+            Verb::SourceDestroy { device, source } => {
+                *call = Call::SourceDestroy {
                     device: self.handle(device),
                     source: self.handle(source),
-                },
-            ),
+                };
+                true
+            }
             Verb::MaskNew {
                 device,
                 context,
                 stream,
-            } => put(
-                call,
-                Call::MaskNew {
+            } => {
+                *call = Call::MaskNew {
                     device: self.handle(device),
                     context: self.handle(context),
                     stream: self.handle(stream),
-                },
-            ),
-            Verb::MaskDestroy { device, mask } => put(
-                call,
-                Call::MaskDestroy {
+                };
+                true
+            }
+            Verb::MaskDestroy { device, mask } => {
+                *call = Call::MaskDestroy {
                     device: self.handle(device),
                     mask: self.handle(mask),
-                },
-            ),
+                };
+                true
+            }
             _ => self.display_line(verb, call),
         }
     }
@@ -165,81 +167,81 @@ impl<'a> Program<'a> {
         ensures { IsPut (element_call (handle self.now) verb.now) call.new result }
     {
         match verb {
-            Verb::ElementNew { device, context } => put(
-                call,
-                Call::ElementNew {
+            Verb::ElementNew { device, context } => {
+                *call = Call::ElementNew {
                     device: self.handle(device),
                     context: self.handle(context),
-                },
-            ),
+                };
+                true
+            }
             Verb::ElementSet {
                 device,
                 element,
                 attr,
                 value,
-            } => put(
-                call,
-                Call::ElementSet {
+            } => {
+                *call = Call::ElementSet {
                     device: self.handle(device),
                     element: self.handle(element),
                     attr: *attr,
                     value: self.set_to(value),
-                },
-            ),
+                };
+                true
+            }
             Verb::ElementGet {
                 device,
                 element,
                 attr,
                 index,
-            } => put(
-                call,
-                Call::ElementGet {
+            } => {
+                *call = Call::ElementGet {
                     device: self.handle(device),
                     element: self.handle(element),
                     attr: *attr,
                     index: *index,
-                },
-            ),
+                };
+                true
+            }
             Verb::ElementInsert {
                 device,
                 element,
                 below,
-            } => put(
-                call,
-                Call::ElementInsert {
+            } => {
+                *call = Call::ElementInsert {
                     device: self.handle(device),
                     element: self.handle(element),
                     below: self.handle(below),
-                },
-            ),
-            Verb::ElementRemove { device, element } => put(
-                call,
-                Call::ElementRemove {
+                };
+                true
+            }
+            Verb::ElementRemove { device, element } => {
+                *call = Call::ElementRemove {
                     device: self.handle(device),
                     element: self.handle(element),
-                },
-            ),
-            Verb::ElementAbove { device, element } => put(
-                call,
-                Call::ElementAbove {
+                };
+                true
+            }
+            Verb::ElementAbove { device, element } => {
+                *call = Call::ElementAbove {
                     device: self.handle(device),
                     element: self.handle(element),
-                },
-            ),
-            Verb::ElementBelow { device, element } => put(
-                call,
-                Call::ElementBelow {
+                };
+                true
+            }
+            Verb::ElementBelow { device, element } => {
+                *call = Call::ElementBelow {
                     device: self.handle(device),
                     element: self.handle(element),
-                },
-            ),
-            Verb::ElementDestroy { device, element } => put(
-                call,
-                Call::ElementDestroy {
+                };
+                true
+            }
+            Verb::ElementDestroy { device, element } => {
+                *call = Call::ElementDestroy {
                     device: self.handle(device),
                     element: self.handle(element),
-                },
-            ),
+                };
+                true
+            }
             _ => self.source_call(verb, call),
         }
     }
@@ -249,76 +251,76 @@ impl<'a> Program<'a> {
         ensures { IsPut (context_call (handle self.now) verb.now) call.new result }
     {
         match verb {
-            Verb::ScreenContext { device, port } => put(
-                call,
-                Call::ScreenContext {
+            Verb::ScreenContext { device, port } => {
+                *call = Call::ScreenContext {
                     device: self.handle(device),
                     port: *port,
-                },
-            ),
-            Verb::StreamContext { device, stream } => put(
-                call,
-                Call::StreamContext {
+                };
+                true
+            }
+            Verb::StreamContext { device, stream } => {
+                *call = Call::StreamContext {
                     device: self.handle(device),
                     stream: self.handle(stream),
-                },
-            ),
+                };
+                true
+            }
             Verb::ContextSet {
                 device,
                 context,
                 attr,
                 value,
-            } => put(
-                call,
-                Call::ContextSet {
+            } => {
+                *call = Call::ContextSet {
                     device: self.handle(device),
                     context: self.handle(context),
                     attr: *attr,
                     value: self.set_to(value),
-                },
-            ),
+                };
+                true
+            }
             Verb::ContextGet {
                 device,
                 context,
                 attr,
                 index,
-            } => put(
-                call,
-                Call::ContextGet {
+            } => {
+                *call = Call::ContextGet {
                     device: self.handle(device),
                     context: self.handle(context),
                     attr: *attr,
                     index: *index,
-                },
-            ),
-            Verb::Commit { device, context } => put(
-                call,
-                Call::Commit {
+                };
+                true
+            }
+            Verb::Commit { device, context } => {
+                *call = Call::Commit {
                     device: self.handle(device),
                     context: self.handle(context),
-                },
-            ),
-            Verb::Activate { device, context } => put(
-                call,
-                Call::Activate {
+                };
+                true
+            }
+            Verb::Activate { device, context } => {
+                *call = Call::Activate {
                     device: self.handle(device),
                     context: self.handle(context),
-                },
-            ),
-            Verb::Deactivate { device, context } => put(
-                call,
-                Call::Deactivate {
+                };
+                true
+            }
+            Verb::Deactivate { device, context } => {
+                *call = Call::Deactivate {
                     device: self.handle(device),
                     context: self.handle(context),
-                },
-            ),
-            Verb::ContextDestroy { device, context } => put(
-                call,
-                Call::ContextDestroy {
+                };
+                true
+            }
+            Verb::ContextDestroy { device, context } => {
+                *call = Call::ContextDestroy {
                     device: self.handle(device),
                     context: self.handle(context),
-                },
-            ),
+                };
+                true
+            }
             _ => self.element_call(verb, call),
         }
     }
@@ -333,35 +335,41 @@ impl<'a> Program<'a> {
                 height,
                 format,
                 buffers,
-            } => put(
-                call,
-                Call::StreamNew {
+            } => {
+                *call = Call::StreamNew {
                     width: *width,
                     height: *height,
                     format: *format,
                     buffers: *buffers,
-                },
-            ),
-            Verb::StreamDestroy { stream } => put(
-                call,
-                Call::StreamDestroy {
+                };
+                true
+            }
+            Verb::StreamDestroy { stream } => {
+                *call = Call::StreamDestroy {
                     stream: self.handle(stream),
-                },
-            ),
-            Verb::Stat { what } => put(call, Call::Stat { what: *what }),
-            Verb::DeviceNew => put(call, Call::DeviceNew),
-            Verb::DeviceDestroy { device } => put(
-                call,
-                Call::DeviceDestroy {
+                };
+                true
+            }
+            Verb::Stat { what } => {
+                *call = Call::Stat { what: *what };
+                true
+            }
+            Verb::DeviceNew => {
+                *call = Call::DeviceNew;
+                true
+            }
+            Verb::DeviceDestroy { device } => {
+                *call = Call::DeviceDestroy {
                     device: self.handle(device),
-                },
-            ),
-            Verb::GetError { device } => put(
-                call,
-                Call::GetError {
+                };
+                true
+            }
+            Verb::GetError { device } => {
+                *call = Call::GetError {
                     device: self.handle(device),
-                },
-            ),
+                };
+                true
+            }
             _ => self.context_call(verb, call),
         }
     }

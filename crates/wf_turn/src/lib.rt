@@ -1,6 +1,7 @@
 //! The clients of a script: their programs, their turns, and the film of an order.
 #![tactic(auto)]
 
+mod asking;
 mod bringing;
 mod calls;
 mod index;
@@ -25,4 +26,4 @@ pub use program::Program;
 pub use quotas::quota;
 pub use replaying::{ReplayStop, replay, replay_by};
 pub use show::put_job;
-pub use stage::{Phase, Stage, Wanted};
+pub use stage::{Asks, Phase, Stage, Wanted};

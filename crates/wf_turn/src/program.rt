@@ -1,28 +1,25 @@
 //! The program of a client: its lines one after another, as calls.
 
-ghost use Rattle.std.specs.Prelude.{◌≡◌, ◌<◌, ◌≤◌, is_some, option_map, slice_get, IfOk, IfSome, IsSomeAnd, IsTrue, Some, None, true};
-ghost use Rattle.std.specs.Prelude.{if◌then◌else◌};
+ghost use Rattle.std.specs.Prelude.{◌≡◌, ◌<◌, ◌≤◌, slice_get, IfOk, IfSome, IsSomeAnd, IsTrue, None};
 ghost use Rattle.std.specs.List.{list_all};
 ghost use Rattle.std.specs.Option.{option_copied, IfNone};
 ghost use Rattle.wf_calls.specs.Parts.{is_begin};
 ghost use Rattle.wf_script.specs.Script.{is_line};
-ghost use Rattle.wf_turn.specs.Calls.{IsPut, plain_call};
 ghost use Rattle.wf_turn.specs.Going.{GoesOnAfter};
-ghost use Rattle.wf_turn.specs.Program.{asked_for, first_call, first_line, issued, handle, in_setup, kept_first, next, plain, place_of};
+ghost use Rattle.wf_turn.specs.Program.{first_line, issued, handle, in_setup, next, place_of};
 ghost use Rattle.wf_turn.specs.Program.{line_of, program, taught};
 ghost use Rattle.wf_turn.specs.Quota.{left, quota};
 ghost use Rattle.wf_turn.specs.Ready.{IsFit};
 
-use crate::calls::put;
 use crate::names::Names;
 use crate::setup::setup_lines;
 use crate::skipping::skip;
-use crate::stage::{Phase, Stage, Wanted};
+use crate::stage::{Stage, Wanted};
 use std::alloc::Global;
 use std::marker::Model;
 use wf_calls::{Call, Job};
 use wf_image::Canvas;
-use wf_script::{Line, Name, Script, Verb};
+use wf_script::{Line, Name, Script};
 use wf_words::NoMemory;
 
 /// The program of a client of a script. It hands out the calls of the client's lines one after another, and takes the
@@ -63,16 +60,6 @@ pub(crate) fn unasked() -> Wanted {
     }
 }
 
-/// Asks for a call that waits for nothing.
-#[inline(always)]
-fn ask(place: &mut Wanted, call: Call) -> bool
-    ensures given { result ≡ true }
-    ensures put { place.new ≡ plain call }
-{
-    place.wait = false;
-    put(&mut place.call, call)
-}
-
 /// The line at a place, if there is one.
 fn line_at(lines: &[Line], at: usize) -> Option<&Line>
     requires { IsTrue (list_all is_line lines.now) }
@@ -80,19 +67,6 @@ fn line_at(lines: &[Line], at: usize) -> Option<&Line>
     ensures sound { IfSome result (λ l. IsTrue (is_line l.now)) }
 {
     lines.get(at)
-}
-
-/// Asks for what a tick asks for.
-#[inline(never)]
-fn ask_phase(place: &mut Wanted, phase: Phase) -> bool
-    ensures given { result ≡ true }
-    ensures put { place.new ≡ asked_for phase }
-{
-    place.wait = true;
-    match phase {
-        Phase::Contexts { last, .. } => put(&mut place.call, Call::BeginNext { after: last }),
-        Phase::Ports { port } => put(&mut place.call, Call::BeginPort { port: port.into() }),
-    }
 }
 
 impl<'a> Program<'a> {
@@ -143,120 +117,6 @@ impl<'a> Program<'a> {
         ensures sound { IfSome result (λ l. IsTrue (is_line l.now)) }
     {
         line_at(self.script.lines(), self.at)
-    }
-
-    /// The call that a line begins with, if it makes an event: it is put where one stood.
-    fn first_call(&mut self, verb: &'a Verb, wanted: &mut Wanted) -> bool
-        ensures wanted { IsPut (first_call self.old verb.now) wanted.new result }
-        ensures issued { self.new ≡ record self.old { canvas = kept_first verb.now self.old.canvas } }
-    {
-        match verb {
-            Verb::Acquire { stream } | Verb::Frame { stream, .. } => self.acquire(stream, wanted),
-            Verb::Post => self.post(wanted),
-            Verb::Discard => self.discard(wanted),
-            Verb::Paint(_) => false,
-            Verb::Tick => ask_phase(wanted, Phase::Contexts { asked: 0, last: 0 }),
-            Verb::Compose { device, context } => self.compose(device, context, true, wanted),
-            Verb::TryCompose { device, context } => self.compose(device, context, false, wanted),
-            _ => self.one_call(verb, wanted),
-        }
-    }
-
-    /// What a line wants that is one call and waits for nothing, if it is such a line.
-    fn one_call(&self, verb: &'a Verb, wanted: &mut Wanted) -> bool
-        ensures { IsPut (option_map plain (plain_call (handle self.now) verb.now)) wanted.new result }
-    {
-        wanted.wait = false;
-        self.plain_call(verb, &mut wanted.call)
-    }
-
-    /// Asks for a frame of a context.
-    fn compose(
-        &self,
-        device: &'a Option<Name>,
-        context: &'a Option<Name>,
-        wait: bool,
-        wanted: &mut Wanted,
-    ) -> bool
-        ensures { IsPut (Some (record { call = Call.BeginContext (handle self.now device.now) (handle self.now context.now); wait = wait }))
-            wanted.new result }
-    {
-        wanted.wait = wait;
-        put(
-            &mut wanted.call,
-            Call::BeginContext {
-                device: self.handle(device),
-                context: self.handle(context),
-            },
-        )
-    }
-
-    /// Asks for a stream's write buffer, unless one is held.
-    fn acquire(&self, stream: &'a Option<Name>, wanted: &mut Wanted) -> bool
-        ensures { IsPut (if is_some self.now.canvas then None else Some (plain (Call.Acquire (handle self.now stream.now))))
-            wanted.new result }
-    {
-        if self.canvas.is_some() {
-            return false;
-        }
-        ask(
-            wanted,
-            Call::Acquire {
-                stream: self.handle(stream),
-            },
-        )
-    }
-
-    /// Hands the canvas out, to be posted.
-    #[inline(never)]
-    fn post(&mut self, wanted: &mut Wanted) -> bool
-        ensures wanted { IsPut (option_map (λ canvas. plain (Call.Post canvas)) self.old.canvas) wanted.new result }
-        ensures issued { self.new ≡ record self.old { canvas = None } }
-    {
-        match self.canvas.take() {
-            Some(canvas) => ask(wanted, Call::Post(canvas)),
-            None => false,
-        }
-    }
-
-    /// Hands the canvas out, to be given back.
-    #[inline(never)]
-    fn discard(&mut self, wanted: &mut Wanted) -> bool
-        ensures wanted { IsPut (option_map (λ canvas. plain (Call.Discard canvas)) self.old.canvas) wanted.new result }
-        ensures issued { self.new ≡ record self.old { canvas = None } }
-    {
-        match self.canvas.take() {
-            Some(canvas) => ask(wanted, Call::Discard(canvas)),
-            None => false,
-        }
-    }
-
-    /// Hands the Job out, to be ended.
-    #[inline(never)]
-    fn end(&mut self, wanted: &mut Wanted) -> bool
-        ensures wanted { IsPut (option_map (λ job. plain (Call.End job)) self.old.job) wanted.new result }
-        ensures issued { self.new ≡ record self.old { job = None } }
-    {
-        match self.job.take() {
-            Some(job) => ask(wanted, Call::End(job)),
-            None => false,
-        }
-    }
-
-    /// The next call, as `next` gives it, if there is one: it is put where one stood.
-    pub(crate) fn next_into(&mut self, wanted: &mut Wanted) -> bool
-        ensures wanted { IsPut (next self.old) wanted.new result }
-        ensures issued { self.new ≡ issued self.old }
-    {
-        let Some(line) = self.first_line() else {
-            return false;
-        };
-        match self.stage {
-            Stage::Fresh => self.first_call(&line.verb, wanted),
-            Stage::Posting => self.post(wanted),
-            Stage::Ticking(phase) => ask_phase(wanted, phase),
-            Stage::Ending(_) => self.end(wanted),
-        }
     }
 
     /// The next call, or none where the client's lines are through. What the call carries goes out with it. No Job is

@@ -1,6 +1,7 @@
 //! Where a program stands in its first line.
 
 use wf_calls::Call;
+use wf_image::Canvas;
 
 /// What a tick asks for next.
 #[derive(Clone, Copy, Debug, PartialEq, Eq)]
@@ -29,4 +30,21 @@ pub enum Stage {
 pub struct Wanted {
     pub call: Call,
     pub wait: bool,
+}
+
+/// What a program asks for next. What a call carries is told here, and no such call is made: so no large value is moved.
+#[derive(Drop)]
+pub enum Asks {
+    /// The lines are through.
+    Nothing,
+    /// The call that was put in its place, which carries nothing.
+    Call,
+    /// A stream's write buffer.
+    Acquire { stream: u32 },
+    /// The canvas is posted.
+    Post(Canvas),
+    /// The canvas is given back unseen.
+    Discard(Canvas),
+    /// The frame ends whose Job is held.
+    End,
 }

@@ -10,7 +10,7 @@ ghost use Rattle.wf_turn.specs.Lending.{lends_job};
 ghost use Rattle.wf_turn.specs.Ready.{IsAnswered, IsAsking, IsWork};
 ghost use Rattle.wf_turn.specs.Names.{bound_name, bound_value};
 ghost use Rattle.wf_turn.specs.Program.{answered, asked_next, at_port, go_on, is_work, line_done, port_count, ticking, took};
-ghost use Rattle.wf_turn.specs.Program.{took_first, worked};
+ghost use Rattle.wf_turn.specs.Program.{took_first, unheld, worked};
 
 use crate::names::Names;
 use crate::program::Program;
@@ -107,11 +107,11 @@ impl<'a> Program<'a> {
         }
     }
 
-    /// Goes on after the end of a frame.
+    /// Goes on with no Job held: a frame ended, or none began.
     #[inline(never)]
-    pub(crate) fn ended(&mut self, phase: Option<Phase>)
+    pub(crate) fn go_on_without(&mut self, phase: Option<Phase>)
         requires { IsAnswered (port_count self.old) phase }
-        ensures { self.new ≡ go_on (record self.old { job = None; unpainted = false }) phase }
+        ensures { self.new ≡ go_on (unheld self.old) phase }
     {
         self.job = None;
         self.unpainted = false;
@@ -129,12 +129,12 @@ impl<'a> Program<'a> {
             Verb::Frame { .. } => self.finish(0),
             Verb::Tick => {
                 self.start_tick();
-                self.go_on(Some(Phase::Contexts {
+                self.go_on_without(Some(Phase::Contexts {
                     asked: 1,
                     last: answer.value,
                 }));
             }
-            Verb::Compose { .. } | Verb::TryCompose { .. } => self.finish(0),
+            Verb::Compose { .. } | Verb::TryCompose { .. } => self.go_on_without(None),
             _ => self.finish(answer.value),
         }
     }
@@ -149,8 +149,8 @@ impl<'a> Program<'a> {
         match self.stage {
             Stage::Fresh => self.took_first_answer(line, answer),
             Stage::Posting => self.without_canvas(),
-            Stage::Ticking(phase) => self.go_on(Some(self.answered(phase, answer.value))),
-            Stage::Ending(phase) => self.ended(phase),
+            Stage::Ticking(phase) => self.go_on_without(Some(self.answered(phase, answer.value))),
+            Stage::Ending(phase) => self.go_on_without(phase),
         }
     }
 

@@ -1,19 +1,22 @@
 //! One turn of a program.
 
-ghost use Rattle.std.specs.Prelude.{IsTrue, IsFalse};
+ghost use Rattle.std.specs.Prelude.{◌≡◌, ◌≢◌, true, IfSome, IsSome, IsTrue};
+ghost use Rattle.wf_calls.specs.Codes.{entry};
 ghost use Rattle.wf_calls.specs.Parts.{carries, is_begin, part_of};
+ghost use Rattle.wf_calls.specs.Replies.{with_canvas};
+ghost use Rattle.wf_turn.specs.Asking.{asked, is_ending, takes_job};
 ghost use Rattle.wf_turn.specs.Playing.{Answers, IsReady, TakesTurn};
-ghost use Rattle.wf_turn.specs.Program.{is_work, worked};
+ghost use Rattle.wf_turn.specs.Program.{is_work, took, worked};
 ghost use Rattle.wf_turn.specs.Ready.{IsWork};
 
 use crate::program::Program;
-use crate::stage::Wanted;
-use std::mem;
-use wf_calls::{Call, Turn};
+use crate::stage::{Asks, Wanted};
+use wf_calls::{Answer, Call, Turn};
+use wf_image::Canvas;
 use wf_machine::Machine;
 
-/// One turn of a client's program that is not through: the machine answers its next call, which is put where one stood. It
-/// gives the entry; a Job that comes is left to paint.
+/// One turn of a client's program that is not through: the machine answers its next call. It gives the entry; a Job that comes
+/// is left to paint.
 pub(crate) fn take_turn(
     machine: &mut Machine,
     program: &mut Program,
@@ -24,57 +27,83 @@ pub(crate) fn take_turn(
     ensures takes { TakesTurn client machine.old machine.new program.old (worked program.new) result (is_work program.new) }
     ensures work { IsWork program.new }
 {
-    if !program.next_into(wanted) {
-        unreachable!()
+    let asks = program.asks(wanted);
+    take_asked(machine, program, client, asks, wanted)
+}
+
+/// The machine answers what a program asks for, and the program takes the answer. No Job is moved, neither where a frame begins
+/// nor where it ends.
+pub(crate) fn take_asked(
+    machine: &mut Machine,
+    program: &mut Program,
+    client: u8,
+    asks: Asks,
+    wanted: &Wanted,
+) -> Turn
+    requires some { asks ≢ Asks.Nothing }
+    requires call { asks ≡ Asks.Call → carries (part_of wanted.now.call) ≡ is_begin wanted.now.call }
+    requires begins { asks ≡ Asks.Call → is_begin wanted.now.call ≡ true → takes_job program.old ≡ true }
+    requires ends { asks ≡ Asks.End → (is_ending program.old ≡ true) × IsSome program.old.job }
+    ensures { IfSome (asked program.old.job wanted.now asks)
+        (λ w. Answers client machine.old machine.new w.call program.old program.new result) }
+{
+    match asks {
+        Asks::Nothing => unreachable!(),
+        Asks::Call => take_called(machine, program, client, &wanted.call),
+        Asks::Acquire { stream } => take_canvas(program, client, machine.acquire(client, stream)),
+        Asks::Post(canvas) => take_canvas(program, client, machine.post(client, canvas)),
+        Asks::Discard(canvas) => take_canvas(program, client, machine.discard(client, canvas)),
+        Asks::End => take_end(machine, program, client),
     }
-    match machine.answer(client, &wanted.call) {
+}
+
+/// The turn of a call that carries nothing, or begins a frame.
+fn take_called(machine: &mut Machine, program: &mut Program, client: u8, call: &Call) -> Turn
+    requires call { carries (part_of call.now) ≡ is_begin call.now }
+    requires begins { is_begin call.now ≡ true → takes_job program.old ≡ true }
+    ensures { Answers client machine.old machine.new call.now program.old program.new result }
+{
+    match machine.answer(client, call) {
         Some(answer) => {
             program.took_answer(answer);
             answer.entry(client)
         }
-        None => take_carrying_turn(machine, program, client, &mut wanted.call),
+        None => take_begin(machine, program, client, call),
     }
 }
 
-/// The turn of a call that begins a frame, or that carries an image or brings one: functions of their own, so that the other
-/// turns move none.
-pub(crate) fn take_carrying_turn(
-    machine: &mut Machine,
-    program: &mut Program,
-    client: u8,
-    call: &mut Call,
-) -> Turn
-    requires { IsTrue (carries (part_of call.old)) }
-    ensures { Answers client machine.old machine.new call.old program.old program.new result }
-{
-    if call.is_begin() {
-        take_begin(machine, program, client, call)
-    } else {
-        take_image(machine, program, client, call)
-    }
-}
-
-/// The turn of a call that begins a frame.
-#[inline(never)]
+/// The turn of a call that begins a frame: the Job is put where the program holds it.
 fn take_begin(machine: &mut Machine, program: &mut Program, client: u8, call: &Call) -> Turn
-    requires { IsTrue (is_begin call.now) }
+    requires call { IsTrue (is_begin call.now) }
+    requires begins { takes_job program.old ≡ true }
     ensures { Answers client machine.old machine.new call.now program.old program.new result }
 {
-    let reply = machine.begin(client, call);
-    let turn = reply.entry(client);
-    program.took(reply);
-    turn
+    let answer = machine.begin(client, call, &mut program.job);
+    program.took_begun(answer);
+    answer.entry(client)
 }
 
-/// The turn of a call that carries an image or brings one.
-#[inline(never)]
-fn take_image(machine: &mut Machine, program: &mut Program, client: u8, call: &mut Call) -> Turn
-    requires carries { IsTrue (carries (part_of call.old)) }
-    requires other { IsFalse (is_begin call.old) }
-    ensures { Answers client machine.old machine.new call.old program.old program.new result }
+/// The turn of the end of a frame, whose Job is held.
+fn take_end(machine: &mut Machine, program: &mut Program, client: u8) -> Turn
+    requires job { IsSome program.old.job }
+    requires ends { is_ending program.old ≡ true }
+    ensures { IfSome program.old.job
+        (λ job. Answers client machine.old machine.new (Call.End job) program.old program.new result) }
 {
-    let reply = machine.carry(client, mem::replace(call, Call::DeviceNew));
-    let turn = reply.entry(client);
-    program.took(reply);
-    turn
+    let answer = machine.end(client, &mut program.job);
+    program.took_answer(answer);
+    answer.entry(client)
+}
+
+/// The program takes an answer with which a canvas comes, or nothing.
+fn take_canvas(program: &mut Program, client: u8, answered: (Answer, Option<Canvas>)) -> Turn
+    ensures now { program.new ≡ took program.old (with_canvas answered) }
+    ensures entry { result ≡ entry client (with_canvas answered) }
+{
+    let (answer, canvas) = answered;
+    match canvas {
+        Some(canvas) => program.took_canvas(answer, canvas),
+        None => program.took_answer(answer),
+    }
+    answer.entry(client)
 }

@@ -4,8 +4,8 @@ use Rattle.wf_machine.proofs.latching.latch_scene.Goals as goal
 
 pub loop-layer-init : goal.loop-layer-init
 loop-layer-init c = record {
-  so_far = nothing_taken _ _ c.new-images.ensures;
-  few = omega (arith, ap length c.new-images.ensures);
+  so_far = nothing_taken _ _ c.requires.none;
+  few = omega (arith, ap length c.requires.none);
 }
 
 pub take-requires-clause-home : goal.take-requires-clause-home

@@ -1,7 +1,7 @@
 use Rattle.wf_machine.proofs.Common.{Err, refl, ap, ◌∙◌, acquired, bare, refusal, refused}
 use Rattle.wf_machine.proofs.Common.{acquirable, acquire_step, canvas_of, has_number, state_of, with_stream}
 use Rattle.wf_calls.specs.declared.code.Code.TheVariants as code
-use Rattle.wf_calls.specs.Replies.{gives_canvas}
+use Rattle.wf_calls.specs.Replies.{gives_canvas, with_canvas}
 use Rattle.wf_machine.proofs.Buffering.{busy, found, given, no_buffer}
 use Rattle.wf_machine.proofs.Counts.{room, same_settled, seen_settled, sound_settles}
 use Rattle.wf_machine.proofs.StreamNames.{acquired_counted, acquired_kept, acquired_room, acquired_seen, sound_acquired}
@@ -80,7 +80,7 @@ returns-clause-acquired c =
     let free = c.in-Ok-acquire_from.ensures.free s.0 s.2 in
     let named = c.begin_name.ensures in
     leaves_so m _ c.self.view_is (λ t r. acquire_step t (acquirable c.args.stream t))
-    (state_of (record m { store = c.begin_name.new.store })) (with_stream number acquired (state_of m)) c.giving_canvas.result
+    (state_of (record m { store = c.begin_name.new.store })) (with_stream number acquired (state_of m)) (with_canvas c.giving_canvas.result)
     (gives_canvas (canvas_of s.0))
     (acquired_seen m c.self.invariant number s.0 s.2 free.0 _ c.in-Ok-acquire_from.ensures.acquired _
     named.names named.none named.streams named.rest)

@@ -1,5 +1,6 @@
 use Rattle.wf_machine.proofs.Common.{rules, to_z-of_z, act}
 use Rattle.wf_calls.specs.Parts.{no_register, of_device}
+use Rattle.wf_calls.specs.Replies.{with_job}
 use Rattle.wf_model.specs.Frames.{begin_composed, begin_next, started}
 use mir.Syntax.{w64}
 use mir.Val.{SFits}
@@ -20,7 +21,7 @@ returns-in-BeginPort c =
     let p : SFits w64 c.in-BeginPort.port = search rules in
     let begun = rw (to_z-of_z p) at c.begin_port.ensures in
     as_begin _ _ _ (call.BeginPort c.in-BeginPort.port)
-    c.begin_port.result c.in-BeginPort.is begun.left begun.answer
+    (with_job c.begin_port.result c.begin_port.new.job) c.in-BeginPort.is begun.left begun.answer
 
 pub returns-in-BeginContext : goal.returns-in-BeginContext
 unfolding act

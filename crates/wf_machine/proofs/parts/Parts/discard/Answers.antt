@@ -1,5 +1,6 @@
 use Rattle.wf_machine.proofs.Common.{refl, sym, ap, ◌∙◌, discarded, bare, done, canvas_back, is_out_at_client, settle, settled_so, state_of}
 use Rattle.wf_machine.proofs.Common.{with_stream}
+use Rattle.wf_calls.specs.Replies.{with_canvas}
 use Rattle.wf_machine.proofs.Acts.{as_settled}
 use Rattle.wf_machine.proofs.Buffering.{comes_back, out_from, stays_out}
 use Rattle.wf_machine.proofs.Counts.{seen_settled}
@@ -10,7 +11,7 @@ use Rattle.wf_machine.proofs.parts.Parts.discard.Goals as goal
 
 pub returns-then-not-is_out_at_client : goal.returns-then-not-is_out_at_client
 returns-then-not-is_out_at_client c =
-    as_settled _ _ _ (stays_out c.args.canvas discarded c.args.self.now c.giving_back_canvas.result
+    as_settled _ _ _ (stays_out c.args.canvas discarded c.args.self.now (with_canvas c.giving_back_canvas.result)
     (sym c.is_out_at_client.ensures ∙ c.if-not-is_out_at_client.true) c.giving_back_canvas.ensures)
     (seen_settled c.self.inside _ c.self.view_is c.self.invariant)
 
@@ -42,7 +43,7 @@ returns c =
     let out = ap (is_out_at_client c.args.canvas) c.self.view_is ∙ sym c.is_out_at_client.ensures ∙ c.if-not-is_out_at_client.false in
     leaves_so m _ c.self.view_is (λ t r. settled_so (canvas_back c.args.canvas discarded t))
     (state_of (record m { store = c.end_name.new.store })) (settle (with_stream stream discarded (state_of m)))
-    c.bare.result (bare (done 0))
+    (with_canvas c.taking_canvas.result) (bare (done 0))
     (back_seen m c.self.invariant c.args.canvas out discarded discarded_keeps (λ b. refl) _ c.discard_to.ensures _
     c.end_name.ensures.names c.end_name.ensures.none c.end_name.ensures.rest)
-    (c.bare.ensures ∙ ap bare c.done.ensures) (ap settled_so (comes_back c.args.canvas discarded (state_of m) out))
+    c.taking_canvas.ensures (ap settled_so (comes_back c.args.canvas discarded (state_of m) out))

@@ -1,8 +1,9 @@
 use Rattle.wf_machine.proofs.Common.{◌≡◌, ◌+◌, ◌<◌, [], Some, refl, sym, subst, ap, ◌∙◌, start, IsAnswer, IsSound, Frame, Inside, IsReady}
 use Rattle.wf_machine.proofs.Common.{MayStart}
 use Rattle.wf_machine.proofs.Common.{StoreView, content_shape, map, drawing, latch, scene_streams, stream_at, AllByRecursion, beginning_of}
-use Rattle.wf_machine.proofs.Common.{state_of}
+use Rattle.wf_machine.proofs.Common.{Job, state_of}
 use Rattle.std.specs.Option.{IsSome}
+use Rattle.wf_calls.specs.Replies.{with_job}
 use Rattle.wf_stream.specs.Names.{AreCounted}
 use Rattle.wf_stream.specs.Renames.{Renames}
 use Rattle.wf_stream.specs.Streams.{count_of}
@@ -21,33 +22,37 @@ latch_scene-requires-clause-home c = home_without c.self.inside (no_frame c.self
 pub take_target-image-requires : goal.take_target-image-requires
 take_target-image-requires c =
     let free = no_frame c.self.inside _ c.self.view_is c.requires.free in
-    let may = subst (λ h. MayStart c.args.kind c.args.mode c.args.scene h) (sym c.self.view_is) c.requires.may in
+    let may = subst (λ h. MayStart c.args.kind c.args.mode c.args.scene.now h) (sym c.self.view_is) c.requires.may in
     subst (λ v. IsReady v.streams c.self.inside.ports.items c.args.mode c.args.kind) (sym c.latch_scene.ensures.store)
-    (ready c.self.inside c.args.mode c.args.scene c.args.value c.self.invariant.holds free c.args.kind may.draws)
+    (ready c.self.inside c.args.mode c.args.scene.now c.args.value c.self.invariant.holds free c.args.kind may.draws)
 
 pub begin_names-requires-clause-counted : goal.begin_names-requires-clause-counted
 begin_names-requires-clause-counted c =
     subst AreCounted (sym (c.take_target-image.ensures.store
     ∙ ap (λ (v : StoreView). record v { streams = drawing c.args.kind v.streams }) c.latch_scene.ensures.store))
-    (counted_begun c.args.kind (scene_streams c.args.scene) c.self.inside.store c.self.invariant.counted)
+    (counted_begun c.args.kind (scene_streams c.args.scene.now) c.self.inside.store c.self.invariant.counted)
+
+-- the shapes are those of the images that were taken
+shapes_are : (c : goal.After-as_slice) → c.latched.inside.shapes.items ≡ map content_shape c.latch_scene.new.images
+shapes_are c = c.latched.invariant ∙ ap (map content_shape) c.latched.view_is
 
 pub begin_names-requires-clause-kept : goal.begin_names-requires-clause-kept
 begin_names-requires-clause-kept c =
     subst (λ cs. AllByRecursion (λ x. IsSome (stream_at x.stream c.take_target-image.new.store.streams)) cs)
-    (sym (c.as_slice.ensures.value ∙ c.into_parts-contents.ensures.shapes))
-    (subst (λ (v : StoreView). AllByRecursion (λ x. IsSome (stream_at x.stream v.streams)) (map content_shape c.latch_scene.result))
+    (sym (c.as_slice.ensures.value ∙ shapes_are c))
+    (subst (λ (v : StoreView). AllByRecursion (λ x. IsSome (stream_at x.stream v.streams)) (map content_shape c.latch_scene.new.images))
     (sym c.take_target-image.ensures.store)
     (contents_kept c.args.kind _ c.latch_scene.new.store.streams c.latch_scene.ensures.shaped))
 
 pub begin_names-requires-clause-target : goal.begin_names-requires-clause-target
 begin_names-requires-clause-target c =
     let free = no_frame c.self.inside _ c.self.view_is c.requires.free in
-    let may = subst (λ h. MayStart c.args.kind c.args.mode c.args.scene h) (sym c.self.view_is) c.requires.may in
+    let may = subst (λ h. MayStart c.args.kind c.args.mode c.args.scene.now h) (sym c.self.view_is) c.requires.may in
     subst (λ (v : StoreView). AllByRecursion (λ n. IsSome (stream_at n v.streams)) (drawn_names c.args.kind))
     (sym (c.take_target-image.ensures.store
     ∙ ap (λ (v : StoreView). record v { streams = drawing c.args.kind v.streams }) c.latch_scene.ensures.store))
-    (drawn_kept c.args.kind (latch (scene_streams c.args.scene) c.self.inside.store.streams) c.self.inside.ports.items c.args.mode
-    (ready c.self.inside c.args.mode c.args.scene c.args.value c.self.invariant.holds free c.args.kind may.draws))
+    (drawn_kept c.args.kind (latch (scene_streams c.args.scene.now) c.self.inside.store.streams) c.self.inside.ports.items c.args.mode
+    (ready c.self.inside c.args.mode c.args.scene.now c.args.value c.self.invariant.holds free c.args.kind may.draws))
 
 pub begin_names-requires-clause-few : goal.begin_names-requires-clause-few
 begin_names-requires-clause-few c = c.as_slice.ensures.fits
@@ -59,7 +64,7 @@ begin_names-requires-clause-room c n =
     ∙ ap (λ (v : StoreView). record v { streams = drawing c.args.kind v.streams }) c.latch_scene.ensures.store)))
     (room c.self.inside c.self.invariant c.few_names.ensures c.few_names-2.ensures n)
 
-module _ (c : goal.After-giving_job) where
+module _ (c : goal.After-done) where
   abbrev frame : Frame
   frame =
       record {
@@ -68,7 +73,17 @@ module _ (c : goal.After-giving_job) where
         mode = c.args.mode;
         size = c.size.result;
         format = c.format.result;
-        contents = c.into_parts-contents.result.1;
+        contents = c.latched.inside.shapes;
+      }
+
+  abbrev given : Job
+  given =
+      record {
+        number = c.self.inside.begun + 1;
+        kind = c.args.kind;
+        scene = c.copy.result;
+        contents = c.latched.inside.contents;
+        image = c.take_target-image.result;
       }
 
   -- the machine before the store is told of the frame's names
@@ -83,14 +98,14 @@ module _ (c : goal.After-giving_job) where
         frame = Some frame;
       }
 
-  starts : Starts c.self.inside now c.args.kind c.args.mode c.args.scene c.latch_scene.new.store c.latch_scene.result
-      c.into_parts-contents.result.0
+  starts : Starts c.self.inside now c.args.kind c.args.mode c.args.scene.now c.latch_scene.new.store c.latch_scene.new.images
+      c.latched.inside.contents
       c.take_target-image.result frame
   starts =
       record {
         free = no_frame c.self.inside c.args.self.now c.self.view_is c.requires.free;
         sound = c.self.invariant.holds;
-        may = subst (λ h. MayStart c.args.kind c.args.mode c.args.scene h) (sym c.self.view_is) c.requires.may;
+        may = subst (λ h. MayStart c.args.kind c.args.mode c.args.scene.now h) (sym c.self.view_is) c.requires.may;
         taken = c.latch_scene.ensures.contents;
         latched_is = c.latch_scene.ensures.store;
         shaped = c.latch_scene.ensures.shaped;
@@ -107,8 +122,8 @@ module _ (c : goal.After-giving_job) where
         mode_is = refl;
         size = c.size.ensures.size;
         format = c.format.ensures;
-        shapes = c.into_parts-contents.ensures.shapes;
-        contents_are = c.into_parts-contents.ensures.contents;
+        shapes = c.latched.invariant ∙ ap (map content_shape) c.latched.view_is;
+        contents_are = c.latched.view_is;
       }
 
   -- the store is told of them
@@ -123,19 +138,19 @@ module _ (c : goal.After-giving_job) where
   sound_now : IsSound (record now { store = c.begin_names.new.store })
   sound_now =
       let a = c.args in
-      let may = subst (λ h. MayStart a.kind a.mode a.scene h) (sym c.self.view_is) c.requires.may in
-      sound_told was now (b was now a.kind a.mode a.scene a.value _ _ _ _ frame starts) frame c.into_parts-contents.result.0
-      (begun was now a.kind a.mode a.scene a.value _ _ _ _ frame starts) c.self.invariant was.ports.items a.mode
-      (ready was a.mode a.scene a.value c.self.invariant.holds (no_frame was _ c.self.view_is c.requires.free) a.kind may.draws)
+      let may = subst (λ h. MayStart a.kind a.mode a.scene.now h) (sym c.self.view_is) c.requires.may in
+      sound_told was now (b was now a.kind a.mode a.scene.now a.value _ _ _ _ frame starts) frame c.latched.inside.contents
+      (begun was now a.kind a.mode a.scene.now a.value _ _ _ _ frame starts) c.self.invariant was.ports.items a.mode
+      (ready was a.mode a.scene.now a.value c.self.invariant.holds (no_frame was _ c.self.view_is c.requires.free) a.kind may.draws)
       c.begin_names.new.store told c.begin_names.ensures.streams
 
   seen_now : state_of (record now { store = c.begin_names.new.store }) ≡ state_of now
   seen_now =
       let a = c.args in
-      let may = subst (λ h. MayStart a.kind a.mode a.scene h) (sym c.self.view_is) c.requires.may in
-      told_seen was now (b was now a.kind a.mode a.scene a.value _ _ _ _ frame starts) frame c.into_parts-contents.result.0
-      (begun was now a.kind a.mode a.scene a.value _ _ _ _ frame starts) c.self.invariant was.ports.items a.mode
-      (ready was a.mode a.scene a.value c.self.invariant.holds (no_frame was _ c.self.view_is c.requires.free) a.kind may.draws)
+      let may = subst (λ h. MayStart a.kind a.mode a.scene.now h) (sym c.self.view_is) c.requires.may in
+      told_seen was now (b was now a.kind a.mode a.scene.now a.value _ _ _ _ frame starts) frame c.latched.inside.contents
+      (begun was now a.kind a.mode a.scene.now a.value _ _ _ _ frame starts) c.self.invariant was.ports.items a.mode
+      (ready was a.mode a.scene.now a.value c.self.invariant.holds (no_frame was _ c.self.view_is c.requires.free) a.kind may.draws)
       c.begin_names.new.store told c.begin_names.ensures.streams
 
 pub invariant_of-self : goal.invariant_of-self
@@ -151,7 +166,7 @@ returns-clause-settled c = sound_settles (record (now c) { store = c.begin_names
 
 pub returns-clause-answer : goal.returns-clause-answer
 returns-clause-answer c =
-    subst (λ r. IsAnswer (start (beginning_of c.args.kind c.args.scene c.args.value c.args.self.now) c.args.self.now).1 r)
-    (sym c.giving_job.ensures)
-    (answers c.self.inside (now c) c.args.kind c.args.mode c.args.scene c.args.value _ _ _ _ (frame c) (starts c)
-    c.args.self.now c.self.view_is _ refl refl refl refl refl)
+    subst (λ a. IsAnswer (start (beginning_of c.args.kind c.args.scene.now c.args.value c.args.self.now) c.args.self.now).1
+    (with_job a (Some (given c)))) (sym c.done.ensures)
+    (answers c.self.inside (now c) c.args.kind c.args.mode c.args.scene.now c.args.value _ _ _ _ (frame c) (starts c)
+    c.args.self.now c.self.view_is (given c) refl refl c.copy.ensures refl refl)

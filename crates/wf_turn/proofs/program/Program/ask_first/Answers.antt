@@ -1,10 +1,9 @@
-use Rattle.wf_turn.proofs.Common.{◌≡◌, ap, subst, refl, option_map, Verb, IsPut, plain_call, Program, first_call}
-use Rattle.wf_turn.proofs.Common.{handle, kept_first, plain}
+use Rattle.wf_turn.proofs.Common.{◌≡◌, ◌∙◌, ap, refl, option_map, Verb, plain_call, Program, first_call, handle, kept_first, plain}
 use Rattle.wf_script.specs.declared.line.Verb.TheVariants as verb
-use Rattle.wf_turn.proofs.program.Program.first_call.Goals as goal
+use Rattle.wf_turn.proofs.program.Program.ask_first.Goals as goal
 
 -- a line of one call
-module _ (c : goal.After-one_call) where
+module _ (c : goal.After-ask_one) where
   abbrev p : Program
   p = c.args.self.now
 
@@ -20,10 +19,8 @@ module _ (c : goal.After-one_call) where
   of_verb (verb.TryCompose d x) is = absurd (c.in_default.not-TryCompose d x is)
   of_verb _ is = (refl, refl)
 
-pub returns-in_default-clause-wanted : goal.returns-in_default-clause-wanted
-returns-in_default-clause-wanted c = subst (λ o. IsPut o c.one_call.new.wanted c.one_call.result)
-    (of_verb c _ refl).0 c.one_call.ensures
+pub returns-in_default-clause-asked : goal.returns-in_default-clause-asked
+returns-in_default-clause-asked c = c.ask_one.ensures.asked ∙ (of_verb c _ refl).0
 
 pub returns-in_default-clause-issued : goal.returns-in_default-clause-issued
-returns-in_default-clause-issued c = ap (λ canvas. record c.args.self.now { canvas = canvas })
-    (of_verb c _ refl).1
+returns-in_default-clause-issued c = ap (λ canvas. record c.args.self.now { canvas = canvas }) (of_verb c _ refl).1
