@@ -10,6 +10,7 @@ ghost use Rattle.wf_kernel.specs.Prepared.{AreTables};
 use crate::bound::{BoundLayer, bind_layers};
 use crate::painting::paint;
 use crate::tables::{fill_tables, needs_tables};
+use arrayvec::ArrayVec;
 use std::thread;
 use std::thread::Threads;
 use wf_image::{Contents, Image};
@@ -98,7 +99,8 @@ fn rows_of_bound<R: Threads + Sync>(
     requires tables { AreTables scene.now tables.now }
     ensures { bytes.new ≡ bound_picture scene.now contents.now }
 {
-    let layers = bind_layers(scene, contents, tables);
+    let mut layers = ArrayVec::new();
+    bind_layers(&mut layers, scene, contents, tables);
     paint_bands(
         rt,
         workers,

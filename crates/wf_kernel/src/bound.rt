@@ -1,6 +1,6 @@
 //! Layers with their images at hand, and with what is worked out of each once for all rows.
 
-ghost use Rattle.std.specs.Prelude.{◌≡◌, ◌+◌, ◌<◌, ◌≤◌, ◌≤ℤ◌, ℕ, List, true, All, IsTrue, length, map, pos, slice_index, slice_index_or};
+ghost use Rattle.std.specs.Prelude.{◌≡◌, ◌+◌, ◌<◌, ◌≤◌, ◌≤ℤ◌, ℕ, List, [], true, All, IsTrue, length, map, pos, slice_index, slice_index_or};
 ghost use Rattle.wf_pixel.specs.Place.{IsDrawn, turned, size_of};
 ghost use Rattle.wf_pixel.specs.Choice.{has_sides};
 ghost use Rattle.wf_model.specs.Picture.{Fits, LayerFits};
@@ -92,24 +92,23 @@ impl<'a> Default for BoundLayer<'a> {
     }
 }
 
-/// The layers of a scene with their images among these. A layer that needs a table has it at its own place. What a list of
-/// layers takes of the stack while it is made is free again when the picture is painted.
-#[inline(never)]
+/// Adds the layers of a scene with their images among these to an empty list. A layer that needs a table has it at its own
+/// place. The list is the caller's, so that a picture makes it once and moves it nowhere.
 pub(crate) fn bind_layers<'a>(
+    list: &mut ArrayVec<BoundLayer<'a>, 32>,
     scene: &Scene,
     contents: &'a Contents,
     tables: &'a [[u16; 1024]],
-) -> ArrayVec<BoundLayer<'a>, 32>
+)
+    requires empty { list.old.items ≡ [] }
     requires fits { Fits scene.now contents.now }
     requires tables { AreTables scene.now tables.now }
-    ensures { result.items ≡ map (bound scene.now contents.now) scene.now.layers.items }
+    ensures { list.new.items ≡ map (bound scene.now contents.now) scene.now.layers.items }
 {
-    let mut bound = ArrayVec::new();
     let layers = scene.layers.as_slice();
     for i in 0..layers.len() {
-        bound.push(bind_layer(scene, contents, layers[i], table_at(tables, i)));
+        list.push(bind_layer(scene, contents, layers[i], table_at(tables, i)));
     }
-    bound
 }
 
 /// The table of a layer by its place, or nothing where there are no tables.

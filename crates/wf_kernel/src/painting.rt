@@ -13,6 +13,7 @@ use crate::keeping::{Kept, nothing_kept};
 use crate::laying::lay_row;
 use crate::strips::{Strip, no_strip, strip_for};
 use crate::tables::{fill_tables, needs_tables};
+use arrayvec::ArrayVec;
 use wf_image::{Contents, Image};
 use wf_pixel::{Format, Rgba};
 use wf_scene::Scene;
@@ -65,7 +66,8 @@ fn paint_bound(bytes: &mut [u8], scene: &Scene, contents: &Contents, tables: &[[
     requires tables { AreTables scene.now tables.now }
     ensures { bytes.new ≡ bound_picture scene.now contents.now }
 {
-    let layers = bind_layers(scene, contents, tables);
+    let mut layers = ArrayVec::new();
+    bind_layers(&mut layers, scene, contents, tables);
     paint(bytes, scene.size.w, layers.as_slice(), scene.background, 0);
 }
 

@@ -10,5 +10,5 @@ bind_layer-requires-clause-table c =
 pub loop-i-preserved : goal.loop-i-preserved
 loop-i-preserved c =
     bound_more (bound c.args.scene.now c.args.contents.now) c.as_slice-layers.result.now c.args.scene.now.layers.items c.loop-i.i _
-    c.loop-i.bound.items c.push.new.self.items c.bind_layer.result
+    c.loop-i.list.items c.push.new.self.items c.bind_layer.result
     c.as_slice-layers.ensures.value c.loop-i-test.true c.loop-i.invariant c.bind_layer.ensures c.push.ensures.items

@@ -4,4 +4,4 @@ use Rattle.wf_kernel.proofs.bound.bind_layers.Given as goal
 
 -- the layers so far are bound
 abbrev pub invariant-loop-i : goal.invariant-loop-i
-invariant-loop-i l = l.bound.items ≡ map (bound l.scene l.contents) (take l.i l.scene.layers.items)
+invariant-loop-i l = l.list.items ≡ map (bound l.scene l.contents) (take l.i l.scene.layers.items)
