@@ -11,6 +11,7 @@ ghost use Rattle.wf_kernel.specs.Strips.{IsStrip};
 use crate::bound::{BoundLayer, bind_layers};
 use crate::keeping::{Kept, nothing_kept};
 use crate::laying::lay_row;
+use crate::placing::Walk;
 use crate::strips::{Strip, no_strip, strip_for};
 use crate::tables::{fill_tables, needs_tables};
 use arrayvec::ArrayVec;
@@ -85,24 +86,64 @@ pub(crate) fn paint(
     requires within { first + length bytes.old / (4 * width) ≤ 1024 }
     ensures { bytes.new ≡ bound_rows width layers.now background first (length bytes.old / (4 * width)) }
 {
+    if are_forward(layers) {
+        paint_rows(bytes, width, layers, background, first, &mut [], &mut []);
+    } else {
+        paint_by_lines(bytes, width, layers, background, first);
+    }
+}
+
+/// Whether each layer shows the pixels of its source as they stand there.
+fn are_forward(layers: &[BoundLayer]) -> bool {
+    for layer in layers {
+        if layer.walk != Walk::Forward {
+            return false;
+        }
+    }
+    true
+}
+
+/// Writes rows for which pixels of sources are kept. These stand on the stack, which other rows do without: so this is a
+/// function of its own when it runs, too.
+#[inline(never)]
+fn paint_by_lines(bytes: &mut [u8], width: u32, layers: &[BoundLayer], background: Rgba, first: u32)
+    requires some { 1 ≤ width }
+    requires few { width ≤ 1024 }
+    requires count { length bytes.old % (4 * width) ≡ 0 }
+    requires within { first + length bytes.old / (4 * width) ≤ 1024 }
+    ensures { bytes.new ≡ bound_rows width layers.now background first (length bytes.old / (4 * width)) }
+{
+    let mut kept = [nothing_kept(width)];
+    let mut spare = [[0; 4096]];
+    paint_rows(
+        bytes, width, layers, background, first, &mut kept, &mut spare,
+    );
+}
+
+/// Writes rows by what is kept.
+fn paint_rows(
+    bytes: &mut [u8],
+    width: u32,
+    layers: &[BoundLayer],
+    background: Rgba,
+    first: u32,
+    kept: &mut [Kept],
+    spare: &mut [[u8; 4096]],
+)
+    requires some { 1 ≤ width }
+    requires few { width ≤ 1024 }
+    requires count { length bytes.old % (4 * width) ≡ 0 }
+    requires within { first + length bytes.old / (4 * width) ≤ 1024 }
+    requires kept { All (AreKept layers.now) kept.old }
+    ensures { bytes.new ≡ bound_rows width layers.now background first (length bytes.old / (4 * width)) }
+{
     let stride = 4 * width as usize;
     let mut strips = [no_strip(); 66];
-    let mut kept = nothing_kept(width);
-    let mut spare = [0; 4096];
     for i in 0..bytes.len() / stride {
         let at = i * stride;
         let row = &mut bytes[at..at + stride];
         let y = first + i as u32;
-        paint_row(
-            row,
-            width,
-            layers,
-            background,
-            &mut strips,
-            &mut kept,
-            &mut spare,
-            y,
-        );
+        paint_row(row, width, layers, background, &mut strips, kept, spare, y);
     }
 }
 
@@ -113,18 +154,18 @@ fn paint_row(
     layers: &[BoundLayer],
     background: Rgba,
     strips: &mut [Strip],
-    kept: &mut Kept,
-    spare: &mut [u8; 4096],
+    kept: &mut [Kept],
+    spare: &mut [[u8; 4096]],
     y: u32,
 )
     requires few { width ≤ 1024 }
     requires y { y < 1024 }
     requires count { length row.old ≡ 4 * width }
     requires strips { All (IsStrip layers.now width) strips.old }
-    requires kept { AreKept layers.now kept.old }
+    requires kept { All (AreKept layers.now) kept.old }
     ensures row { row.new ≡ bound_row width layers.now background y }
     ensures strips { All (IsStrip layers.now width) strips.new }
-    ensures kept { AreKept layers.now kept.new }
+    ensures kept { All (AreKept layers.now) kept.new }
 {
     let mut first = 0;
     let mut k = 0usize;
@@ -145,8 +186,8 @@ fn paint_strip(
     layers: &[BoundLayer],
     background: Rgba,
     strip: Strip,
-    kept: &mut Kept,
-    spare: &mut [u8; 4096],
+    kept: &mut [Kept],
+    spare: &mut [[u8; 4096]],
     y: u32,
 )
     requires few { width ≤ 1024 }
@@ -155,9 +196,9 @@ fn paint_strip(
     requires strip { IsStrip layers.now width strip }
     requires from { strip.from ≤ y }
     requires bottom { y < strip.bottom }
-    requires kept { AreKept layers.now kept.old }
+    requires kept { All (AreKept layers.now) kept.old }
     ensures row { row.new ≡ drawn_row strip.width Format.Rgba8Pre (λ x. bound_colour layers.now background (strip.first + x) y) }
-    ensures kept { AreKept layers.now kept.new }
+    ensures kept { All (AreKept layers.now) kept.new }
 {
     let base = begin_strip(row, width, layers, background, strip, kept, spare, y);
     for i in base..strip.top {
@@ -172,8 +213,8 @@ fn begin_strip(
     layers: &[BoundLayer],
     background: Rgba,
     strip: Strip,
-    kept: &mut Kept,
-    spare: &mut [u8; 4096],
+    kept: &mut [Kept],
+    spare: &mut [[u8; 4096]],
     y: u32,
 ) -> usize
     requires few { width ≤ 1024 }
@@ -182,11 +223,11 @@ fn begin_strip(
     requires strip { IsStrip layers.now width strip }
     requires from { strip.from ≤ y }
     requires bottom { y < strip.bottom }
-    requires kept { AreKept layers.now kept.old }
+    requires kept { All (AreKept layers.now) kept.old }
     ensures colours { row.new ≡ drawn_row strip.width Format.Rgba8Pre (λ x.
         bound_colour (take result layers.now) background (strip.first + x) y) }
     ensures within { result ≤ strip.top }
-    ensures kept { AreKept layers.now kept.new }
+    ensures kept { All (AreKept layers.now) kept.new }
 {
     match strip.base {
         Some(base) => {
