@@ -10,6 +10,7 @@ ghost use Rattle.wf_kernel.specs.Prepared.{AreTables, IsTable, needs_table};
 use crate::hiding::hides_below;
 use crate::placing::{Walk, is_crossed, turned_rect, walk_of};
 use crate::spans::{Span, columns_of, rows_of};
+use crate::tables::next_place;
 use arrayvec::ArrayVec;
 use std::marker::Model;
 use wf_image::{Contents, Image};
@@ -92,26 +93,37 @@ impl<'a> Default for BoundLayer<'a> {
     }
 }
 
-/// Adds the layers of a scene with their images among these to an empty list. A layer that needs a table has it at its own
-/// place. The list is the caller's, so that a picture makes it once and moves it nowhere.
-pub(crate) fn bind_layers<'a>(
-    list: &mut ArrayVec<BoundLayer<'a>, 32>,
+/// An empty list. What it takes of the stack to make one is free again behind it.
+#[inline(never)]
+pub(crate) fn no_layers<'a, const N: usize>() -> ArrayVec<BoundLayer<'a>, N>
+    ensures { result.items ≡ [] }
+{
+    ArrayVec::new()
+}
+
+/// Adds the layers of a scene with their images among these to an empty list. A layer that needs a table takes the next one.
+/// The list is the caller's, so that a picture moves it nowhere.
+pub(crate) fn bind_layers<'a, const N: usize>(
+    list: &mut ArrayVec<BoundLayer<'a>, N>,
     scene: &Scene,
     contents: &'a Contents,
     tables: &'a [[u16; 1024]],
 )
     requires empty { list.old.items ≡ [] }
+    requires room { length scene.now.layers.items ≤ N }
     requires fits { Fits scene.now contents.now }
     requires tables { AreTables scene.now tables.now }
     ensures { list.new.items ≡ map (bound scene.now contents.now) scene.now.layers.items }
 {
     let layers = scene.layers.as_slice();
+    let mut place = 0;
     for i in 0..layers.len() {
-        list.push(bind_layer(scene, contents, layers[i], table_at(tables, i)));
+        list.push(bind_layer(scene, contents, layers[i], table_at(tables, place)));
+        place = next_place(place, scene.turn, &layers[i]);
     }
 }
 
-/// The table of a layer by its place, or nothing where there are no tables.
+/// A table by its place, or nothing behind the last one.
 fn table_at<'a>(tables: &'a [[u16; 1024]], i: usize) -> &'a [u16]
     ensures { i < length tables.now → (e : List ℕ) → result.now ≡ slice_index_or tables.now i e }
 {

@@ -5,16 +5,15 @@ ghost use Rattle.wf_image.specs.Bitmap.{pixel_bytes, drawn_row, stored};
 ghost use Rattle.wf_model.specs.Picture.{picture, Fits};
 ghost use Rattle.wf_kernel.specs.Bound.{bound_colour, bound_picture, bound_row, bound_rows};
 ghost use Rattle.wf_kernel.specs.Kept.{AreKept};
-ghost use Rattle.wf_kernel.specs.Prepared.{AreTables};
+ghost use Rattle.wf_kernel.specs.Prepared.{AreTables, table_count};
 ghost use Rattle.wf_kernel.specs.Strips.{IsStrip};
 
-use crate::bound::{BoundLayer, bind_layers};
+use crate::bound::{BoundLayer, bind_layers, no_layers};
 use crate::keeping::{Kept, nothing_kept};
 use crate::laying::lay_row;
 use crate::placing::Walk;
 use crate::strips::{Strip, no_strip, strip_for};
-use crate::tables::{fill_tables, needs_tables};
-use arrayvec::ArrayVec;
+use crate::tables::{count_tables, fill_tables};
 use wf_image::{Contents, Image};
 use wf_pixel::{Format, Rgba};
 use wf_scene::Scene;
@@ -40,22 +39,29 @@ fn paint_scene(bytes: &mut [u8], scene: &Scene, contents: &Contents)
     requires fits { Fits scene.now contents.now }
     ensures { bytes.new ≡ bound_picture scene.now contents.now }
 {
-    if needs_tables(scene) {
-        paint_by_tables(bytes, scene, contents);
-    } else {
+    let count = count_tables(scene);
+    if count == 0 {
         paint_bound(bytes, scene, contents, &[]);
+    } else if count == 1 {
+        paint_by_tables::<1>(bytes, scene, contents);
+    } else if count <= 4 {
+        paint_by_tables::<4>(bytes, scene, contents);
+    } else {
+        paint_by_tables::<32>(bytes, scene, contents);
     }
 }
 
-/// The same with tables. They stand on the stack, which a picture that needs none does without: so this is a function of its
-/// own when it runs, too.
+/// The same with tables, `N` at most. They stand on the stack, which a picture that needs none or fewer does without: so this
+/// is a function of its own when it runs, too.
 #[inline(never)]
-fn paint_by_tables(bytes: &mut [u8], scene: &Scene, contents: &Contents)
+fn paint_by_tables<const N: usize>(bytes: &mut [u8], scene: &Scene, contents: &Contents)
+    requires room { table_count scene.now ≤ N }
+    requires small { N ≤ 32 }
     requires count { length bytes.old ≡ scene.now.size.w * scene.now.size.h * 4 }
     requires fits { Fits scene.now contents.now }
     ensures { bytes.new ≡ bound_picture scene.now contents.now }
 {
-    let mut tables = [[0; 1024]; 32];
+    let mut tables = [[0; 1024]; N];
     fill_tables(&mut tables, scene, contents);
     paint_bound(bytes, scene, contents, &tables);
 }
@@ -67,7 +73,37 @@ fn paint_bound(bytes: &mut [u8], scene: &Scene, contents: &Contents, tables: &[[
     requires tables { AreTables scene.now tables.now }
     ensures { bytes.new ≡ bound_picture scene.now contents.now }
 {
-    let mut layers = ArrayVec::new();
+    if scene.layers.len() <= 4 {
+        paint_few(bytes, scene, contents, tables);
+    } else {
+        paint_many(bytes, scene, contents, tables);
+    }
+}
+
+/// The same of up to four layers: a list costs by its room, which stands on the stack.
+#[inline(never)]
+fn paint_few(bytes: &mut [u8], scene: &Scene, contents: &Contents, tables: &[[u16; 1024]])
+    requires few { length scene.now.layers.items ≤ 4 }
+    requires count { length bytes.old ≡ scene.now.size.w * scene.now.size.h * 4 }
+    requires fits { Fits scene.now contents.now }
+    requires tables { AreTables scene.now tables.now }
+    ensures { bytes.new ≡ bound_picture scene.now contents.now }
+{
+    let mut layers = no_layers::<4>();
+    bind_layers(&mut layers, scene, contents, tables);
+    paint(bytes, scene.size.w, layers.as_slice(), scene.background, 0);
+}
+
+/// The same of any number of layers.
+#[inline(never)]
+fn paint_many(bytes: &mut [u8], scene: &Scene, contents: &Contents, tables: &[[u16; 1024]])
+    requires few { length scene.now.layers.items ≤ 32 }
+    requires count { length bytes.old ≡ scene.now.size.w * scene.now.size.h * 4 }
+    requires fits { Fits scene.now contents.now }
+    requires tables { AreTables scene.now tables.now }
+    ensures { bytes.new ≡ bound_picture scene.now contents.now }
+{
+    let mut layers = no_layers::<32>();
     bind_layers(&mut layers, scene, contents, tables);
     paint(bytes, scene.size.w, layers.as_slice(), scene.background, 0);
 }
