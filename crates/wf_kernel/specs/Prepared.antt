@@ -1,6 +1,7 @@
 -- What is worked out of a layer once for all rows of its target.
 use Rattle.std.specs.Prelude.{◌≡◌, ℕ, ◌+◌, ◌-◌, ◌<◌, ◌==◌, Bool, true, false, if◌then◌else◌, pos, Some, List, length, slice_index}
-use Rattle.std.specs.Prelude.{slice_index_or, nat_abs, IsTrue}
+use Rattle.std.specs.Prelude.{slice_index_or, nat_abs, IsTrue, take}
+use Rattle.std.specs.List.{count_by}
 use Rattle.std.proofs.Common.{subst}
 use Rattle.wf_pixel.specs.declared.Rotation.{Rotation}
 use Rattle.wf_pixel.specs.declared.Size.{Size}
@@ -40,13 +41,22 @@ pub record IsTable (turn : Rotation) (space : Size) (l : Layer) (table : List �
   pub holds : (x a : ℕ) → x < 1024 → along (left_on turn space l.dest) (turned turn (size_of l.dest)).w (pos x) ≡ Some a
       → slice_index table x ≡ across turn l a
 
--- each layer of a scene that needs a table has it
+-- how many of the first n layers of a scene need a table: the place of the next one's
+abbrev pub tables_before : Scene → ℕ → ℕ
+tables_before scene n = count_by (needs_table scene.turn) (take n scene.layers.items)
+
+-- how many layers of a scene need one
+abbrev pub table_count : Scene → ℕ
+table_count scene = count_by (needs_table scene.turn) scene.layers.items
+
+-- each layer of a scene that needs a table has it, one after the other
 abbrev pub AreTables : Scene → List (List ℕ) → Type 0
 AreTables scene tables =
     (i : ℕ) (d : Layer) (e : List ℕ) → i < length scene.layers.items
     → needs_table scene.turn (slice_index_or scene.layers.items i d) ≡ true
-    → (i < length tables)
-    × IsTable scene.turn (turned scene.turn scene.size) (slice_index_or scene.layers.items i d) (slice_index_or tables i e)
+    → (tables_before scene i < length tables)
+    × IsTable scene.turn (turned scene.turn scene.size) (slice_index_or scene.layers.items i d)
+    (slice_index_or tables (tables_before scene i) e)
 
 -- a layer is on these columns and rows of its target; if it hides, it does at each point of them; and its table is there
 -- where it is needed

@@ -5,11 +5,11 @@ ghost use Rattle.wf_pixel.specs.Choice.{has_sides};
 ghost use Rattle.wf_image.specs.Bitmap.{pixel_bytes};
 ghost use Rattle.wf_model.specs.Picture.{picture, Fits};
 ghost use Rattle.wf_kernel.specs.Bound.{bound_picture, bound_rows};
-ghost use Rattle.wf_kernel.specs.Prepared.{AreTables};
+ghost use Rattle.wf_kernel.specs.Prepared.{AreTables, table_count};
 
-use crate::bound::{BoundLayer, bind_layers};
+use crate::bound::{BoundLayer, bind_layers, no_layers};
 use crate::painting::paint;
-use crate::tables::{fill_tables, needs_tables};
+use crate::tables::{count_tables, fill_tables};
 use std::thread;
 use std::thread::Threads;
 use wf_image::{Contents, Image};
@@ -55,29 +55,36 @@ fn rows_of_scene<R: Threads + Sync>(
     requires fits { Fits scene.now contents.now }
     ensures { bytes.new ≡ bound_picture scene.now contents.now }
 {
-    if needs_tables(scene) {
-        rows_by_tables(rt, workers, bytes, scene, contents);
-    } else {
+    let count = count_tables(scene);
+    if count == 0 {
         rows_of_bound(rt, workers, bytes, scene, contents, &[]);
+    } else if count == 1 {
+        rows_by_tables::<R, 1>(rt, workers, bytes, scene, contents);
+    } else if count <= 4 {
+        rows_by_tables::<R, 4>(rt, workers, bytes, scene, contents);
+    } else {
+        rows_by_tables::<R, 32>(rt, workers, bytes, scene, contents);
     }
 }
 
-/// The same with tables, which are worked out once for all threads.
+/// The same with tables, `N` at most, which are worked out once for all threads.
 #[inline(never)]
-fn rows_by_tables<R: Threads + Sync>(
+fn rows_by_tables<R: Threads + Sync, const N: usize>(
     rt: &R,
     workers: u32,
     bytes: &mut [u8],
     scene: &Scene,
     contents: &Contents,
 )
+    requires room { table_count scene.now ≤ N }
+    requires small { N ≤ 32 }
     requires some { 1 ≤ workers }
     requires few { workers ≤ 16 }
     requires count { length bytes.old ≡ scene.now.size.w * scene.now.size.h * 4 }
     requires fits { Fits scene.now contents.now }
     ensures { bytes.new ≡ bound_picture scene.now contents.now }
 {
-    let mut tables = [[0; 1024]; 32];
+    let mut tables = [[0; 1024]; N];
     fill_tables(&mut tables, scene, contents);
     rows_of_bound(rt, workers, bytes, scene, contents, &tables);
 }
@@ -98,7 +105,63 @@ fn rows_of_bound<R: Threads + Sync>(
     requires tables { AreTables scene.now tables.now }
     ensures { bytes.new ≡ bound_picture scene.now contents.now }
 {
-    let layers = bind_layers(scene, contents, tables);
+    if scene.layers.len() <= 4 {
+        rows_of_few(rt, workers, bytes, scene, contents, tables);
+    } else {
+        rows_of_many(rt, workers, bytes, scene, contents, tables);
+    }
+}
+
+/// The same of up to four layers.
+#[inline(never)]
+fn rows_of_few<R: Threads + Sync>(
+    rt: &R,
+    workers: u32,
+    bytes: &mut [u8],
+    scene: &Scene,
+    contents: &Contents,
+    tables: &[[u16; 1024]],
+)
+    requires short { length scene.now.layers.items ≤ 4 }
+    requires some { 1 ≤ workers }
+    requires few { workers ≤ 16 }
+    requires count { length bytes.old ≡ scene.now.size.w * scene.now.size.h * 4 }
+    requires fits { Fits scene.now contents.now }
+    requires tables { AreTables scene.now tables.now }
+    ensures { bytes.new ≡ bound_picture scene.now contents.now }
+{
+    let mut layers = no_layers::<4>();
+    bind_layers(&mut layers, scene, contents, tables);
+    paint_bands(
+        rt,
+        workers,
+        bytes,
+        scene.size,
+        layers.as_slice(),
+        scene.background,
+    );
+}
+
+/// The same of any number of layers.
+#[inline(never)]
+fn rows_of_many<R: Threads + Sync>(
+    rt: &R,
+    workers: u32,
+    bytes: &mut [u8],
+    scene: &Scene,
+    contents: &Contents,
+    tables: &[[u16; 1024]],
+)
+    requires short { length scene.now.layers.items ≤ 32 }
+    requires some { 1 ≤ workers }
+    requires few { workers ≤ 16 }
+    requires count { length bytes.old ≡ scene.now.size.w * scene.now.size.h * 4 }
+    requires fits { Fits scene.now contents.now }
+    requires tables { AreTables scene.now tables.now }
+    ensures { bytes.new ≡ bound_picture scene.now contents.now }
+{
+    let mut layers = no_layers::<32>();
+    bind_layers(&mut layers, scene, contents, tables);
     paint_bands(
         rt,
         workers,

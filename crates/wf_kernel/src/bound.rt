@@ -1,6 +1,6 @@
 //! Layers with their images at hand, and with what is worked out of each once for all rows.
 
-ghost use Rattle.std.specs.Prelude.{◌≡◌, ◌+◌, ◌<◌, ◌≤◌, ◌≤ℤ◌, ℕ, List, true, All, IsTrue, length, map, pos, slice_index, slice_index_or};
+ghost use Rattle.std.specs.Prelude.{◌≡◌, ◌+◌, ◌<◌, ◌≤◌, ◌≤ℤ◌, ℕ, List, [], true, All, IsTrue, length, map, pos, slice_index, slice_index_or};
 ghost use Rattle.wf_pixel.specs.Place.{IsDrawn, turned, size_of};
 ghost use Rattle.wf_pixel.specs.Choice.{has_sides};
 ghost use Rattle.wf_model.specs.Picture.{Fits, LayerFits};
@@ -10,6 +10,7 @@ ghost use Rattle.wf_kernel.specs.Prepared.{AreTables, IsTable, needs_table};
 use crate::hiding::hides_below;
 use crate::placing::{Walk, is_crossed, turned_rect, walk_of};
 use crate::spans::{Span, columns_of, rows_of};
+use crate::tables::next_place;
 use arrayvec::ArrayVec;
 use std::marker::Model;
 use wf_image::{Contents, Image};
@@ -92,27 +93,37 @@ impl<'a> Default for BoundLayer<'a> {
     }
 }
 
-/// The layers of a scene with their images among these. A layer that needs a table has it at its own place. What a list of
-/// layers takes of the stack while it is made is free again when the picture is painted.
+/// An empty list. What it takes of the stack to make one is free again behind it.
 #[inline(never)]
-pub(crate) fn bind_layers<'a>(
+pub(crate) fn no_layers<'a, const N: usize>() -> ArrayVec<BoundLayer<'a>, N>
+    ensures { result.items ≡ [] }
+{
+    ArrayVec::new()
+}
+
+/// Adds the layers of a scene with their images among these to an empty list. A layer that needs a table takes the next one.
+/// The list is the caller's, so that a picture moves it nowhere.
+pub(crate) fn bind_layers<'a, const N: usize>(
+    list: &mut ArrayVec<BoundLayer<'a>, N>,
     scene: &Scene,
     contents: &'a Contents,
     tables: &'a [[u16; 1024]],
-) -> ArrayVec<BoundLayer<'a>, 32>
+)
+    requires empty { list.old.items ≡ [] }
+    requires room { length scene.now.layers.items ≤ N }
     requires fits { Fits scene.now contents.now }
     requires tables { AreTables scene.now tables.now }
-    ensures { result.items ≡ map (bound scene.now contents.now) scene.now.layers.items }
+    ensures { list.new.items ≡ map (bound scene.now contents.now) scene.now.layers.items }
 {
-    let mut bound = ArrayVec::new();
     let layers = scene.layers.as_slice();
+    let mut place = 0;
     for i in 0..layers.len() {
-        bound.push(bind_layer(scene, contents, layers[i], table_at(tables, i)));
+        list.push(bind_layer(scene, contents, layers[i], table_at(tables, place)));
+        place = next_place(place, scene.turn, &layers[i]);
     }
-    bound
 }
 
-/// The table of a layer by its place, or nothing where there are no tables.
+/// A table by its place, or nothing behind the last one.
 fn table_at<'a>(tables: &'a [[u16; 1024]], i: usize) -> &'a [u16]
     ensures { i < length tables.now → (e : List ℕ) → result.now ≡ slice_index_or tables.now i e }
 {

@@ -1,6 +1,6 @@
 //! Lays one layer over pixels of a row of the target.
 
-ghost use Rattle.std.specs.Prelude.{◌≡◌, ◌≢◌, ℕ, ◌+◌, ◌*◌, ◌<◌, ◌≤◌, length, true, Some};
+ghost use Rattle.std.specs.Prelude.{◌≡◌, ◌≢◌, ℕ, ◌+◌, ◌*◌, ◌<◌, ◌≤◌, length, true, All, Some};
 ghost use Rattle.wf_pixel.specs.declared.Format.TheVariants.{Rgba8Pre};
 ghost use Rattle.wf_pixel.specs.Arithmetic.{scaled};
 ghost use Rattle.wf_pixel.specs.Place.{size_of};
@@ -20,8 +20,8 @@ use wf_image::Image;
 use wf_pixel::{Format, Rotation};
 use wf_row::{AlphaMode, blend_masked_row, blend_row, gather_fourth};
 
-/// Lays a layer, by its place, over `width` pixels of row `y`, from column `first` on. The source's pixels go through `spare`,
-/// where they are not taken as they stand.
+/// Lays a layer, by its place, over `width` pixels of row `y`, from column `first` on. The source's pixels go through what is
+/// kept, where they are not taken as they stand.
 #[inline(always)]
 pub(crate) fn lay_row(
     row: &mut [u8],
@@ -29,16 +29,16 @@ pub(crate) fn lay_row(
     width: u32,
     layers: &[BoundLayer],
     i: usize,
-    kept: &mut Kept,
-    spare: &mut [u8; 4096],
+    kept: &mut [Kept],
+    spare: &mut [[u8; 4096]],
     y: u32,
 )
     requires count { length row.old ≡ 4 * width }
     requires few { first + width ≤ 1024 }
     requires layer { i < length layers.now }
-    requires kept { AreKept layers.now kept.old }
+    requires kept { All (AreKept layers.now) kept.old }
     ensures row { row.new ≡ laid width (λ x. bound_texel (layer_at layers.now i) (first + x) y) row.old }
-    ensures kept { AreKept layers.now kept.new }
+    ensures kept { All (AreKept layers.now) kept.new }
 {
     if let Some(stretch) = stretch_of(&layers[i], first, width, y) {
         let at = 4 * (stretch.x - first) as usize;
@@ -52,16 +52,16 @@ fn lay_stretch(
     part: &mut [u8],
     layers: &[BoundLayer],
     i: usize,
-    kept: &mut Kept,
-    spare: &mut [u8; 4096],
+    kept: &mut [Kept],
+    spare: &mut [[u8; 4096]],
     stretch: Stretch,
 )
     requires count { length part.old ≡ 4 * stretch.len }
     requires layer { i < length layers.now }
     requires stretch { IsStretch (layer_at layers.now i) stretch }
-    requires kept { AreKept layers.now kept.old }
+    requires kept { All (AreKept layers.now) kept.old }
     ensures part { part.new ≡ laid stretch.len (λ j. bound_texel (layer_at layers.now i) (stretch.x + j) stretch.y) part.old }
-    ensures kept { AreKept layers.now kept.new }
+    ensures kept { All (AreKept layers.now) kept.new }
 {
     let layer = &layers[i];
     let Some(image) = layer.source else {
@@ -72,13 +72,54 @@ fn lay_stretch(
             let line = forward_line(layer, image, stretch);
             lay_line(part, line, layer, image, stretch);
         }
-        Walk::Backward => lay_filled(part, layer, spare, image, stretch),
-        Walk::Table => lay_gathered(part, layers, i, kept, spare, image, stretch),
+        Walk::Backward => lay_by_lines(part, layers, i, kept, spare, image, stretch),
+        Walk::Table => lay_by_lines(part, layers, i, kept, spare, image, stretch),
     }
 }
 
-/// The same, where the source's pixels are gathered by a table.
-fn lay_gathered(
+/// The same, where the source's pixels go through a line. A picture with such a layer keeps some.
+fn lay_by_lines(
+    part: &mut [u8],
+    layers: &[BoundLayer],
+    i: usize,
+    kept: &mut [Kept],
+    spare: &mut [[u8; 4096]],
+    image: &Image,
+    stretch: Stretch,
+)
+    requires count { length part.old ≡ 4 * stretch.len }
+    requires layer { i < length layers.now }
+    requires source { (layer_at layers.now i).source ≡ Some image.now }
+    requires stretch { IsStretch (layer_at layers.now i) stretch }
+    requires kept { All (AreKept layers.now) kept.old }
+    ensures part { part.new ≡ laid stretch.len
+        (λ j. placed_texel (layer_at layers.now i) image.now (stretch.across + j) stretch.down) part.old }
+    ensures kept { All (AreKept layers.now) kept.new }
+{
+    if kept.is_empty() || spare.is_empty() {
+        lay_apart(part, layers, i, image, stretch);
+        return;
+    }
+    lay_kept(part, layers, i, &mut kept[0], &mut spare[0], image, stretch);
+}
+
+/// The same with a line that serves this stretch alone.
+#[inline(never)]
+fn lay_apart(part: &mut [u8], layers: &[BoundLayer], i: usize, image: &Image, stretch: Stretch)
+    requires count { length part.old ≡ 4 * stretch.len }
+    requires layer { i < length layers.now }
+    requires source { (layer_at layers.now i).source ≡ Some image.now }
+    requires stretch { IsStretch (layer_at layers.now i) stretch }
+    ensures { part.new ≡ laid stretch.len
+        (λ j. placed_texel (layer_at layers.now i) image.now (stretch.across + j) stretch.down) part.old }
+{
+    let layer = &layers[i];
+    let mut spare = [0; 4096];
+    lay_filled(part, layer, &mut spare, image, stretch);
+}
+
+/// The same with lines that are kept.
+fn lay_kept(
     part: &mut [u8],
     layers: &[BoundLayer],
     i: usize,
@@ -99,8 +140,10 @@ fn lay_gathered(
     let layer = &layers[i];
     if layer.crossed {
         lay_columns(part, layers, i, kept, spare, image, stretch);
-    } else {
+    } else if layer.walk == Walk::Table {
         lay_rows(part, layers, i, kept, spare, image, stretch);
+    } else {
+        lay_filled(part, layer, spare, image, stretch);
     }
 }
 

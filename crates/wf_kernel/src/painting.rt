@@ -5,14 +5,15 @@ ghost use Rattle.wf_image.specs.Bitmap.{pixel_bytes, drawn_row, stored};
 ghost use Rattle.wf_model.specs.Picture.{picture, Fits};
 ghost use Rattle.wf_kernel.specs.Bound.{bound_colour, bound_picture, bound_row, bound_rows};
 ghost use Rattle.wf_kernel.specs.Kept.{AreKept};
-ghost use Rattle.wf_kernel.specs.Prepared.{AreTables};
+ghost use Rattle.wf_kernel.specs.Prepared.{AreTables, table_count};
 ghost use Rattle.wf_kernel.specs.Strips.{IsStrip};
 
-use crate::bound::{BoundLayer, bind_layers};
+use crate::bound::{BoundLayer, bind_layers, no_layers};
 use crate::keeping::{Kept, nothing_kept};
 use crate::laying::lay_row;
+use crate::placing::Walk;
 use crate::strips::{Strip, no_strip, strip_for};
-use crate::tables::{fill_tables, needs_tables};
+use crate::tables::{count_tables, fill_tables};
 use wf_image::{Contents, Image};
 use wf_pixel::{Format, Rgba};
 use wf_scene::Scene;
@@ -38,22 +39,29 @@ fn paint_scene(bytes: &mut [u8], scene: &Scene, contents: &Contents)
     requires fits { Fits scene.now contents.now }
     ensures { bytes.new ≡ bound_picture scene.now contents.now }
 {
-    if needs_tables(scene) {
-        paint_by_tables(bytes, scene, contents);
-    } else {
+    let count = count_tables(scene);
+    if count == 0 {
         paint_bound(bytes, scene, contents, &[]);
+    } else if count == 1 {
+        paint_by_tables::<1>(bytes, scene, contents);
+    } else if count <= 4 {
+        paint_by_tables::<4>(bytes, scene, contents);
+    } else {
+        paint_by_tables::<32>(bytes, scene, contents);
     }
 }
 
-/// The same with tables. They stand on the stack, which a picture that needs none does without: so this is a function of its
-/// own when it runs, too.
+/// The same with tables, `N` at most. They stand on the stack, which a picture that needs none or fewer does without: so this
+/// is a function of its own when it runs, too.
 #[inline(never)]
-fn paint_by_tables(bytes: &mut [u8], scene: &Scene, contents: &Contents)
+fn paint_by_tables<const N: usize>(bytes: &mut [u8], scene: &Scene, contents: &Contents)
+    requires room { table_count scene.now ≤ N }
+    requires small { N ≤ 32 }
     requires count { length bytes.old ≡ scene.now.size.w * scene.now.size.h * 4 }
     requires fits { Fits scene.now contents.now }
     ensures { bytes.new ≡ bound_picture scene.now contents.now }
 {
-    let mut tables = [[0; 1024]; 32];
+    let mut tables = [[0; 1024]; N];
     fill_tables(&mut tables, scene, contents);
     paint_bound(bytes, scene, contents, &tables);
 }
@@ -65,7 +73,38 @@ fn paint_bound(bytes: &mut [u8], scene: &Scene, contents: &Contents, tables: &[[
     requires tables { AreTables scene.now tables.now }
     ensures { bytes.new ≡ bound_picture scene.now contents.now }
 {
-    let layers = bind_layers(scene, contents, tables);
+    if scene.layers.len() <= 4 {
+        paint_few(bytes, scene, contents, tables);
+    } else {
+        paint_many(bytes, scene, contents, tables);
+    }
+}
+
+/// The same of up to four layers: a list costs by its room, which stands on the stack.
+#[inline(never)]
+fn paint_few(bytes: &mut [u8], scene: &Scene, contents: &Contents, tables: &[[u16; 1024]])
+    requires few { length scene.now.layers.items ≤ 4 }
+    requires count { length bytes.old ≡ scene.now.size.w * scene.now.size.h * 4 }
+    requires fits { Fits scene.now contents.now }
+    requires tables { AreTables scene.now tables.now }
+    ensures { bytes.new ≡ bound_picture scene.now contents.now }
+{
+    let mut layers = no_layers::<4>();
+    bind_layers(&mut layers, scene, contents, tables);
+    paint(bytes, scene.size.w, layers.as_slice(), scene.background, 0);
+}
+
+/// The same of any number of layers.
+#[inline(never)]
+fn paint_many(bytes: &mut [u8], scene: &Scene, contents: &Contents, tables: &[[u16; 1024]])
+    requires few { length scene.now.layers.items ≤ 32 }
+    requires count { length bytes.old ≡ scene.now.size.w * scene.now.size.h * 4 }
+    requires fits { Fits scene.now contents.now }
+    requires tables { AreTables scene.now tables.now }
+    ensures { bytes.new ≡ bound_picture scene.now contents.now }
+{
+    let mut layers = no_layers::<32>();
+    bind_layers(&mut layers, scene, contents, tables);
     paint(bytes, scene.size.w, layers.as_slice(), scene.background, 0);
 }
 
@@ -83,24 +122,64 @@ pub(crate) fn paint(
     requires within { first + length bytes.old / (4 * width) ≤ 1024 }
     ensures { bytes.new ≡ bound_rows width layers.now background first (length bytes.old / (4 * width)) }
 {
+    if are_forward(layers) {
+        paint_rows(bytes, width, layers, background, first, &mut [], &mut []);
+    } else {
+        paint_by_lines(bytes, width, layers, background, first);
+    }
+}
+
+/// Whether each layer shows the pixels of its source as they stand there.
+fn are_forward(layers: &[BoundLayer]) -> bool {
+    for layer in layers {
+        if layer.walk != Walk::Forward {
+            return false;
+        }
+    }
+    true
+}
+
+/// Writes rows for which pixels of sources are kept. These stand on the stack, which other rows do without: so this is a
+/// function of its own when it runs, too.
+#[inline(never)]
+fn paint_by_lines(bytes: &mut [u8], width: u32, layers: &[BoundLayer], background: Rgba, first: u32)
+    requires some { 1 ≤ width }
+    requires few { width ≤ 1024 }
+    requires count { length bytes.old % (4 * width) ≡ 0 }
+    requires within { first + length bytes.old / (4 * width) ≤ 1024 }
+    ensures { bytes.new ≡ bound_rows width layers.now background first (length bytes.old / (4 * width)) }
+{
+    let mut kept = [nothing_kept(width)];
+    let mut spare = [[0; 4096]];
+    paint_rows(
+        bytes, width, layers, background, first, &mut kept, &mut spare,
+    );
+}
+
+/// Writes rows by what is kept.
+fn paint_rows(
+    bytes: &mut [u8],
+    width: u32,
+    layers: &[BoundLayer],
+    background: Rgba,
+    first: u32,
+    kept: &mut [Kept],
+    spare: &mut [[u8; 4096]],
+)
+    requires some { 1 ≤ width }
+    requires few { width ≤ 1024 }
+    requires count { length bytes.old % (4 * width) ≡ 0 }
+    requires within { first + length bytes.old / (4 * width) ≤ 1024 }
+    requires kept { All (AreKept layers.now) kept.old }
+    ensures { bytes.new ≡ bound_rows width layers.now background first (length bytes.old / (4 * width)) }
+{
     let stride = 4 * width as usize;
     let mut strips = [no_strip(); 66];
-    let mut kept = nothing_kept(width);
-    let mut spare = [0; 4096];
     for i in 0..bytes.len() / stride {
         let at = i * stride;
         let row = &mut bytes[at..at + stride];
         let y = first + i as u32;
-        paint_row(
-            row,
-            width,
-            layers,
-            background,
-            &mut strips,
-            &mut kept,
-            &mut spare,
-            y,
-        );
+        paint_row(row, width, layers, background, &mut strips, kept, spare, y);
     }
 }
 
@@ -111,18 +190,18 @@ fn paint_row(
     layers: &[BoundLayer],
     background: Rgba,
     strips: &mut [Strip],
-    kept: &mut Kept,
-    spare: &mut [u8; 4096],
+    kept: &mut [Kept],
+    spare: &mut [[u8; 4096]],
     y: u32,
 )
     requires few { width ≤ 1024 }
     requires y { y < 1024 }
     requires count { length row.old ≡ 4 * width }
     requires strips { All (IsStrip layers.now width) strips.old }
-    requires kept { AreKept layers.now kept.old }
+    requires kept { All (AreKept layers.now) kept.old }
     ensures row { row.new ≡ bound_row width layers.now background y }
     ensures strips { All (IsStrip layers.now width) strips.new }
-    ensures kept { AreKept layers.now kept.new }
+    ensures kept { All (AreKept layers.now) kept.new }
 {
     let mut first = 0;
     let mut k = 0usize;
@@ -143,8 +222,8 @@ fn paint_strip(
     layers: &[BoundLayer],
     background: Rgba,
     strip: Strip,
-    kept: &mut Kept,
-    spare: &mut [u8; 4096],
+    kept: &mut [Kept],
+    spare: &mut [[u8; 4096]],
     y: u32,
 )
     requires few { width ≤ 1024 }
@@ -153,9 +232,9 @@ fn paint_strip(
     requires strip { IsStrip layers.now width strip }
     requires from { strip.from ≤ y }
     requires bottom { y < strip.bottom }
-    requires kept { AreKept layers.now kept.old }
+    requires kept { All (AreKept layers.now) kept.old }
     ensures row { row.new ≡ drawn_row strip.width Format.Rgba8Pre (λ x. bound_colour layers.now background (strip.first + x) y) }
-    ensures kept { AreKept layers.now kept.new }
+    ensures kept { All (AreKept layers.now) kept.new }
 {
     let base = begin_strip(row, width, layers, background, strip, kept, spare, y);
     for i in base..strip.top {
@@ -170,8 +249,8 @@ fn begin_strip(
     layers: &[BoundLayer],
     background: Rgba,
     strip: Strip,
-    kept: &mut Kept,
-    spare: &mut [u8; 4096],
+    kept: &mut [Kept],
+    spare: &mut [[u8; 4096]],
     y: u32,
 ) -> usize
     requires few { width ≤ 1024 }
@@ -180,11 +259,11 @@ fn begin_strip(
     requires strip { IsStrip layers.now width strip }
     requires from { strip.from ≤ y }
     requires bottom { y < strip.bottom }
-    requires kept { AreKept layers.now kept.old }
+    requires kept { All (AreKept layers.now) kept.old }
     ensures colours { row.new ≡ drawn_row strip.width Format.Rgba8Pre (λ x.
         bound_colour (take result layers.now) background (strip.first + x) y) }
     ensures within { result ≤ strip.top }
-    ensures kept { AreKept layers.now kept.new }
+    ensures kept { All (AreKept layers.now) kept.new }
 {
     match strip.base {
         Some(base) => {

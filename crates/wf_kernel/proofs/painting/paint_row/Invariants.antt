@@ -11,7 +11,7 @@ use Rattle.wf_kernel.proofs.painting.paint_row.Given as goal
 abbrev pub invariant-loop-first : goal.invariant-loop-first
 invariant-loop-first l = record {
   strips : All (IsStrip l.layers l.width) l.strips;
-  kept : AreKept l.layers l.kept;
+  kept : All (AreKept l.layers) l.kept;
   few : l.k ≤ l.first;
   within : l.first ≤ l.width;
   written : l.row ≡ drawn_row l.first Rgba8Pre (λ x. bound_colour l.layers l.background x l.y) ++ drop (4 * l.first) l.fn.row;

@@ -4,7 +4,7 @@ use Rattle.std.specs.List.{range_with_len}
 use Rattle.wf_kernel.specs.Bound.{bound_row}
 use Rattle.wf_kernel.specs.Kept.{AreKept}
 use Rattle.wf_kernel.specs.Strips.{IsStrip}
-use Rattle.wf_kernel.proofs.painting.paint.Given as goal
+use Rattle.wf_kernel.proofs.painting.paint_rows.Given as goal
 
 -- the rows so far are written, and the others are as they were
 abbrev pub invariant-loop-i : goal.invariant-loop-i
@@ -14,6 +14,6 @@ invariant-loop-i l =
           l.bytes
           ≡ flat_map (λ i. bound_row l.width l.layers l.background (l.first + i)) (range_with_len 0 l.i)
           ++ drop (l.i * (4 * l.width)) l.fn.bytes;
-      kept : AreKept l.layers l.kept;
+      kept : All (AreKept l.layers) l.kept;
       strips : All (IsStrip l.layers l.width) l.strips;
     }

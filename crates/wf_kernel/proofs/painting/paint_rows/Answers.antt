@@ -6,14 +6,14 @@ use Rattle.wf_kernel.specs.Strips.{IsStrip}
 use Rattle.wf_kernel.proofs.Pieces.{written_more, part_written}
 use Rattle.wf_kernel.proofs.Banded.{all_rows}
 use Rattle.wf_kernel.proofs.Pictures.{length-bound_row}
-use Rattle.wf_kernel.proofs.painting.paint.Goals as goal
+use Rattle.wf_kernel.proofs.painting.paint_rows.Goals as goal
 
 pub loop-i-init : goal.loop-i-init
 loop-i-init c =
     let none : 0 * (4 * c.args.width) ≡ 0 = omega arith in
     record {
       written = ap (λ (j : ℕ). drop j c.args.bytes.now) (sym none);
-      kept = c.nothing_kept-kept.ensures c.args.layers.now;
+      kept = c.requires.kept;
       strips = All-replicate (IsStrip c.args.layers.now c.args.width) 66 c.no_strip-strips.result
           (c.no_strip-strips.ensures c.args.layers.now c.args.width);
     }
