@@ -4,6 +4,7 @@ pub mod Names
 pub mod Tables
 pub mod Calls
 pub mod Program
+pub mod Asked
 pub mod Ready
 pub mod Quota
 pub mod Passing

@@ -3,7 +3,7 @@
 ghost use Rattle.std.specs.Prelude.{◌≡◌, ◌≢◌, is_some, option_map, Some, None, true};
 ghost use Rattle.std.specs.Prelude.{if◌then◌else◌};
 ghost use Rattle.wf_calls.specs.Parts.{carries, is_begin, part_of};
-ghost use Rattle.wf_turn.specs.Asking.{asked, begins_frame, handed, is_ending, takes_job};
+ghost use Rattle.wf_turn.specs.Asked.{asked, begins_frame, handed, is_ending, takes_job};
 ghost use Rattle.wf_turn.specs.Calls.{IsPut, plain_call};
 ghost use Rattle.wf_turn.specs.Program.{asked_for, first_call, handle, issued, kept_first, next, plain};
 

@@ -2,7 +2,7 @@
 
 ghost use Rattle.std.specs.Prelude.{◌≡◌, ◌&&◌, IfOk, MatchOption, None, not, true};
 ghost use Rattle.wf_machine.specs.Object.{is_ready};
-ghost use Rattle.wf_turn.specs.Asking.{is_stuck};
+ghost use Rattle.wf_turn.specs.Asked.{is_stuck};
 ghost use Rattle.wf_turn.specs.Ready.{IsFit};
 ghost use Rattle.wf_turn.specs.Replayed.{MarkedAnswers, Retakes, TakesAgain, wanted_now};
 

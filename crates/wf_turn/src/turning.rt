@@ -4,7 +4,7 @@ ghost use Rattle.std.specs.Prelude.{◌≡◌, ◌≢◌, true, IfSome, IsSome, 
 ghost use Rattle.wf_calls.specs.Codes.{entry};
 ghost use Rattle.wf_calls.specs.Parts.{carries, is_begin, part_of};
 ghost use Rattle.wf_calls.specs.Replies.{with_canvas};
-ghost use Rattle.wf_turn.specs.Asking.{asked, is_ending, takes_job};
+ghost use Rattle.wf_turn.specs.Asked.{asked, is_ending, takes_job};
 ghost use Rattle.wf_turn.specs.Playing.{Answers, IsReady, TakesTurn};
 ghost use Rattle.wf_turn.specs.Program.{is_work, took, worked};
 ghost use Rattle.wf_turn.specs.Ready.{IsWork};

@@ -1,5 +1,5 @@
 use Rattle.wf_turn.proofs.Common.{IsSome, TakesTurn, is_work, next, worked, IsWork}
-use Rattle.wf_turn.proofs.Asking.{asked_answers, begins_asked, ends_asked, some_asked, wanted_of}
+use Rattle.wf_turn.proofs.Asked.{asked_answers, begins_asked, ends_asked, some_asked, wanted_of}
 use Rattle.wf_turn.proofs.Fitting.{wants}
 use Rattle.wf_turn.proofs.Turnings.{has_line, turn_taken}
 use Rattle.wf_turn.proofs.turning.take_turn.Goals as goal

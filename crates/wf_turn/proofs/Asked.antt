@@ -8,7 +8,7 @@ use Rattle.wf_calls.specs.declared.call.Call.TheVariants as call
 use Rattle.wf_calls.specs.declared.reply.Answer.{Answer}
 use Rattle.wf_calls.specs.declared.reply.Payload.TheVariants as payload
 use Rattle.wf_script.specs.declared.line.Verb.TheVariants as verb
-use Rattle.wf_turn.specs.Asking.{asked, begins_frame, handed, is_ending, is_stuck, takes_job}
+use Rattle.wf_turn.specs.Asked.{asked, begins_frame, handed, is_ending, is_stuck, takes_job}
 use Rattle.wf_turn.specs.Replayed.{wanted_now}
 use Rattle.wf_turn.specs.declared.stage.Asks.{Asks}
 use Rattle.wf_turn.specs.declared.stage.Asks.TheVariants as asks
