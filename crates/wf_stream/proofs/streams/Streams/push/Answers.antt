@@ -1,14 +1,20 @@
 use Rattle.std.proofs.Common.{◌≡◌, ℕ, ◌-◌, ◌≤◌, [], ◌∷◌, ◌++◌, None, refl, ap, ◌∙◌, arith}
 use Rattle.wf_life.specs.Pool.{IsKept, kept_at, count_of}
 use Rattle.wf_stream.specs.declared.streams.Place.{Place}
-use Rattle.wf_stream.specs.StreamTable.{counts_in}
+use Rattle.wf_stream.specs.StreamTable.{counts_in, streams_in}
 use Rattle.wf_stream.proofs.StreamTables.{table_push, table_same, agree_twice, insert_last, none_free}
 use Rattle.wf_stream.proofs.Lifetimes.{counted_same, counted_push, other_push, other_same, let_go}
 use Rattle.wf_stream.proofs.Counted.{counts_push, counts_same, without_above}
+use Rattle.wf_stream.proofs.Measured.{measured_push, bytes_room}
 use Rattle.wf_stream.proofs.streams.Streams.push.Goals as goal
 
-pub invariant_of-self-in-Ok-insert : goal.invariant_of-self-in-Ok-insert
-invariant_of-self-in-Ok-insert c =
+pub overflow_add-self : goal.overflow_add-self
+overflow_add-self c =
+    let room = bytes_room 4294967295 c.self.inside.bytes _ c.self.invariant.rising c.self.invariant.measured in
+    omega (arith, room, c.bytes-bytes.ensures.most)
+
+pub invariant_of-self-2 : goal.invariant_of-self-2
+invariant_of-self-2 c =
     let above = rw (← c.self.view_is) at c.requires.above in
     let fits : c.args.number ≤ 4294967295 = omega (arith, c.ranges.number.fits) in
     let p = c.self.inside.pool in
@@ -29,6 +35,9 @@ invariant_of-self-in-Ok-insert c =
       apart = all.3;
       counted = rw last (counted_push _ es e (counted_same c.in-Ok.key p _ es agree none c.self.invariant.counted) (omega (arith, one)));
       no_other = rw last (other_push p _ es e agree c.self.invariant.no_other);
+      measured = rw (all.0, c.in-Ok.ensures.kept.changed, c.bytes-bytes.ensures.bytes)
+          (measured_push c.self.inside.bytes (streams_in p es) (record { number = c.args.number; handle = c.args.handle; buffers = _ })
+          c.self.invariant.measured (omega (arith, c.bytes-bytes.ensures.bytes, c.bytes-bytes.ensures.most)));
     }
 
 pub returns-clause-pushed : goal.returns-clause-pushed
@@ -67,6 +76,7 @@ invariant_of-self-in_default-insert c =
       apart = c.self.invariant.apart;
       counted = counted_same c.in-Ok.key p _ es agree none c.self.invariant.counted;
       no_other = other_same c.in-Ok.key p _ es gone agree c.self.invariant.no_other;
+      measured = rw all.0 c.self.invariant.measured;
     })
 
 pub returns-in_default-insert-clause-refused : goal.returns-in_default-insert-clause-refused
