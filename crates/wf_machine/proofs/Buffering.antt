@@ -1,7 +1,7 @@
 -- Calls on the buffers of streams, as the plain machine answers them.
 use Rattle.wf_machine.proofs.Common.{◌≡◌, ℕ, true, false, not, ◌&&◌, List, Option, Some, None, refl, sym, ap, ◌∙◌, option_map, and_parts}
 use Rattle.wf_machine.proofs.Common.{Reply, map, stream_step, unnamed, eqb-true, Size, Format, Rgba8, Rgba8Pre, Rgbx8, A8, same_format}
-use Rattle.wf_machine.proofs.Common.{same_size, Canvas, Buffers, acquired}
+use Rattle.wf_machine.proofs.Common.{same_size, Canvas, Buffers, acquired, blank, has_number}
 use Rattle.wf_machine.proofs.Common.{is_blocked, KeptStream, IsNumbered, stream_at, stream_of, State, bare, done, refusal, refused}
 use Rattle.wf_machine.proofs.Common.{acquirable, acquire_step, canvas_back, canvas_of, is_out_at_client, with_stream, is_target}
 use Rattle.wf_stream.specs.Streams.{number_of}
@@ -24,6 +24,13 @@ found handle number high streams rising is = of_stream (stream_of handle streams
     of_stream None at same = absurd cc
     of_stream (Some s) at same = (let here : s.number ≡ number = cc in
         (s, at, ap (λ n. stream_at n streams) (sym here) ∙ of_handle 0 high handle streams s rising at))
+
+-- the canvas that the stream of a number gives
+pub canvas_is : (n : ℕ) (s : KeptStream) (streams : List KeptStream) → stream_at n streams ≡ Some s
+    → record { stream = n; image = blank s.buffers.size s.buffers.format } ≡ canvas_of s
+canvas_is n s streams at =
+    let given : ℕ → Canvas = λ k. record { stream = k; image = blank s.buffers.size s.buffers.format } in
+    ap given (sym (has_number n streams s at))
 
 module _ (handle : ℕ) (h : State) where
   module _ (s : KeptStream) (at : stream_of handle h.streams ≡ Some s) where

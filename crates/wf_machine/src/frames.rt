@@ -23,7 +23,6 @@ use crate::naming::{begin_names, end_names};
 use crate::parts::Parts;
 use crate::port::{Port, put_image, take_image};
 use crate::replies::refuse;
-use crate::streams::{acquire_image, post_to};
 use wf_calls::{Answer, Code, Job, JobKind, Refusal};
 use wf_core::Shown;
 use wf_image::{Canvas, Image};
@@ -40,7 +39,7 @@ fn take_target(store: &mut Store, ports: &mut Vec<Port>, kind: JobKind, mode: u3
     ensures image { IsTargetOf store.old.streams ports.old.items mode kind result }
 {
     match kind {
-        JobKind::Context { target, .. } => acquire_image(store, target),
+        JobKind::Context { target, .. } => store.acquire_image(target),
         JobKind::Port { port } => take_image(ports, (port - 1) as usize, mode),
     }
 }
@@ -53,13 +52,10 @@ fn deliver(store: &mut Store, ports: &mut Vec<Port>, kind: JobKind, mode: u32, i
     ensures there { PortsFit None 1 ports.new.items }
 {
     match kind {
-        JobKind::Context { target, .. } => post_to(
-            store,
-            Canvas {
-                stream: target,
-                image,
-            },
-        ),
+        JobKind::Context { target, .. } => store.post(Canvas {
+            stream: target,
+            image,
+        }),
         JobKind::Port { port } => put_image(ports, (port - 1) as usize, mode, image),
     }
 }

@@ -1,13 +1,12 @@
 //! The images that a frame takes from the streams of its scene, and their way home.
 
-ghost use Rattle.std.specs.Prelude.{◌≡◌, ◌==◌, ◌||◌, ◌<◌, ◌≤◌, ◌+◌, ◌++◌, ◌∷◌, [], length, map, None, IfSome};
+ghost use Rattle.std.specs.Prelude.{◌≡◌, ◌==◌, ◌||◌, ◌<◌, ◌≤◌, ◌+◌, ◌++◌, ◌∷◌, [], length, map, None};
 ghost use Rattle.std.specs.List.{list_any};
 ghost use Rattle.wf_words.specs.Keyed.{is_in};
 ghost use Rattle.wf_image.specs.Contents.{image_of};
-ghost use Rattle.wf_stream.specs.Buffers.{latched, returned};
-ghost use Rattle.wf_stream.specs.Streams.{change_stream, stream_at, IsNumbered};
-ghost use Rattle.wf_model.specs.Frames.{brought_home, content_shape, latch, newest_images, newest_of, scene_streams};
-ghost use Rattle.wf_machine.specs.Latching.{AreAtHome, AreAwaited, AreShapedAs, Awaits, IsAtHome, IsShapedAs, with_newest, without_newest};
+ghost use Rattle.wf_stream.specs.Streams.{IsNumbered};
+ghost use Rattle.wf_model.specs.Frames.{brought_home, content_shape, latch, newest_images, scene_streams};
+ghost use Rattle.wf_machine.specs.Latching.{AreAtHome, AreAwaited, AreShapedAs, IsAtHome, with_newest, without_newest};
 
 use arrayvec::ArrayVec;
 use std::marker::Model;
@@ -69,23 +68,10 @@ impl Latched {
         ensures shaped { AreShapedAs store.old.streams self.old → AreShapedAs store.new.streams self.new }
     {
         if self.contents.find(number).is_none() {
-            if let Some(image) = newest_taken(store, number) {
+            if let Some(image) = store.latch(number) {
                 self.put(number, image);
             }
         }
-    }
-}
-
-/// The newest image of a stream that is kept. It is away until the frame ends.
-fn newest_taken(store: &mut Store, number: u32) -> Option<Image>
-    requires { IsAtHome number store.old.streams }
-    ensures image { result ≡ newest_of (stream_at number store.old.streams) }
-    ensures shape { IfSome result (IsShapedAs number store.old.streams) }
-    ensures store { store.new ≡ record store.old { streams = change_stream number latched store.old.streams } }
-{
-    match store.get_mut(number) {
-        Some(stream) => stream.latch(),
-        None => None,
     }
 }
 
@@ -128,16 +114,6 @@ pub(crate) fn bring_home(store: &mut Store, mut contents: Contents)
     ensures { store.new ≡ record store.old { streams = brought_home contents store.old.streams } }
 {
     while let Some((number, image)) = contents.pop() {
-        bring_image_home(store, number, image);
-    }
-}
-
-/// Brings an image home to its stream, if that is kept.
-fn bring_image_home(store: &mut Store, number: u32, image: Image)
-    requires { Awaits store.old.streams (number, image) }
-    ensures { store.new ≡ record store.old { streams = change_stream number (returned image) store.old.streams } }
-{
-    if let Some(stream) = store.get_mut(number) {
-        stream.give_back(image);
+        store.give_back(number, image);
     }
 }

@@ -1,6 +1,6 @@
 //! The calls on streams.
 
-ghost use Rattle.std.specs.Prelude.{◌≡◌, IfOk, IfSome, IsErrOf, OnErr, OnOk, IsSome, IsSomeAnd, IsTrue, pos, length, ◌<◌, ◌+◌, ◌||◌, false};
+ghost use Rattle.std.specs.Prelude.{◌≡◌, IfOk, IsErrOf, OnErr, OnOk, IsTrue, pos, length, ◌<◌, ◌+◌, ◌||◌, false};
 ghost use Rattle.std.specs.Prelude.{true, Some};
 ghost use Rattle.wf_model.specs.Names.{names};
 ghost use Rattle.wf_words.specs.Whole.{count_of};
@@ -8,20 +8,18 @@ ghost use Rattle.wf_pixel.specs.Choice.{is_between};
 ghost use Rattle.wf_life.specs.Handles.{is_full};
 ghost use Rattle.wf_calls.specs.Codes.{is_out_of_memory};
 ghost use Rattle.wf_stream.specs.Counts.{without_count};
-ghost use Rattle.wf_stream.specs.Buffers.{acquired, discarded, is_blocked, posted};
-ghost use Rattle.wf_image.specs.Bitmap.{blank};
-ghost use Rattle.wf_stream.specs.Streams.{KeptStream, buffers_at, change_stream, has_no_room, held, stream_at, with_live_stream};
-ghost use Rattle.wf_model.specs.Streams.{acquirable, acquire_step, canvas_back, canvas_of, is_out_at_client, is_out_of, may_make};
+ghost use Rattle.wf_stream.specs.Buffers.{discarded, posted};
+ghost use Rattle.wf_stream.specs.Streams.{has_no_room, held, stream_at, with_live_stream};
+ghost use Rattle.wf_model.specs.Streams.{acquirable, acquire_step, canvas_back, is_out_at_client, is_out_of, may_make};
 ghost use Rattle.wf_model.specs.Streams.{new_buffers, stat, stream_destroy, stream_new, stream_step};
 ghost use Rattle.wf_calls.specs.Replies.{bare, done, with_canvas};
-ghost use Rattle.wf_machine.specs.Latching.{IsOutFrom};
 ghost use Rattle.wf_machine.specs.Object.{IsSettled, settled_so};
 
 use crate::frame::is_target;
 use crate::parts::Parts;
 use crate::replies::{giving_back_canvas, giving_canvas, refuse, refused, taking_canvas};
 use wf_calls::{Answer, Code, StatWord};
-use wf_image::{Canvas, Image};
+use wf_image::Canvas;
 use wf_life::MakeStop;
 use wf_pixel::{Format, Size};
 use wf_stream::{Refused, Store, begin_name, end_name};
@@ -86,59 +84,6 @@ fn at_limit(store: &Store, width: i64, height: i64, format: Format, buffers: i64
         h: count(height),
     };
     store.at_limit(size, format, count(buffers))
-}
-
-/// Takes the write buffer of a stream that is kept.
-fn acquire_from(store: &mut Store, number: u32) -> Result<Canvas, Refused>
-    requires { IsSome (stream_at number store.old.streams) }
-    ensures canvas { IfOk result (λ canvas. (s : KeptStream) → stream_at number store.old.streams ≡ Some s → canvas ≡ canvas_of s) }
-    ensures free { OnOk result ((s : KeptStream) → stream_at number store.old.streams ≡ Some s → (s.buffers.out ≡ false)
-        × (is_blocked s.buffers ≡ false)) }
-    ensures acquired { OnOk result (store.new ≡ record store.old { streams = change_stream number acquired store.old.streams }) }
-    ensures busy { IsErrOf result Refused.Busy → (s : KeptStream) → stream_at number store.old.streams ≡ Some s → s.buffers.out ≡ true }
-    ensures no_buffer { IsErrOf result Refused.NoBuffer → (s : KeptStream) → stream_at number store.old.streams ≡ Some s
-        → (s.buffers.out ≡ false) × (is_blocked s.buffers ≡ true) }
-    ensures refused { OnErr result (store.new ≡ store.old) }
-{
-    match store.get_mut(number) {
-        Some(stream) => stream.acquire(number),
-        None => unreachable!(),
-    }
-}
-
-/// Takes the write buffer of a stream that is kept and has a free one.
-pub(crate) fn acquire_image(store: &mut Store, number: u32) -> Image
-    requires { IsSomeAnd (buffers_at number store.old.streams) (λ b. (b.out ≡ false) × (is_blocked b ≡ false)) }
-    ensures image { IfSome (buffers_at number store.old.streams) (λ b. result ≡ blank b.size b.format) }
-    ensures acquired { store.new ≡ record store.old { streams = change_stream number acquired store.old.streams } }
-{
-    match store.get_mut(number) {
-        Some(stream) => match stream.acquire(number) {
-            Ok(canvas) => canvas.image,
-            Err(_) => unreachable!(),
-        },
-        None => unreachable!(),
-    }
-}
-
-/// Makes a write buffer the newest image of its stream.
-pub(crate) fn post_to(store: &mut Store, canvas: Canvas)
-    requires { IsOutFrom store.old.streams canvas }
-    ensures { store.new ≡ record store.old { streams = change_stream canvas.stream (posted canvas.image) store.old.streams } }
-{
-    if let Some(stream) = store.get_mut(canvas.stream) {
-        stream.post(canvas);
-    }
-}
-
-/// Gives a write buffer back to its stream unseen.
-fn discard_to(store: &mut Store, canvas: Canvas)
-    requires { IsOutFrom store.old.streams canvas }
-    ensures { store.new ≡ record store.old { streams = change_stream canvas.stream discarded store.old.streams } }
-{
-    if let Some(stream) = store.get_mut(canvas.stream) {
-        stream.discard(canvas);
-    }
 }
 
 /// A canvas has the shape of a kept stream whose write buffer is out.
@@ -244,7 +189,7 @@ impl Parts {
         let Ok(number) = self.store.number(stream) else {
             return refused(Code::BadHandle);
         };
-        let canvas = match acquire_from(&mut self.store, number) {
+        let canvas = match self.store.acquire(number) {
             Ok(canvas) => canvas,
             Err(Refused::Busy) => return refused(Code::Busy),
             Err(Refused::NoBuffer) => return refused(Code::NoBuffer),
@@ -270,7 +215,7 @@ impl Parts {
             return giving_back_canvas(canvas);
         }
         let stream = canvas.stream;
-        post_to(&mut self.store, canvas);
+        self.store.post(canvas);
         end_name(&mut self.store, stream);
         taking_canvas()
     }
@@ -283,7 +228,7 @@ impl Parts {
             return giving_back_canvas(canvas);
         }
         let stream = canvas.stream;
-        discard_to(&mut self.store, canvas);
+        self.store.discard(canvas);
         end_name(&mut self.store, stream);
         taking_canvas()
     }

@@ -7,3 +7,5 @@ pub mod Lifetimes
 pub mod Counted
 pub mod Recounts
 pub mod Handed
+pub mod Measured
+pub mod Written

@@ -1,5 +1,4 @@
--- The buffers of a stream and how they are kept; the streams that are kept, how, their counts, names that begin and end, and
--- what a loan of a stream leaves.
+-- The buffers of a stream and how they are kept; the streams that are kept, how, their counts, and names that begin and end.
 pub mod Buffers
 pub mod Inside
 pub mod Counts
@@ -7,6 +6,5 @@ pub mod Streams
 pub mod Placed
 pub mod StreamTable
 pub mod CrossReferences
-pub mod Lending
 pub mod Names
 pub mod Renames

@@ -1,14 +1,14 @@
--- How the streams are kept: a map from numbers to the places in a pool, each place with one number.
-use Rattle.std.specs.Prelude.{◌≡◌, ◌≢◌, ℕ, ◌<◌, List, [], ◌∷◌, map, unwrap_or, None}
+-- How the streams are kept: a map from numbers to the places in a pool, each place with one number, and the sum of their bytes.
+use Rattle.std.specs.Prelude.{◌≡◌, ◌≢◌, ℕ, ◌<◌, ◌≤◌, List, [], ◌∷◌, map, unwrap_or, None}
 use Rattle.wf_life.specs.declared.pool.Kept.{Kept}
 use Rattle.wf_life.specs.Pool.{IsKept, kept_at, value_at, count_at}
 use Rattle.std.specs.Prelude.{Option}
 use Rattle.wf_pixel.specs.declared.Format.TheVariants.{A8}
 use Rattle.wf_stream.specs.declared.streams.Place.{Place}
 use Rattle.wf_stream.specs.declared.streams.Streams.TheInside.{Inside}
-use Rattle.wf_stream.specs.Buffers.{Buffers, fresh}
+use Rattle.wf_stream.specs.Buffers.{Buffers, fresh, buffer_bytes}
 use Rattle.wf_stream.specs.Counts.{Counts}
-use Rattle.wf_stream.specs.Streams.{KeptStream, StreamTable, IsNumbered}
+use Rattle.wf_stream.specs.Streams.{KeptStream, StreamTable, IsNumbered, held}
 
 -- the buffers under a key of the pool; each key that a place has is kept
 abbrev pub pooled : ℕ → List (Option (Kept Buffers)) → Buffers
@@ -57,9 +57,20 @@ abbrev pub AreApart : List (ℕ × Place) → Type 0
 AreApart [] = Unit {0}
 AreApart (e ∷ places) = HasNone e.1.key places × AreApart places
 
+-- no stream has more than 16 MiB
+abbrev pub AreSmall : List KeptStream → Type 0
+AreSmall [] = Unit {0}
+AreSmall (s ∷ streams) = (buffer_bytes s.buffers ≤ 16777216) × AreSmall streams
+
+-- how many bytes the streams have together. None is large, so those of as many streams as there are numbers fit into 64 bits.
+pub record AreMeasured (bytes : ℕ) (streams : List KeptStream) : Type 0 where
+  pub sum : bytes ≡ (held streams).bytes
+  pub small : AreSmall streams
+
 pub record IsSound (s : Inside) : Type 0 where
   pub rising : IsNumbered 0 (streams_in s.pool s.places.entries) 4294967295
   pub kept : AreKept s.pool s.places.entries
   pub apart : AreApart s.places.entries
   pub counted : AreCounted s.pool s.places.entries
   pub no_other : KeepsNoOther s.pool s.places.entries
+  pub measured : AreMeasured s.bytes (streams_in s.pool s.places.entries)

@@ -1,6 +1,7 @@
 //! Streams of images, and the store that keeps them.
 #![tactic(auto)]
 
+mod buffering;
 mod naming;
 mod store;
 mod stream;

@@ -2,9 +2,7 @@
 
 ghost use Rattle.std.specs.Prelude.{◌≡◌, ◌↔◌, ◌+◌, ◌<◌, ◌≤◌, ◌||◌, [], not, map, Some, option_copied};
 ghost use Rattle.std.specs.Prelude.{IfOk, IfSome, OnOk, OnErr, IsErrOf, IsSome, IsTrue};
-ghost use Rattle.std.specs.Option.{option_copied_mut};
 ghost use Rattle.std.specs.Result.{result_ok};
-ghost use Rattle.std.specs.Borrow.{sem};
 ghost use Rattle.wf_pixel.specs.Choice.{has_sides};
 ghost use Rattle.wf_life.specs.Handles.{is_full, is_live, without};
 ghost use Rattle.wf_stream.specs.Buffers.{fresh};
@@ -33,13 +31,13 @@ const MOST_BYTES: u64 = 134_217_728;
 /// included. The handle table keeps a stream's number. A stream is kept as long as it has a name: its live handle, or its port where it
 /// is a screen, and what else it is told of by `retain`.
 ///
-/// A stream is lent whole for writing, and what comes back may have another size. So the bytes are summed where they
-/// are asked for, over the few streams that are kept.
+/// No stream is lent for writing: each call on its buffers is a method of the store, and leaves its bytes as they are. So their sum
+/// over all streams is kept, and changes where a stream is made or dropped.
 #[derive(Drop)]
 pub struct Store {
     alloc: Global,
     handles: Handles,
-    streams: Streams,
+    pub(crate) streams: Streams,
     numbered: u32,
 }
 
@@ -56,8 +54,6 @@ impl Model for Store {
 }
 
 impl Store {
-    ghost use Rattle.wf_stream.specs.Lending.{lends_stream};
-
     /// No objects and no streams. It takes no memory.
     pub fn new(alloc: Global) -> Store
         ensures { result ≡ empty }
@@ -225,15 +221,6 @@ impl Store {
         ensures numbered { IsNumbered 0 self.now.streams self.now.numbered }
     {
         self.streams.get(number)
-    }
-
-    /// The stream of a number, for writing.
-    pub fn get_mut(&mut self, number: u32) -> Option<&mut Stream>
-        ensures* writes_back { sem 𝓛 (lends_stream self.entry number result) }
-        ensures value { option_copied_mut result ≡ buffers_at number self.old.streams }
-        ensures numbered { IsNumbered 0 self.old.streams self.old.numbered }
-    {
-        self.streams.get_mut(number)
     }
 }
 

@@ -1,16 +1,18 @@
 //! The streams by number.
 
-ghost use Rattle.std.specs.Prelude.{◌≡◌, ◌-◌, ◌*◌, ◌<◌, ◌≤◌, [], ◌∷◌, ◌++◌, length, option_copied, OnOk, OnErr};
-ghost use Rattle.std.specs.Option.{option_copied_mut};
-ghost use Rattle.std.specs.Borrow.{sem};
-ghost use Rattle.wf_stream.specs.Streams.{held, IsNumbered, buffers_at, hand_over, less_streams};
+ghost use Rattle.std.specs.Prelude.{◌≡◌, ◌≢◌, ◌-◌, ◌*◌, ◌<◌, ◌≤◌, [], ◌∷◌, ◌++◌, length, option_copied, OnOk, OnErr};
+ghost use Rattle.std.specs.Prelude.{IfOk, IfSome, IsErrOf, IsSome, IsSomeAnd, IsTrue, Some, true, false};
+ghost use Rattle.std.specs.Option.{option_and_then};
+ghost use Rattle.wf_image.specs.Bitmap.{blank};
+ghost use Rattle.wf_stream.specs.Buffers.{HasShape, acquired, away, discarded, is_blocked, latched, newest, posted, returned};
+ghost use Rattle.wf_stream.specs.Streams.{held, IsNumbered, KeptStream, buffers_at, change_stream, hand_over, less_streams, stream_at};
 ghost use Rattle.wf_stream.specs.Counts.{counted, one_name_more, less_counts, without_count};
 
-use crate::stream::Stream;
+use crate::stream::{Refused, Stream};
 use std::alloc::Global;
 use std::collections::BTreeMap;
 use std::marker::Model;
-use wf_image::NoMemory;
+use wf_image::{Canvas, Image, NoMemory};
 use wf_life::Pool;
 
 /// The pool's key of a stream, and its live handle or 0.
@@ -20,11 +22,12 @@ struct Place {
     handle: u32,
 }
 
-/// The streams that are kept, by rising number.
+/// The streams that are kept, by rising number, and the bytes of all their buffers.
 #[derive(Drop)]
 pub(crate) struct Streams {
     pool: Pool<Stream>,
     places: BTreeMap<u32, Place>,
+    bytes: u64,
 }
 
 impl Model for Streams {
@@ -40,8 +43,6 @@ impl Model for Streams {
 }
 
 impl Streams {
-    ghost use Rattle.wf_stream.specs.Lending.{lends_one};
-
     /// No streams. It takes no memory.
     pub(crate) fn new(alloc: Global) -> Streams
         ensures { result ≡ record { streams = []; counts = [] } }
@@ -49,6 +50,7 @@ impl Streams {
         Streams {
             pool: Pool::new(alloc),
             places: BTreeMap::new(alloc),
+            bytes: 0,
         }
     }
 
@@ -64,13 +66,7 @@ impl Streams {
         ensures bytes { result ≡ (held self.now.streams).bytes }
         ensures small { result ≤ 16777216 * 4294967295 }
     {
-        let mut bytes = 0;
-        for (_, place) in &self.places {
-            if let Some(stream) = self.pool.get(place.key) {
-                bytes += stream.bytes();
-            }
-        }
-        bytes
+        self.bytes
     }
 
     /// Keeps a stream that has one name under a number above all others.
@@ -85,6 +81,7 @@ impl Streams {
         ensures uncounted { OnOk result (without_count number self.old.counts ≡ self.old.counts) }
         ensures refused { OnErr result (self.new ≡ self.old) }
     {
+        let bytes = stream.bytes();
         let Ok(key) = self.pool.put(stream) else {
             return Err(NoMemory);
         };
@@ -92,6 +89,7 @@ impl Streams {
             drop(self.pool.release(key));
             return Err(NoMemory);
         };
+        self.bytes += bytes;
         Ok(())
     }
 
@@ -115,7 +113,8 @@ impl Streams {
         let Some(place) = self.places.get(&number) else {
             return;
         };
-        if self.pool.release(place.key).is_some() {
+        if let Some(stream) = self.pool.release(place.key) {
+            self.bytes -= stream.bytes();
             self.places.remove(&number);
         }
     }
@@ -158,16 +157,83 @@ impl Streams {
         }
     }
 
-    /// The stream of a number, for writing.
-    pub(crate) fn get_mut(&mut self, number: u32) -> Option<&mut Stream>
-        ensures* writes_back { sem 𝓛 (lends_one self.entry number result) }
-        ensures value { option_copied_mut result ≡ buffers_at number self.old.streams }
+    /// Takes the write buffer of a stream that is kept.
+    pub(crate) fn acquire(&mut self, number: u32) -> Result<Canvas, Refused>
+        requires { IsSome (stream_at number self.old.streams) }
+        ensures canvas { IfOk result (λ canvas. (s : KeptStream) → stream_at number self.old.streams ≡ Some s
+            → canvas ≡ record { stream = number; image = blank s.buffers.size s.buffers.format }) }
+        ensures free { OnOk result ((s : KeptStream) → stream_at number self.old.streams ≡ Some s → (s.buffers.out ≡ false)
+            × (is_blocked s.buffers ≡ false)) }
+        ensures acquired { OnOk result (self.new ≡ record self.old { streams = change_stream number acquired self.old.streams }) }
+        ensures busy { IsErrOf result Refused.Busy → (s : KeptStream) → stream_at number self.old.streams ≡ Some s
+            → s.buffers.out ≡ true }
+        ensures no_buffer { IsErrOf result Refused.NoBuffer → (s : KeptStream) → stream_at number self.old.streams ≡ Some s
+            → (s.buffers.out ≡ false) × (is_blocked s.buffers ≡ true) }
+        ensures refused { OnErr result (self.new ≡ self.old) }
     {
-        let key = match self.places.get(&number) {
-            Some(place) => place.key,
-            None => return None,
+        let Some(place) = self.places.get(&number) else {
+            unreachable!()
         };
-        self.pool.get_mut(key)
+        match self.pool.get_mut(place.key) {
+            Some(stream) => stream.acquire(number),
+            None => unreachable!(),
+        }
+    }
+
+    /// Makes a write buffer the newest image of its stream, if that is kept.
+    pub(crate) fn post(&mut self, canvas: Canvas)
+        requires { IfSome (buffers_at canvas.stream self.old.streams) (λ b. IsTrue b.out × HasShape b.size b.format canvas.image) }
+        ensures { self.new ≡ record self.old { streams = change_stream canvas.stream (posted canvas.image) self.old.streams } }
+    {
+        let Some(place) = self.places.get(&canvas.stream) else {
+            return;
+        };
+        match self.pool.get_mut(place.key) {
+            Some(stream) => stream.post(canvas),
+            None => unreachable!(),
+        }
+    }
+
+    /// Gives a write buffer back to its stream unseen, if that is kept.
+    pub(crate) fn discard(&mut self, canvas: Canvas)
+        requires { IfSome (buffers_at canvas.stream self.old.streams) (λ b. IsTrue b.out × HasShape b.size b.format canvas.image) }
+        ensures { self.new ≡ record self.old { streams = change_stream canvas.stream discarded self.old.streams } }
+    {
+        let Some(place) = self.places.get(&canvas.stream) else {
+            return;
+        };
+        match self.pool.get_mut(place.key) {
+            Some(stream) => stream.discard(canvas),
+            None => unreachable!(),
+        }
+    }
+
+    /// The newest image of a stream, if that is kept and has one. It is away until it is given back.
+    pub(crate) fn latch(&mut self, number: u32) -> Option<Image>
+        requires { IfSome (buffers_at number self.old.streams) (λ b. b.read ≢ away) }
+        ensures image { result ≡ option_and_then newest (buffers_at number self.old.streams) }
+        ensures shape { IfSome result (λ image. IsSomeAnd (buffers_at number self.old.streams) (λ b. HasShape b.size b.format image)) }
+        ensures latched { self.new ≡ record self.old { streams = change_stream number latched self.old.streams } }
+    {
+        let place = self.places.get(&number)?;
+        match self.pool.get_mut(place.key) {
+            Some(stream) => stream.latch(),
+            None => unreachable!(),
+        }
+    }
+
+    /// Brings an image home to its stream, if that is kept.
+    pub(crate) fn give_back(&mut self, number: u32, image: Image)
+        requires { IfSome (buffers_at number self.old.streams) (λ b. (b.read ≡ away) × HasShape b.size b.format image) }
+        ensures { self.new ≡ record self.old { streams = change_stream number (returned image) self.old.streams } }
+    {
+        let Some(place) = self.places.get(&number) else {
+            return;
+        };
+        match self.pool.get_mut(place.key) {
+            Some(stream) => stream.give_back(image),
+            None => unreachable!(),
+        }
     }
 }
 

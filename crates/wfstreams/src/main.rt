@@ -111,10 +111,7 @@ impl Streams {
 
     /// Takes the write buffer of a stream, and lets the canvas go.
     fn acquire(&mut self, number: u32) -> bool {
-        match self.store.get_mut(number) {
-            Some(stream) => stream.acquire(number).is_ok(),
-            None => false,
-        }
+        self.store.get(number).is_some() && self.store.acquire(number).is_ok()
     }
 
     /// Ends the life of a stream's handle.

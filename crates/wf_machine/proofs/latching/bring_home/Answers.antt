@@ -8,8 +8,8 @@ loop-number-init c =
     let store = c.args.store.now in
     ([], sym (append-nil _), ap (λ streams. record store { streams = streams }) (none_home store.streams))
 
-pub bring_image_home-requires : goal.bring_image_home-requires
-bring_image_home-requires c =
+pub give_back-requires : goal.give_back-requires
+give_back-requires c =
     let streams = c.args.store.now.streams in
     let home = c.loop-number.invariant.0 in
     let pair : ℕ × Bitmap = (c.in-Some.number, c.in-Some.image) in
@@ -27,7 +27,7 @@ loop-number-preserved c =
     let awaited = next_awaited before.streams _ _ home pair is c.requires.awaited in (
       pair ∷ home,
       is,
-      c.bring_image_home.ensures
+      c.give_back.ensures
           ∙ ap (λ (store : StoreView). record store { streams = change_stream c.in-Some.number (returned c.in-Some.image) store.streams })
           c.loop-number.invariant.2
           ∙ ap (λ streams. record before { streams = streams })

@@ -7,10 +7,10 @@ returns-in-Some-clause-shaped c shaped =
     let streams = c.args.store.now.streams in
     let all = subst (λ contents. AreShapedAs streams contents) (sym c.put.ensures)
     (shaped_more _ c.in-Some.image streams _ shaped c.in-Some.ensures.shape) in
-    subst (λ store. AreShapedAs store.streams c.put.new.self) (sym c.newest_taken.ensures.store)
+    subst (λ store. AreShapedAs store.streams c.put.new.self) (sym c.latch.ensures.latched)
     (shaped_changed latched c.args.number streams _ latched_keeps all)
 
 pub returns-in_default-clause-shaped : goal.returns-in_default-clause-shaped
 returns-in_default-clause-shaped c shaped =
-    subst (λ store. AreShapedAs store.streams c.args.self.now) (sym c.newest_taken.ensures.store)
+    subst (λ store. AreShapedAs store.streams c.args.self.now) (sym c.latch.ensures.latched)
     (shaped_changed latched c.args.number _ _ latched_keeps shaped)

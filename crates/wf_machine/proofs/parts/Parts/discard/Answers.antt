@@ -15,25 +15,25 @@ returns-then-not-is_out_at_client c =
     (sym c.is_out_at_client.ensures ∙ c.if-not-is_out_at_client.true) c.giving_back_canvas.ensures)
     (seen_settled c.self.inside _ c.self.view_is c.self.invariant)
 
-pub discard_to-requires : goal.discard_to-requires
-discard_to-requires c =
+pub discard-requires : goal.discard-requires
+discard-requires c =
     let out = sym c.is_out_at_client.ensures ∙ c.if-not-is_out_at_client.false in
     out_from _ (state_of c.self.inside) (ap (is_out_at_client c.args.canvas) c.self.view_is ∙ out)
 
 pub end_name-requires-clause-counted : goal.end_name-requires-clause-counted
 end_name-requires-clause-counted c =
     let out = ap (is_out_at_client c.args.canvas) c.self.view_is ∙ sym c.is_out_at_client.ensures ∙ c.if-not-is_out_at_client.false in
-    back_counted c.self.inside c.self.invariant c.args.canvas out discarded discarded_keeps (λ b. refl) _ c.discard_to.ensures
+    back_counted c.self.inside c.self.invariant c.args.canvas out discarded discarded_keeps (λ b. refl) _ c.discard.ensures
 
 pub end_name-requires-clause-named : goal.end_name-requires-clause-named
 end_name-requires-clause-named c =
     let out = ap (is_out_at_client c.args.canvas) c.self.view_is ∙ sym c.is_out_at_client.ensures ∙ c.if-not-is_out_at_client.false in
-    back_named c.self.inside c.self.invariant c.args.canvas out discarded discarded_keeps (λ b. refl) _ c.discard_to.ensures
+    back_named c.self.inside c.self.invariant c.args.canvas out discarded discarded_keeps (λ b. refl) _ c.discard.ensures
 
 pub invariant_of-self : goal.invariant_of-self
 invariant_of-self c =
     let out = ap (is_out_at_client c.args.canvas) c.self.view_is ∙ sym c.is_out_at_client.ensures ∙ c.if-not-is_out_at_client.false in
-    sound_back c.self.inside c.self.invariant c.args.canvas out discarded discarded_keeps (λ b. refl) _ c.discard_to.ensures _
+    sound_back c.self.inside c.self.invariant c.args.canvas out discarded discarded_keeps (λ b. refl) _ c.discard.ensures _
     c.end_name.ensures.names c.end_name.ensures.none c.end_name.ensures.rest
 
 pub returns : goal.returns
@@ -44,6 +44,6 @@ returns c =
     leaves_so m _ c.self.view_is (λ t r. settled_so (canvas_back c.args.canvas discarded t))
     (state_of (record m { store = c.end_name.new.store })) (settle (with_stream stream discarded (state_of m)))
     (with_canvas c.taking_canvas.result) (bare (done 0))
-    (back_seen m c.self.invariant c.args.canvas out discarded discarded_keeps (λ b. refl) _ c.discard_to.ensures _
+    (back_seen m c.self.invariant c.args.canvas out discarded discarded_keeps (λ b. refl) _ c.discard.ensures _
     c.end_name.ensures.names c.end_name.ensures.none c.end_name.ensures.rest)
     c.taking_canvas.ensures (ap settled_so (comes_back c.args.canvas discarded (state_of m) out))

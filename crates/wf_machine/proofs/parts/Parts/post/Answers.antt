@@ -15,8 +15,8 @@ returns-then-not-is_out_at_client c =
     (sym c.is_out_at_client.ensures ∙ c.if-not-is_out_at_client.true) c.giving_back_canvas.ensures)
     (seen_settled c.self.inside _ c.self.view_is c.self.invariant)
 
-pub post_to-requires : goal.post_to-requires
-post_to-requires c =
+pub post-requires : goal.post-requires
+post-requires c =
     let out = sym c.is_out_at_client.ensures ∙ c.if-not-is_out_at_client.false in
     out_from _ (state_of c.self.inside) (ap (is_out_at_client c.args.canvas) c.self.view_is ∙ out)
 
@@ -24,19 +24,19 @@ pub end_name-requires-clause-counted : goal.end_name-requires-clause-counted
 end_name-requires-clause-counted c =
     let out = ap (is_out_at_client c.args.canvas) c.self.view_is ∙ sym c.is_out_at_client.ensures ∙ c.if-not-is_out_at_client.false in
     back_counted c.self.inside c.self.invariant c.args.canvas out (posted c.args.canvas.image) (posted_keeps c.args.canvas.image)
-    (λ b. refl) _ c.post_to.ensures
+    (λ b. refl) _ c.post.ensures
 
 pub end_name-requires-clause-named : goal.end_name-requires-clause-named
 end_name-requires-clause-named c =
     let out = ap (is_out_at_client c.args.canvas) c.self.view_is ∙ sym c.is_out_at_client.ensures ∙ c.if-not-is_out_at_client.false in
     back_named c.self.inside c.self.invariant c.args.canvas out (posted c.args.canvas.image) (posted_keeps c.args.canvas.image)
-    (λ b. refl) _ c.post_to.ensures
+    (λ b. refl) _ c.post.ensures
 
 pub invariant_of-self : goal.invariant_of-self
 invariant_of-self c =
     let out = ap (is_out_at_client c.args.canvas) c.self.view_is ∙ sym c.is_out_at_client.ensures ∙ c.if-not-is_out_at_client.false in
     sound_back c.self.inside c.self.invariant c.args.canvas out (posted c.args.canvas.image) (posted_keeps c.args.canvas.image)
-    (λ b. refl) _ c.post_to.ensures _
+    (λ b. refl) _ c.post.ensures _
     c.end_name.ensures.names c.end_name.ensures.none c.end_name.ensures.rest
 
 pub returns : goal.returns
@@ -48,6 +48,6 @@ returns c =
     (state_of (record m { store = c.end_name.new.store })) (settle (with_stream stream (posted c.args.canvas.image) (state_of m)))
     (with_canvas c.taking_canvas.result) (bare (done 0))
     (back_seen m c.self.invariant c.args.canvas out (posted c.args.canvas.image) (posted_keeps c.args.canvas.image)
-    (λ b. refl) _ c.post_to.ensures _
+    (λ b. refl) _ c.post.ensures _
     c.end_name.ensures.names c.end_name.ensures.none c.end_name.ensures.rest)
     c.taking_canvas.ensures (ap settled_so (comes_back c.args.canvas (posted c.args.canvas.image) (state_of m) out))
