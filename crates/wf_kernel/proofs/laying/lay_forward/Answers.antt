@@ -1,6 +1,5 @@
-use Rattle.std.proofs.Common.{◌≡◌, ℕ, ◌+◌, Bool, false, sym, ap, ◌∙◌}
-use Rattle.std.specs.Prelude.{Option, None, Some}
-use Rattle.wf_row.specs.declared.AlphaMode.{AlphaMode}
+use Rattle.std.proofs.Common.{◌≡◌, ◌+◌, Bool, false, sym, ap, ◌∙◌}
+use Rattle.std.specs.Prelude.{None, Some}
 use Rattle.wf_row.specs.declared.AlphaMode.TheVariants.{Opaque}
 use Rattle.wf_row.specs.Bytes.{blended}
 use Rattle.wf_kernel.specs.Bound.{Bound}
@@ -22,7 +21,8 @@ returns-in-Opaque c =
     ∙ c.if-transparency-2.false in
     let mode : Opaque ≡ mode_of image.format b.layer.transparency.source = sym c.in-Opaque.is ∙ c.mode_of-mode.ensures
     ∙ (λ i. mode_of (c.format.ensures i) (c.layer.view_is i).layer.transparency.source) in
-    let fade : None ≡ fade_of b.layer.transparency.alpha b.layer.alpha = ap (λ (applies : Bool). fade_of applies b.layer.alpha) (sym unfaded) in
+    let fade : None ≡ fade_of b.layer.transparency.alpha b.layer.alpha =
+    ap (λ (applies : Bool). fade_of applies b.layer.alpha) (sym unfaded) in
     c.blend_row.ensures
     ∙ (λ i. blended (mode i) (fade i) c.args.line.now c.args.part.now)
     ∙ blended_laid (mode_of image.format b.layer.transparency.source) (fade_of b.layer.transparency.alpha b.layer.alpha) s.len
