@@ -71,15 +71,16 @@ count_next p xs i d true is low place next place_is taken passed =
 count_next p xs i d false is low place next place_is taken passed = passed is ∙ place_is ∙ sym (count_by_more_no p xs i d low is)
 
 -- the place behind a layer's
-pub place_next : (scene : Scene) (layers : List Layer) (i : ℕ) (d : Layer) (place next : ℕ) → layers ≡ scene.layers.items → i < length layers
-    → place ≡ tables_before scene i → (needs_table scene.turn (get_or layers i d) ≡ true → next ≡ place + 1)
+pub place_next : (scene : Scene) (layers : List Layer) (i : ℕ) (d : Layer) (place next : ℕ) → layers ≡ scene.layers.items
+    → i < length layers → place ≡ tables_before scene i → (needs_table scene.turn (get_or layers i d) ≡ true → next ≡ place + 1)
     → (needs_table scene.turn (get_or layers i d) ≡ false → next ≡ place) → next ≡ tables_before scene (i + 1)
 place_next scene layers i d place next layers_are low place_is taken passed =
     let p : Layer → Bool = needs_table scene.turn in
     let Is : List Layer → Type 0 = λ ls. i < length ls → (p (get_or ls i d) ≡ true → next ≡ place + 1)
     → (p (get_or ls i d) ≡ false → next ≡ place) → next ≡ tables_before scene (i + 1) in
     subst Is (sym layers_are)
-    (λ inside taken passed. count_next p scene.layers.items i d (p (get_or scene.layers.items i d)) refl inside place next place_is taken passed)
+    (λ inside taken passed.
+    count_next p scene.layers.items i d (p (get_or scene.layers.items i d)) refl inside place next place_is taken passed)
     low taken passed
 
 -- a place is not behind that of its layer

@@ -1,6 +1,7 @@
 //! Layers with their images at hand, and with what is worked out of each once for all rows.
 
-ghost use Rattle.std.specs.Prelude.{◌≡◌, ◌+◌, ◌<◌, ◌≤◌, ◌≤ℤ◌, ℕ, List, [], true, All, IsTrue, length, map, pos, slice_index, slice_index_or};
+ghost use Rattle.std.specs.Prelude.{◌≡◌, ◌+◌, ◌<◌, ◌≤◌, ◌≤ℤ◌, ℕ, List, [], true, All, IsTrue, length, map, pos};
+ghost use Rattle.std.specs.Prelude.{slice_index, slice_index_or};
 ghost use Rattle.wf_pixel.specs.Place.{IsDrawn, turned, size_of};
 ghost use Rattle.wf_pixel.specs.Choice.{has_sides};
 ghost use Rattle.wf_model.specs.Picture.{Fits, LayerFits};

@@ -48,6 +48,7 @@ pub(crate) fn lay_row(
 }
 
 /// Lays a layer over the pixels of a stretch.
+#[inline(always)]
 fn lay_stretch(
     part: &mut [u8],
     layers: &[BoundLayer],
@@ -70,7 +71,7 @@ fn lay_stretch(
     match layer.walk {
         Walk::Forward => {
             let line = forward_line(layer, image, stretch);
-            lay_line(part, line, layer, image, stretch);
+            lay_forward(part, line, layer, image, stretch);
         }
         Walk::Backward => lay_by_lines(part, layers, i, kept, spare, image, stretch),
         Walk::Table => lay_by_lines(part, layers, i, kept, spare, image, stretch),
@@ -259,6 +260,28 @@ fn lay_filled(
     lay_line(part, line, layer, image, stretch);
 }
 
+/// The same, by the source's pixels, where these may stand in an image: most such layers are opaque, and are copied.
+#[inline(always)]
+fn lay_forward(part: &mut [u8], line: &[u8], layer: &BoundLayer, image: &Image, stretch: Stretch)
+    requires count { length part.old ≡ 4 * stretch.len }
+    requires source { layer.now.source ≡ Some image.now }
+    requires stretch { IsStretch layer.now stretch }
+    requires len { length line.now ≡ 4 * stretch.len }
+    requires line { line.now ≡ drawn_row stretch.len Rgba8Pre (λ i. source_colour layer.now image.now (stretch.across + i) stretch.down) }
+    ensures { part.new ≡ laid stretch.len (λ i. placed_texel layer.now image.now (stretch.across + i) stretch.down) part.old }
+{
+    let transparency = layer.layer.transparency;
+    if transparency.mask || transparency.alpha {
+        lay_line(part, line, layer, image, stretch);
+        return;
+    }
+    let mode = mode_of(image.format(), transparency.source);
+    match mode {
+        AlphaMode::Opaque => blend_row(part, line, AlphaMode::Opaque, None),
+        _ => lay_line(part, line, layer, image, stretch),
+    }
+}
+
 /// The same, by the source's pixels.
 fn lay_line(part: &mut [u8], line: &[u8], layer: &BoundLayer, image: &Image, stretch: Stretch)
     requires count { length part.old ≡ 4 * stretch.len }
@@ -282,6 +305,7 @@ fn lay_line(part: &mut [u8], line: &[u8], layer: &BoundLayer, image: &Image, str
 }
 
 /// The same through the layer's mask.
+#[inline(never)]
 fn lay_masked(
     part: &mut [u8],
     line: &[u8],

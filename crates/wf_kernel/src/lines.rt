@@ -15,6 +15,7 @@ use wf_pixel::{Format, Rect};
 use wf_row::{gather_column, gather_row, reverse_row};
 
 /// The part of a row of the source that is shown as it stands.
+#[inline(always)]
 pub(crate) fn forward_line<'a>(layer: &BoundLayer, image: &'a Image, stretch: Stretch) -> &'a [u8]
     requires source { layer.now.source ≡ Some image.now }
     requires stretch { IsStretch layer.now stretch }

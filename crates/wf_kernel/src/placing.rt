@@ -108,8 +108,30 @@ fn left_of(layer: &Layer, dx: u32) -> u32
     }
 }
 
-/// The other coordinate, which the distance from the top of the destination determines.
+/// The other coordinate, which the distance from the top of the destination determines. Most layers are not turned, and each
+/// piece of a row asks for it, so that case stands where it is asked.
+#[inline(always)]
 fn top_of(layer: &Layer, dy: u32) -> u32
+    requires src { IsDrawn layer.now.src }
+    requires dest { IsDrawn layer.now.dest }
+    requires x { pos 0 ≤ℤ layer.now.src.x }
+    requires y { pos 0 ≤ℤ layer.now.src.y }
+    requires dy { dy < layer.now.dest.h }
+    ensures value { result ≡ top_of layer.now dy }
+    ensures below { result < 65536 }
+{
+    match layer.turn {
+        Rotation::R0 => {
+            let src = layer.src;
+            src.y as u32 + flipped(layer.flip, src.h, place_in(dy, layer.dest.h, src.h))
+        }
+        _ => top_of_turned(layer, dy),
+    }
+}
+
+/// The same for each turn.
+#[inline(never)]
+fn top_of_turned(layer: &Layer, dy: u32) -> u32
     requires src { IsDrawn layer.now.src }
     requires dest { IsDrawn layer.now.dest }
     requires x { pos 0 ≤ℤ layer.now.src.x }
@@ -172,6 +194,7 @@ pub(crate) fn across(turn: Rotation, layer: &Layer, a: u32) -> u32
 }
 
 /// The other coordinate, which the distance from the layer's top on the target determines.
+#[inline(always)]
 pub(crate) fn down(turn: Rotation, layer: &Layer, d: u32) -> u32
     requires src { IsDrawn layer.now.src }
     requires dest { IsDrawn layer.now.dest }

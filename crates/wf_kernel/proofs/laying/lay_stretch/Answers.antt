@@ -27,7 +27,7 @@ returns-in-Forward-clause-part c =
     let same = layer_is c.args.layers.now c.args.i c.index-layers-i.result c.requires.layer c.index-layers-i.is in
     let source : b.source ≡ Some image = ap (λ (b : Bound). b.source) (sym same) ∙ ap (λ (b : Bound). b.source) (sym c.layer.view_is)
     ∙ ap option_copied c.in-Some.is in
-    c.lay_line.ensures
+    c.lay_forward.ensures
     ∙ ap (λ (b : Bound). laid s.len (λ i. placed_texel b image (s.across + i) s.down) c.args.part.now) same
     ∙ stretch_shown b image s c.args.part.now (subst IsShowable same prepared.showable) source c.requires.stretch
 
