@@ -2,7 +2,8 @@
 use Rattle.wf_turn.proofs.Common.{◌≡◌, ◌∙◌, Bool, true, false, cond, Option, Some, None, refl, sym, ap, IfSome, is_some, option_map}
 use Rattle.wf_turn.proofs.Common.{Answers, Call, IsStep, Job, Line, Name, Program, Reply, Stage, State, Turn, Verb, Wanted, bare, entry}
 use Rattle.wf_turn.proofs.Common.{first_call, first_line, handle, is_begin, next, plain, plain_call, replied, took, took_at, took_first}
-use Rattle.wf_turn.proofs.Common.{ℕ, ◌≢◌, ◌&&◌, IsAt, IsFit, IsSome, Phase, is_running, issued, subst, wanted_at, with_job}
+use Rattle.wf_turn.proofs.Common.{ℕ, ◌&&◌, IsAt, IsFit, IsSome, Phase, is_running, issued, subst, wanted_at, with_job}
+use Rattle.std.specs.Prelude.{◌≢◌}
 use Rattle.wf_calls.specs.Parts.{carries, part_of}
 use Rattle.wf_calls.specs.declared.call.Call.TheVariants as call
 use Rattle.wf_calls.specs.declared.reply.Answer.{Answer}
@@ -37,7 +38,7 @@ begins_none _ none = refl
 
 pub one_carries : (handle : Option Name → ℕ) (v : Verb) (c : Call) → plain_call handle v ≡ Some c → carries (part_of c) ≡ is_begin c
 one_carries handle v c is =
-    let none : carries (part_of c) ≡ false = rw is at plain_carries handle v in
+    let none : carries (part_of c) ≡ false = subst (λ o. IfSome o (λ x. carries (part_of x) ≡ false)) is (plain_carries handle v) in
     none ∙ sym (begins_none c none)
 
 -- a program whose next call begins a frame
@@ -99,7 +100,7 @@ pub wanted_of : (p : Program) → IsSome (next p) → (w : Wanted) × (next p �
 wanted_of p some = of_next (next p) some
   where
     of_next : (o : Option Wanted) → IsSome o → (w : Wanted) × (o ≡ Some w)
-    of_next None some = absurd some
+    of_next None some = absurd cc
     of_next (Some w) some = (w, refl)
 
 -- the answer is taken as before the call was handed out
@@ -246,7 +247,7 @@ module _ (p q : Program) (a : Asks) (w : Wanted) (is : asked p.job w a ≡ next 
   some_next h free fit ends = subst IsSome is (of_asks a refl)
     where
       of_job : (o : Option Job) → IsSome o → IsSome (option_map (λ j. plain (call.End j)) o)
-      of_job None some = absurd some
+      of_job None some = absurd cc
       of_job (Some job) some = refl
 
       of_asks : (b : Asks) → a ≡ b → IsSome (asked p.job w a)
@@ -275,3 +276,18 @@ module _ (p q : Program) (a : Asks) (w : Wanted) (is : asked p.job w a ≡ next 
       of_asks (asks.Post canvas) at = of_plain (plain (call.Post canvas)) refl (sym (ap (asked p.job w) at) ∙ is ∙ wants)
       of_asks (asks.Discard canvas) at = of_plain (plain (call.Discard canvas)) refl (sym (ap (asked p.job w) at) ∙ is ∙ wants)
       of_asks asks.End at = of_job p.job (sym (ap (asked p.job w) at) ∙ is ∙ wants)
+
+-- so it is of the end of the frame whose Job stands in a place
+
+pub end_answers : (client : ℕ) (h left : State) (p now : Program) (t : Turn) (reply : Reply) (o : Option Job)
+    → IfSome o (λ j. IsStep h client (call.End j) left reply) → now ≡ took p reply → t ≡ entry client reply
+    → IfSome o (λ j. Answers client h left (call.End j) p now t)
+end_answers client h left p now t reply None steps now_is entry_is = tt
+end_answers client h left p now t reply (Some job) steps now_is entry_is =
+    step_answers client h left (call.End job) p now t reply steps now_is entry_is
+
+pub end_asked : (client : ℕ) (h left : State) (p now : Program) (t : Turn) (o : Option Job)
+    → IfSome o (λ j. Answers client h left (call.End j) p now t)
+    → IfSome (option_map (λ j. plain (call.End j)) o) (λ w. Answers client h left w.call p now t)
+end_asked client h left p now t None answers = tt
+end_asked client h left p now t (Some job) answers = answers

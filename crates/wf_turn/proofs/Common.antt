@@ -32,7 +32,7 @@ pub use Rattle.wf_image.specs.declared.canvas.Canvas.{Canvas}
 pub use Rattle.wf_image.specs.declared.paint.Paint.{Paint}
 pub use Rattle.wf_io.specs.Bytes.{Puts, PutsPart}
 pub use Rattle.wf_io.specs.Parts.{puts_both, stops_late}
-pub use Rattle.wf_machine.specs.Object.{IsPaintable, SamePayload}
+pub use Rattle.wf_machine.specs.Object.{IsPaintable, IsStep, SamePayload}
 pub use Rattle.wf_model.specs.Beginnings.{by_begin, next_is, port_is}
 pub use Rattle.wf_model.specs.Effects.{effect, moves_frame}
 pub use Rattle.wf_model.specs.Frames.{Beginning, begin_call, home_if, is_of_frame, is_running, is_target, job_of, newest_images, newest_of}

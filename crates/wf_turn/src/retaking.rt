@@ -1,6 +1,6 @@
 //! One turn of a program that is played again.
 
-ghost use Rattle.std.specs.Prelude.{◌≡◌, ◌&&◌, IfOk, MatchOption, None, not, true};
+ghost use Rattle.std.specs.Prelude.{◌≡◌, ◌&&◌, IfOk, MatchOption, None, false, not, true};
 ghost use Rattle.wf_machine.specs.Object.{is_ready};
 ghost use Rattle.wf_turn.specs.Asked.{is_stuck};
 ghost use Rattle.wf_turn.specs.Ready.{IsFit};

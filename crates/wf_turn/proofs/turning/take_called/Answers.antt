@@ -1,0 +1,23 @@
+use Rattle.wf_turn.proofs.Common.{◌≡◌, ◌∙◌, true, sym, bare, is_begin}
+use Rattle.wf_turn.proofs.turning.take_called.Goals as goal
+
+pub returns-in-Some : goal.returns-in-Some
+returns-in-Some c =
+    record {
+      reply = bare c.in-Some.answer;
+      left_is = rw c.in-Some.is at c.answer.ensures.after;
+      may = rw c.in-Some.is at c.answer.ensures.may;
+      now_is = c.took_answer.ensures;
+      entry_is = c.entry.ensures;
+    }
+
+pub take_begin-requires-clause-call : goal.take_begin-requires-clause-call
+take_begin-requires-clause-call c = sym c.requires.call ∙ (rw c.in-None.is at c.answer.ensures.carries).0
+
+pub take_begin-requires-clause-begins : goal.take_begin-requires-clause-begins
+take_begin-requires-clause-begins c = c.requires.begins (sym c.requires.call ∙ (rw c.in-None.is at c.answer.ensures.carries).0)
+
+pub returns-in-None : goal.returns-in-None
+returns-in-None c =
+    let same : c.answer.new.self ≡ c.args.machine.now = (rw c.in-None.is at c.answer.ensures.carries).1 in
+    rw same at c.take_begin.ensures
