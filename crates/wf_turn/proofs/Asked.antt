@@ -2,7 +2,7 @@
 use Rattle.wf_turn.proofs.Common.{◌≡◌, ◌∙◌, Bool, true, false, cond, Option, Some, None, refl, sym, ap, IfSome, is_some, option_map}
 use Rattle.wf_turn.proofs.Common.{Answers, Call, IsStep, Job, Line, Name, Program, Reply, Stage, State, Turn, Verb, Wanted, bare, entry}
 use Rattle.wf_turn.proofs.Common.{first_call, first_line, handle, is_begin, next, plain, plain_call, replied, took, took_at, took_first}
-use Rattle.wf_turn.proofs.Common.{ℕ, ◌&&◌, IsAt, IsFit, IsSome, Phase, is_running, issued, subst, wanted_at, with_job}
+use Rattle.wf_turn.proofs.Common.{ℕ, ◌&&◌, IsAt, IsFit, IsSome, is_running, issued, subst, wanted_at, with_job}
 use Rattle.std.specs.Prelude.{◌≢◌}
 use Rattle.wf_calls.specs.Parts.{carries, part_of}
 use Rattle.wf_calls.specs.declared.call.Call.TheVariants as call

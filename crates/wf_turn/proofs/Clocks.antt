@@ -1,16 +1,16 @@
 -- The clock, which is client 0, alone begins what is shown: no other client has a tick.
 use Rattle.wf_turn.proofs.Common.{unheld}
-use Rattle.wf_turn.proofs.Common.{◌≡◌, ◌∙◌, ℕ, zero, suc, ◌+◌, ◌==◌, Bool, true, false, not, cond, ◌&&◌, ◌||◌, List, [], ◌∷◌, ◌++◌}
+use Rattle.wf_turn.proofs.Common.{◌≡◌, ◌∙◌, ℕ, zero, suc, ◌+◌, ◌==◌, Bool, true, false, not, cond, ◌&&◌, ◌||◌, List, [], ◌∷◌}
 use Rattle.wf_turn.proofs.Common.{map, All, bound, bound_name, nat_tests, ◌<◌}
 use Rattle.wf_turn.proofs.Common.{Option, Some, None, refl, sym, ap, subst, set, pos, arith, filter, slice_get, is_some, enumerate_from}
-use Rattle.wf_turn.proofs.Common.{list_all, range_with_len, AllByRecursion, and_parts, eqb-true, each_at, each_mapped, Canvas, Job, Paint}
+use Rattle.wf_turn.proofs.Common.{list_all, range_with_len, AllByRecursion, and_parts, eqb-true, each_at, each_mapped, Canvas, Paint}
 use Rattle.wf_turn.proofs.Common.{Payload, Reply}
-use Rattle.wf_turn.proofs.Common.{Turn, Frame, step, moves_frame, is_begin, Call, Line, Verb, PlainScript, Phase, Stage, Wanted, Begins}
+use Rattle.wf_turn.proofs.Common.{Turn, Frame, step, Call, Line, Verb, PlainScript, Stage, Wanted, Begins}
 use Rattle.wf_turn.proofs.Common.{is_marked, before, given_canvas, is_event, line_done, lines_from, next, plain, program, Program, silent}
 use Rattle.wf_turn.proofs.Common.{skipped, taught}
 use Rattle.wf_turn.proofs.Common.{took}
 use Rattle.wf_turn.proofs.Common.{took_at, took_canvas, took_first, took_frame, took_job, waiting, worked, IsNextTurn, IsRun, Show}
-use Rattle.wf_turn.proofs.Common.{all_taught, inherited, is_setting_up, opening_show, turn, first_line, with_frames, TurnsTo}
+use Rattle.wf_turn.proofs.Common.{all_taught, inherited, is_setting_up, opening_show, with_frames, TurnsTo}
 use Rattle.wf_calls.specs.declared.call.Call.TheVariants as call
 use Rattle.wf_calls.specs.declared.reply.Payload.TheVariants as payload
 use Rattle.wf_script.specs.declared.line.Verb.TheVariants as verb
@@ -20,7 +20,7 @@ use Rattle.wf_turn.specs.declared.stage.Stage.TheVariants as stage
 use Rattle.wf_words.specs.Each.{each_set}
 use Rattle.wf_turn.proofs.Cases.{IsTick, turn_case}
 use Rattle.wf_turn.proofs.Holding.{AllHold, opening_hold}
-use Rattle.wf_turn.proofs.Moments.{Adds, turn_adds}
+use Rattle.wf_turn.proofs.Moments.{turn_adds}
 use Rattle.wf_turn.proofs.Painting.{IsPainted}
 use Rattle.wf_turn.proofs.Replays.{own_program, turn_of}
 use Rattle.wf_turn.proofs.Works.{worked_if}

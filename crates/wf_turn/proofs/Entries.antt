@@ -1,18 +1,13 @@
 -- The entries of an order, played again one after another.
-use Rattle.wf_turn.proofs.Common.{◌≡◌, ◌∙◌, ℕ, zero, suc, ◌+◌, ◌*◌, ◌<◌, ◌≤◌, ◌==◌, Bool, true, false, List, [], ◌∷◌, ◌++◌, length, take}
-use Rattle.wf_turn.proofs.Common.{get_or, inl, inr, Option, Some, None, Ok, refl, sym, ap, subst, arith, append_assoc, append-nil, flat_map}
-use Rattle.wf_turn.proofs.Common.{IsSome, Turn, Frame, FilmForm, frame_bytes, tail_bytes, Puts, puts_both, PlainScript, is_marked, replay}
+use Rattle.wf_turn.proofs.Common.{◌≡◌, ◌∙◌, ℕ, ◌+◌, ◌*◌, ◌<◌, ◌≤◌, true, false, List, [], ◌∷◌, ◌++◌, length, take}
+use Rattle.wf_turn.proofs.Common.{get_or, inl, inr, Some, Ok, refl, sym, ap, subst, append-nil, flat_map}
+use Rattle.wf_turn.proofs.Common.{IsSome, Turn, FilmForm, frame_bytes, tail_bytes, Puts, puts_both, PlainScript, replay}
 use Rattle.wf_turn.proofs.Common.{replay_from, with_frames, Show, opening_show}
-use Rattle.std.proofs.Common.{Err}
 use Rattle.std.proofs.lemmas.List.{take_more}
-use Rattle.std.specs.Prelude.{Result}
 use Rattle.std.proofs.lemmas.Grind.{flat_map-append}
 use Rattle.wf_film.specs.Film.{Writing, head_bytes, magic}
-use Rattle.wf_turn.specs.declared.replaying.ReplayStop.{ReplayStop}
-use Rattle.wf_turn.specs.declared.replaying.ReplayStop.TheVariants as stop
-use Rattle.wf_turn.specs.Play.{IsComplete, frames_after, over_after}
-use Rattle.wf_turn.specs.Replayed.{EntersTo, IsNoTurn, IsReplayer, PlaysAgain, PlaysAll, PlaysEntries, PlaysEntry, StopsAt, StopsIn}
-use Rattle.wf_turn.specs.Replayed.{entry_taken}
+use Rattle.wf_turn.specs.Play.{frames_after, over_after}
+use Rattle.wf_turn.specs.Replayed.{IsNoTurn, IsReplayer, PlaysAgain, PlaysEntries, PlaysEntry, StopsAt, StopsIn}
 use Rattle.wf_turn.specs.Turns.{is_over}
 use Rattle.wf_turn.proofs.Replays.{replay_ends, replay_more}
 use Rattle.wf_turn.proofs.Serials.{nothing_replayed}

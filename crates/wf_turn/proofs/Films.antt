@@ -4,7 +4,7 @@ use Rattle.wf_turn.proofs.Common.{inl, inr, refl, sym, ap, subst, arith, append_
 use Rattle.wf_turn.proofs.Common.{range_with_len, length-append, sum_by-cons, Turn, Frame, frame_bytes, tail_bytes, Puts, PutsPart}
 use Rattle.wf_turn.proofs.Common.{puts_both, stops_late, Line, PlainScript, first_client, frames_after, replay, PlaysTurns, StopsTurns}
 use Rattle.wf_turn.proofs.Common.{with_frames, Program, lines_from, place_of, program, all_left, left, line_quota, lines_left, most_turns}
-use Rattle.wf_turn.proofs.Common.{quota, quota_of, IsRun, PlaysFilm, Show, FilmForm, IsTrue, opening_show}
+use Rattle.wf_turn.proofs.Common.{quota, quota_of, IsRun, PlaysFilm, Show, FilmForm, opening_show}
 use Rattle.std.proofs.Common.{Err, Result}
 use Rattle.std.specs.List.{list_all}
 use Rattle.wf_film.specs.declared.form.FilmForm.TheVariants as forms

@@ -1,5 +1,5 @@
 -- Turns are numbered by their places in the order, and a frame has the place of the turn that began it.
-use Rattle.wf_turn.proofs.Common.{◌≡◌, ◌∙◌, ℕ, zero, suc, ◌+◌, List, [], ◌∷◌, ◌++◌, length, Option, Some, None, refl, sym, ap, subst, arith}
+use Rattle.wf_turn.proofs.Common.{◌≡◌, ◌∙◌, ◌+◌, List, [], ◌∷◌, ◌++◌, length, Option, Some, None, refl, sym, ap, subst, arith}
 use Rattle.wf_turn.proofs.Common.{All, slice_get, IsSomeAnd, unwrap_or, Turn, Frame, PlainScript, frames_after, is_marked, replay}
 use Rattle.wf_turn.proofs.Common.{replay_from}
 use Rattle.wf_turn.proofs.Common.{IsOfMoment, Show, opening_show, turn}

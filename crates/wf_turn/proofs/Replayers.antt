@@ -1,20 +1,18 @@
 -- A replayer, and the turns that entries tell: of whichever client, and in whichever order.
 use Rattle.wf_turn.proofs.Common.{◌≡◌, ◌∙◌, ℕ, zero, suc, ◌+◌, ◌-◌, ◌<◌, ◌≤◌, Bool, true, false, not, cond, ◌&&◌, ◌==◌, List, [], ◌∷◌, ◌++◌}
-use Rattle.wf_turn.proofs.Common.{map, length, get_or, set, Option, Some, None, Ok, refl, sym, ap, subst, arith, slice_get, and_parts}
+use Rattle.wf_turn.proofs.Common.{length, get_or, set, Option, Some, None, Ok, refl, sym, ap, subst, arith, slice_get, and_parts}
 use Rattle.wf_turn.proofs.Common.{ltb-true}
-use Rattle.wf_turn.proofs.Common.{All, All-cons, All-nil, IsTrue, IfSome, IsSome, IsSomeAnd, nat_lt, get_set, length-map, Turn, Frame}
-use Rattle.wf_turn.proofs.Common.{entry}
+use Rattle.wf_turn.proofs.Common.{All, All-cons, All-nil, IfSome, IsSomeAnd, nat_lt, get_set, Turn, Frame}
 use Rattle.wf_turn.proofs.Common.{IsPaintable, Reply, is_running, State, step, PlainScript, Wanted, is_marked, replay_turn, same_turn}
 use Rattle.wf_turn.proofs.Common.{with_frames}
-use Rattle.wf_turn.proofs.Common.{frames_if, frames_of, shown_by, Program, in_setup, next, place_of, taught, took, worked, AreOf, IsFit}
+use Rattle.wf_turn.proofs.Common.{frames_of, shown_by, Program, next, took, worked, AreOf, IsFit}
 use Rattle.wf_turn.proofs.Common.{Show}
-use Rattle.wf_turn.proofs.Common.{answered, all_taught, inherited, is_setting_up, opening_show, program_at, turn, may_declare}
+use Rattle.wf_turn.proofs.Common.{answered, inherited, is_setting_up, opening_show, program_at, turn, may_declare}
 use Rattle.std.proofs.Common.{Err}
 use Rattle.std.specs.Prelude.{IfOk, MatchOption, Result}
 use Rattle.std.proofs.lemmas.Bool.{ltb-false}
 use Rattle.wf_words.specs.Places.{length_map}
-use Rattle.wf_turn.specs.Playing.{HoldsPaintable}
-use Rattle.wf_turn.specs.Replayed.{EntersTo, IsNoTurn, IsRetaken, IsStuckAt, IsReplayer, Retakes, RetakesAt, entry_taken, wanted_now}
+use Rattle.wf_turn.specs.Replayed.{IsNoTurn, IsRetaken, IsStuckAt, IsReplayer, Retakes, RetakesAt, wanted_now}
 use Rattle.wf_turn.proofs.Programs.{are_inherited, are_set, at_client, inherited_get, inherited_same, other_is, other_set, shown_inherited}
 use Rattle.wf_turn.proofs.Fitting.{fit_took}
 use Rattle.wf_turn.proofs.Keeping.{same_client, same_script}

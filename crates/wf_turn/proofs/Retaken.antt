@@ -1,8 +1,8 @@
 -- One turn of a program that is played again, whoever's turn it is.
-use Rattle.wf_turn.proofs.Common.{◌≡◌, ◌∙◌, ℕ, Bool, true, false, not, ◌&&◌, ◌==◌, List, [], ◌∷◌, Option, Some, None, refl, sym, ap, subst}
-use Rattle.wf_turn.proofs.Common.{arith, nat_tests, Call, IsPaintable, IsTrue, IfSome, IsSomeAnd, Turn, Reply, entry, is_begin}
+use Rattle.wf_turn.proofs.Common.{◌≡◌, ◌∙◌, ℕ, Bool, true, false, not, ◌&&◌, ◌==◌, Some, None, refl, sym, ap, subst}
+use Rattle.wf_turn.proofs.Common.{arith, nat_tests, Call, IsPaintable, IsSomeAnd, Turn, Reply, is_begin}
 use Rattle.wf_turn.proofs.Common.{is_out_of_memory, is_running, State, step, Wanted}
-use Rattle.wf_turn.proofs.Common.{Answers, frames_if, frames_of, Program, issued, is_work, next, took, worked, IsFit, IsWork}
+use Rattle.wf_turn.proofs.Common.{Answers, frames_if, Program, issued, is_work, next, took, worked, IsFit, IsWork}
 use Rattle.wf_calls.specs.Codes.{code_number}
 use Rattle.wf_machine.specs.Object.{is_ready}
 use Rattle.wf_turn.specs.Replayed.{MarkedAnswers, Retakes, wanted_now}

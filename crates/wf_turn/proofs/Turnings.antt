@@ -2,7 +2,7 @@
 use Rattle.wf_turn.proofs.Common.{◌≡◌, ◌∙◌, ℕ, Bool, true, false, ◌==◌, ◌&&◌, List, [], ◌∷◌, Option, Some, None, refl, sym, ap, subst}
 use Rattle.wf_turn.proofs.Common.{IsTrue, is_some, IfSome, IsSome, IsSomeAnd, drawn, Job, Turn, Reply, Code, entry, is_out_of_memory}
 use Rattle.wf_turn.proofs.Common.{IsPaintable, is_running, Running, State, step, Line, Wanted, is_marked, Answers, Ends, TakesTurn}
-use Rattle.wf_turn.proofs.Common.{frames_if, Program, first_line, issued, is_work, next, painted_job, place_of, took, worked, IsFit, IsWork}
+use Rattle.wf_turn.proofs.Common.{frames_if, Program, first_line, is_work, next, painted_job, place_of, took, worked, IsFit, IsWork}
 use Rattle.wf_turn.proofs.Common.{frames_of}
 use Rattle.wf_calls.specs.declared.code.Code.TheVariants as code
 use Rattle.wf_calls.specs.Codes.{code_number}

@@ -22,7 +22,7 @@ use Rattle.wf_turn.specs.declared.replaying.ReplayStop.TheVariants as stop
 use Rattle.wf_turn.specs.declared.stage.Wanted.{Wanted}
 use Rattle.wf_turn.specs.declared.replayer.Replayer.TheInside.{Inside}
 use Rattle.wf_turn.specs.Program.{Program, next, took, worked}
-use Rattle.wf_turn.specs.Ready.{AreOf, IsFit}
+use Rattle.wf_turn.specs.Ready.{AreOf}
 use Rattle.wf_turn.specs.Turns.{Show, frames_of, turn}
 use Rattle.wf_turn.specs.Play.{IsComplete, IsLegal, film, is_marked, over_after, replay, replay_from, replay_turn}
 use Rattle.wf_turn.specs.Playing.{HoldsPaintable, frames_if, shown_by, with_frames}

@@ -1,5 +1,4 @@
 use Rattle.wf_turn.proofs.Common.{◌∙◌, ◌+◌, ap, arith, refl}
-use Rattle.wf_turn.specs.Replayed.{PlaysEntry}
 use Rattle.wf_turn.proofs.Entries.{none_entered, none_played, one_entered}
 use Rattle.wf_turn.proofs.replaying.play_entries.Goals as goal
 

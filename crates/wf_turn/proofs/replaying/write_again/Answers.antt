@@ -1,1 +1,0 @@
-use Rattle.wf_turn.proofs.replaying.write_again.Goals as goal

@@ -1,6 +1,6 @@
 use Rattle.wf_turn.proofs.Common.{◌≡◌, ◌∙◌, Some, sym, next}
 use Rattle.wf_turn.specs.Calls.{put_some}
-use Rattle.wf_turn.proofs.Retaken.{issued_again, through_now, waits_is, waits_now}
+use Rattle.wf_turn.proofs.Retaken.{issued_again, waits_is, waits_now}
 use Rattle.wf_turn.proofs.retaking.retake_denied.Goals as goal
 
 pub returns-then-waits : goal.returns-then-waits

@@ -1,5 +1,4 @@
-use Rattle.wf_turn.proofs.Common.{◌≡◌, ◌∙◌, sym, refl, false, IsSome, next}
-use Rattle.wf_turn.specs.Asked.{is_stuck}
+use Rattle.wf_turn.proofs.Common.{◌∙◌, sym, refl, false}
 use Rattle.wf_turn.proofs.Asked.{asked_answers, begins_asked, ends_asked, free_now, not_nothing, some_next, stuck_now, wanted_of}
 use Rattle.wf_turn.proofs.Retaken.{unmarked_answers}
 use Rattle.wf_turn.proofs.retaking.retake_plain.Goals as goal

@@ -1,4 +1,4 @@
-use Rattle.wf_turn.proofs.Common.{◌≡◌, ◌∙◌, true, Program, sym, ap, subst, took, with_job}
+use Rattle.wf_turn.proofs.Common.{◌≡◌, ◌∙◌, true, sym, ap, subst, took, with_job}
 use Rattle.wf_turn.specs.Asked.{takes_job}
 use Rattle.wf_turn.specs.Inside.{program_of}
 use Rattle.wf_turn.proofs.Asked.{step_answers, took_begun}

@@ -1,4 +1,4 @@
-use Rattle.wf_turn.proofs.Common.{◌≡◌, ◌∙◌, true, sym, bare, is_begin}
+use Rattle.wf_turn.proofs.Common.{◌≡◌, ◌∙◌, sym, bare}
 use Rattle.wf_turn.proofs.turning.take_called.Goals as goal
 
 pub returns-in-Some : goal.returns-in-Some

@@ -1,4 +1,4 @@
-use Rattle.wf_turn.proofs.Common.{◌≡◌, ◌∙◌, true, Program, sym, ap, subst, took, with_job, IfSome, IsStep}
+use Rattle.wf_turn.proofs.Common.{◌≡◌, ◌∙◌, true, sym, ap, subst, took, with_job, IfSome, IsStep}
 use Rattle.wf_calls.specs.declared.call.Call.TheVariants as call
 use Rattle.wf_turn.specs.Asked.{is_ending}
 use Rattle.wf_turn.specs.Inside.{program_of}

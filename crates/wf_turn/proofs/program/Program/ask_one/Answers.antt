@@ -1,4 +1,4 @@
-use Rattle.wf_turn.proofs.Common.{ap, option_map, sym, ◌∙◌, handle, plain, plain_call}
+use Rattle.wf_turn.proofs.Common.{handle}
 use Rattle.wf_turn.specs.Calls.{put_some}
 use Rattle.wf_turn.proofs.Asked.{one_carries}
 use Rattle.wf_turn.proofs.program.Program.ask_one.Goals as goal
