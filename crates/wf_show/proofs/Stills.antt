@@ -6,7 +6,8 @@ use Rattle.wf_turn.proofs.Common.{Reply, Line}
 use Rattle.wf_turn.proofs.Common.{Verb, PlainScript, State, by_begin, is_ok_code, step}
 use Rattle.wf_turn.proofs.Common.{is_out_of_memory, bound_name, Program, before, bound, given_canvas, line_done, lines_from}
 use Rattle.wf_turn.proofs.Common.{next}
-use Rattle.wf_turn.proofs.Common.{painted_job, program, took, took_at, took_first, took_frame, took_job, unheld, wanted_at, worked, frames_of}
+use Rattle.wf_turn.proofs.Common.{painted_job, program, took, took_at, took_first, took_frame, took_job, wanted_at, worked, frames_of}
+use Rattle.wf_turn.proofs.Common.{unheld}
 use Rattle.wf_turn.proofs.Common.{SamePayload}
 use Rattle.wf_turn.proofs.Common.{act, first_call, go_on, plain, waiting, handle, job_of, shown, took_canvas, eqb-true}
 use Rattle.wf_turn.specs.declared.stage.Stage.{Stage}

@@ -44,9 +44,11 @@ one_carries handle v c is =
 -- a program whose next call begins a frame
 module _ (p : Program) (w : Wanted) (begins : is_begin w.call ≡ true) where
   not_it : {A : Type 0} (x : Wanted) → Some x ≡ Some w → is_begin x.call ≡ false → A
-  not_it x is none = absurd (let same : x ≡ w = cc in let no : true ≡ false = sym begins ∙ ap (λ y. is_begin y.call) (sym same) ∙ none in cc)
+  not_it x is none =
+      absurd (let same : x ≡ w = cc in let no : true ≡ false = sym begins ∙ ap (λ y. is_begin y.call) (sym same) ∙ none in cc)
 
-  not_held : {A X : Type 0} (o : Option X) (f : X → Call) → ((x : X) → is_begin (f x) ≡ false) → option_map (λ x. plain (f x)) o ≡ Some w → A
+  not_held : {A X : Type 0} (o : Option X) (f : X → Call) → ((x : X) → is_begin (f x) ≡ false)
+      → option_map (λ x. plain (f x)) o ≡ Some w → A
   not_held None f none is = absurd cc
   not_held (Some x) f none is = not_it (plain (f x)) is (none x)
 

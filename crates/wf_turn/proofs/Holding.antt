@@ -43,8 +43,8 @@ module _ (Q : Option Job → Bool → Type 0) where
   frame_holds p paint (Some canvas) holds = holds
 
   -- a Job that comes is held, and is not painted yet
-  job_holds : (p : Program) (given : Payload) (l : Option Phase) → Q None false → ((job : Job) → given ≡ payload.Job job → Q (Some job) true)
-      → Holds (took_job p given l)
+  job_holds : (p : Program) (given : Payload) (l : Option Phase) → Q None false
+      → ((job : Job) → given ≡ payload.Job job → Q (Some job) true) → Holds (took_job p given l)
   job_holds p (payload.Job job) l none comes = comes job refl
   job_holds p payload.Nothing l none comes = on_holds (unheld p) l none
   job_holds p (payload.Canvas canvas) l none comes = on_holds (unheld p) l none

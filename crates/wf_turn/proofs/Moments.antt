@@ -91,7 +91,8 @@ module _ (show : Show) (client : ℕ) (m : Bool) (p : Program) (stands : program
     at_question w begins tick s next_of at asks =
         let q = record p { tick = tick; stage = s } in
         by_begin (λ x. AreBegun (entry client x.1) (frames_of show.turns (took_job q x.1.payload (next_of x.1.value)))) h w.call m begins
-        (λ register code a. none_begun (entry client (bare a)) (go_on (unheld q) (next_of a.value)) (on_painted (unheld q) refl (next_of a.value)))
+        (λ register code a. none_begun (entry client (bare a)) (go_on (unheld q) (next_of a.value))
+        (on_painted (unheld q) refl (next_of a.value)))
         (begun w.call w.wait tick at asks begins)
 
     pub turn_told : (w : Wanted) → next p ≡ Some w → Told w (took p)

@@ -17,5 +17,6 @@ returns-then-not-is_ok-clause-left c =
 pub returns-then-not-is_ok-clause-answer : goal.returns-then-not-is_ok-clause-answer
 returns-then-not-is_ok-clause-answer c =
     let a = c.args in
-    subst (λ x. IsAnswer x (with_job c.compose-answer.result c.compose-answer.new.job)) (same_answer a.device a.self.now (begin_composed a.device a.context a.self.now))
+    subst (λ x. IsAnswer x (with_job c.compose-answer.result c.compose-answer.new.job))
+    (same_answer a.device a.self.now (begin_composed a.device a.context a.self.now))
     c.compose-answer.ensures.answer

@@ -36,4 +36,5 @@ returns-clause-left c = c.begin_context.ensures.left ∙ ap (λ r. (started no_r
 
 pub returns-clause-answer : goal.returns-clause-answer
 returns-clause-answer c =
-    subst (λ r. IsAnswer (started no_register c.args.self.now r).1 (with_job c.begin_context.result c.begin_context.new.job)) (sym (begun c)) c.begin_context.ensures.answer
+    subst (λ r. IsAnswer (started no_register c.args.self.now r).1 (with_job c.begin_context.result c.begin_context.new.job))
+    (sym (begun c)) c.begin_context.ensures.answer
