@@ -7,6 +7,7 @@ ghost use Rattle.wf_turn.specs.Asked.{asked, begins_frame, handed, is_ending, ta
 ghost use Rattle.wf_turn.specs.Calls.{IsPut, plain_call};
 ghost use Rattle.wf_turn.specs.Program.{asked_for, first_call, handle, issued, kept_first, next, plain};
 
+use crate::calls::put;
 use crate::program::Program;
 use crate::stage::{Asks, Phase, Stage, Wanted};
 use wf_calls::Call;
@@ -19,8 +20,7 @@ fn ask(place: &mut Wanted, call: Call) -> bool
     ensures put { place.new ≡ plain call }
 {
     place.wait = false;
-    place.call = call;
-    true
+    put(&mut place.call, call)
 }
 
 /// Asks for what a tick asks for.
@@ -31,9 +31,9 @@ fn ask_phase(place: &mut Wanted, phase: Phase) -> Asks
 {
     place.wait = true;
     match phase {
-        Phase::Contexts { last, .. } => place.call = Call::BeginNext { after: last },
-        Phase::Ports { port } => place.call = Call::BeginPort { port: port.into() },
-    }
+        Phase::Contexts { last, .. } => put(&mut place.call, Call::BeginNext { after: last }),
+        Phase::Ports { port } => put(&mut place.call, Call::BeginPort { port: port.into() }),
+    };
     Asks::Call
 }
 
@@ -75,10 +75,13 @@ impl<'a> Program<'a> {
             ≡ record { call = Call.BeginContext (handle self.now device.now) (handle self.now context.now); wait = wait } }
     {
         wanted.wait = wait;
-        wanted.call = Call::BeginContext {
-            device: self.handle(device),
-            context: self.handle(context),
-        };
+        put(
+            &mut wanted.call,
+            Call::BeginContext {
+                device: self.handle(device),
+                context: self.handle(context),
+            },
+        );
         Asks::Call
     }
 

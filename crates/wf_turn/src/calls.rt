@@ -8,6 +8,16 @@ use crate::program::Program;
 use wf_calls::Call;
 use wf_script::{Value, Verb};
 
+/// Puts a call where another one stood.
+#[inline(always)]
+pub(crate) fn put(place: &mut Call, call: Call) -> bool
+    ensures given { result ≡ true }
+    ensures put { place.new ≡ call }
+{
+    *place = call;
+    true
+}
+
 impl<'a> Program<'a> {
     /// What an attribute is set to: four numbers, of which a handle is the first.
     fn set_to(&self, value: &'a Value) -> [i64; 4]
@@ -24,93 +34,81 @@ impl<'a> Program<'a> {
         ensures { IsPut (display_line (handle self.now) verb.now) call.new result }
     {
         match verb {
-            Verb::PortSet { port, attr, value } => {
-                *call = Call::PortSet {
+            Verb::PortSet { port, attr, value } => put(
+                call,
+                Call::PortSet {
                     port: *port,
                     attr: *attr,
                     value: self.set_to(value),
-                };
-                true
-            }
-            Verb::PortGet { port, attr, index } => {
-                *call = Call::PortGet {
+                },
+            ),
+            Verb::PortGet { port, attr, index } => put(
+                call,
+                Call::PortGet {
                     port: *port,
                     attr: *attr,
                     index: *index,
-                };
-                true
-            }
-            Verb::Attach { port, on } => {
-                *call = Call::Attach {
+                },
+            ),
+            Verb::Attach { port, on } => put(
+                call,
+                Call::Attach {
                     port: *port,
                     on: *on,
-                };
-                true
-            }
-            Verb::PipeSet { pipe, attr, value } => {
-                *call = Call::PipeSet {
+                },
+            ),
+            Verb::PipeSet { pipe, attr, value } => put(
+                call,
+                Call::PipeSet {
                     pipe: *pipe,
                     attr: *attr,
                     value: self.set_to(value),
-                };
-                true
-            }
-            Verb::PipeGet { pipe, attr, index } => {
-                *call = Call::PipeGet {
+                },
+            ),
+            Verb::PipeGet { pipe, attr, index } => put(
+                call,
+                Call::PipeGet {
                     pipe: *pipe,
                     attr: *attr,
                     index: *index,
-                };
-                true
-            }
-            Verb::PipeBindPort { pipe, port } => {
-                *call = Call::PipeBindPort {
+                },
+            ),
+            Verb::PipeBindPort { pipe, port } => put(
+                call,
+                Call::PipeBindPort {
                     pipe: *pipe,
                     port: *port,
-                };
-                true
-            }
-            Verb::DisplaySource { pipe, stream } => {
-                *call = Call::DisplaySource {
+                },
+            ),
+            Verb::DisplaySource { pipe, stream } => put(
+                call,
+                Call::DisplaySource {
                     pipe: *pipe,
                     stream: self.handle(stream),
-                };
-                true
-            }
-            Verb::DisplaySourceDestroy { source } => {
-                *call = Call::DisplaySourceDestroy {
+                },
+            ),
+            Verb::DisplaySourceDestroy { source } => put(
+                call,
+                Call::DisplaySourceDestroy {
                     source: self.handle(source),
-                };
-                true
-            }
+                },
+            ),
             Verb::PipeBindSource {
                 pipe,
                 source,
                 transition,
-            } => {
-                *call = Call::PipeBindSource {
+            } => put(
+                call,
+                Call::PipeBindSource {
                     pipe: *pipe,
                     source: self.handle(source),
                     transition: *transition,
-                };
-                true
-            }
-            Verb::CommitDevice => {
-                *call = Call::CommitDevice;
-                true
-            }
-            Verb::CommitPort { port } => {
-                *call = Call::CommitPort { port: *port };
-                true
-            }
-            Verb::CommitPipe { pipe } => {
-                *call = Call::CommitPipe { pipe: *pipe };
-                true
-            }
-            Verb::DisplayError => {
-                *call = Call::DisplayError;
-                true
-            }
+                },
+            ),
+            Verb::CommitDevice => put(call, Call::CommitDevice),
+            Verb::CommitPort { port } => put(call, Call::CommitPort { port: *port }),
+            Verb::CommitPipe { pipe } => put(call, Call::CommitPipe { pipe: *pipe }),
+            Verb::DisplayError => put(call, Call::DisplayError),
             _ => false,
         }
     }
@@ -124,40 +122,40 @@ impl<'a> Program<'a> {
                 device,
                 context,
                 stream,
-            } => {
-                *call = Call::SourceNew {
+            } => put(
+                call,
+                Call::SourceNew {
                     device: self.handle(device),
                     context: self.handle(context),
                     stream: self.handle(stream),
-                };
-                true
-            }
-            Verb::SourceDestroy { device, source } => {
-                *call = Call::SourceDestroy {
+                },
+            ),
+            Verb::SourceDestroy { device, source } => put(
+                call,
+                Call::SourceDestroy {
                     device: self.handle(device),
                     source: self.handle(source),
-                };
-                true
-            }
+                },
+            ),
             Verb::MaskNew {
                 device,
                 context,
                 stream,
-            } => {
-                *call = Call::MaskNew {
+            } => put(
+                call,
+                Call::MaskNew {
                     device: self.handle(device),
                     context: self.handle(context),
                     stream: self.handle(stream),
-                };
-                true
-            }
-            Verb::MaskDestroy { device, mask } => {
-                *call = Call::MaskDestroy {
+                },
+            ),
+            Verb::MaskDestroy { device, mask } => put(
+                call,
+                Call::MaskDestroy {
                     device: self.handle(device),
                     mask: self.handle(mask),
-                };
-                true
-            }
+                },
+            ),
             _ => self.display_line(verb, call),
         }
     }
@@ -167,81 +165,81 @@ impl<'a> Program<'a> {
         ensures { IsPut (element_call (handle self.now) verb.now) call.new result }
     {
         match verb {
-            Verb::ElementNew { device, context } => {
-                *call = Call::ElementNew {
+            Verb::ElementNew { device, context } => put(
+                call,
+                Call::ElementNew {
                     device: self.handle(device),
                     context: self.handle(context),
-                };
-                true
-            }
+                },
+            ),
             Verb::ElementSet {
                 device,
                 element,
                 attr,
                 value,
-            } => {
-                *call = Call::ElementSet {
+            } => put(
+                call,
+                Call::ElementSet {
                     device: self.handle(device),
                     element: self.handle(element),
                     attr: *attr,
                     value: self.set_to(value),
-                };
-                true
-            }
+                },
+            ),
             Verb::ElementGet {
                 device,
                 element,
                 attr,
                 index,
-            } => {
-                *call = Call::ElementGet {
+            } => put(
+                call,
+                Call::ElementGet {
                     device: self.handle(device),
                     element: self.handle(element),
                     attr: *attr,
                     index: *index,
-                };
-                true
-            }
+                },
+            ),
             Verb::ElementInsert {
                 device,
                 element,
                 below,
-            } => {
-                *call = Call::ElementInsert {
+            } => put(
+                call,
+                Call::ElementInsert {
                     device: self.handle(device),
                     element: self.handle(element),
                     below: self.handle(below),
-                };
-                true
-            }
-            Verb::ElementRemove { device, element } => {
-                *call = Call::ElementRemove {
+                },
+            ),
+            Verb::ElementRemove { device, element } => put(
+                call,
+                Call::ElementRemove {
                     device: self.handle(device),
                     element: self.handle(element),
-                };
-                true
-            }
-            Verb::ElementAbove { device, element } => {
-                *call = Call::ElementAbove {
+                },
+            ),
+            Verb::ElementAbove { device, element } => put(
+                call,
+                Call::ElementAbove {
                     device: self.handle(device),
                     element: self.handle(element),
-                };
-                true
-            }
-            Verb::ElementBelow { device, element } => {
-                *call = Call::ElementBelow {
+                },
+            ),
+            Verb::ElementBelow { device, element } => put(
+                call,
+                Call::ElementBelow {
                     device: self.handle(device),
                     element: self.handle(element),
-                };
-                true
-            }
-            Verb::ElementDestroy { device, element } => {
-                *call = Call::ElementDestroy {
+                },
+            ),
+            Verb::ElementDestroy { device, element } => put(
+                call,
+                Call::ElementDestroy {
                     device: self.handle(device),
                     element: self.handle(element),
-                };
-                true
-            }
+                },
+            ),
             _ => self.source_call(verb, call),
         }
     }
@@ -251,76 +249,76 @@ impl<'a> Program<'a> {
         ensures { IsPut (context_call (handle self.now) verb.now) call.new result }
     {
         match verb {
-            Verb::ScreenContext { device, port } => {
-                *call = Call::ScreenContext {
+            Verb::ScreenContext { device, port } => put(
+                call,
+                Call::ScreenContext {
                     device: self.handle(device),
                     port: *port,
-                };
-                true
-            }
-            Verb::StreamContext { device, stream } => {
-                *call = Call::StreamContext {
+                },
+            ),
+            Verb::StreamContext { device, stream } => put(
+                call,
+                Call::StreamContext {
                     device: self.handle(device),
                     stream: self.handle(stream),
-                };
-                true
-            }
+                },
+            ),
             Verb::ContextSet {
                 device,
                 context,
                 attr,
                 value,
-            } => {
-                *call = Call::ContextSet {
+            } => put(
+                call,
+                Call::ContextSet {
                     device: self.handle(device),
                     context: self.handle(context),
                     attr: *attr,
                     value: self.set_to(value),
-                };
-                true
-            }
+                },
+            ),
             Verb::ContextGet {
                 device,
                 context,
                 attr,
                 index,
-            } => {
-                *call = Call::ContextGet {
+            } => put(
+                call,
+                Call::ContextGet {
                     device: self.handle(device),
                     context: self.handle(context),
                     attr: *attr,
                     index: *index,
-                };
-                true
-            }
-            Verb::Commit { device, context } => {
-                *call = Call::Commit {
+                },
+            ),
+            Verb::Commit { device, context } => put(
+                call,
+                Call::Commit {
                     device: self.handle(device),
                     context: self.handle(context),
-                };
-                true
-            }
-            Verb::Activate { device, context } => {
-                *call = Call::Activate {
+                },
+            ),
+            Verb::Activate { device, context } => put(
+                call,
+                Call::Activate {
                     device: self.handle(device),
                     context: self.handle(context),
-                };
-                true
-            }
-            Verb::Deactivate { device, context } => {
-                *call = Call::Deactivate {
+                },
+            ),
+            Verb::Deactivate { device, context } => put(
+                call,
+                Call::Deactivate {
                     device: self.handle(device),
                     context: self.handle(context),
-                };
-                true
-            }
-            Verb::ContextDestroy { device, context } => {
-                *call = Call::ContextDestroy {
+                },
+            ),
+            Verb::ContextDestroy { device, context } => put(
+                call,
+                Call::ContextDestroy {
                     device: self.handle(device),
                     context: self.handle(context),
-                };
-                true
-            }
+                },
+            ),
             _ => self.element_call(verb, call),
         }
     }
@@ -335,41 +333,35 @@ impl<'a> Program<'a> {
                 height,
                 format,
                 buffers,
-            } => {
-                *call = Call::StreamNew {
+            } => put(
+                call,
+                Call::StreamNew {
                     width: *width,
                     height: *height,
                     format: *format,
                     buffers: *buffers,
-                };
-                true
-            }
-            Verb::StreamDestroy { stream } => {
-                *call = Call::StreamDestroy {
+                },
+            ),
+            Verb::StreamDestroy { stream } => put(
+                call,
+                Call::StreamDestroy {
                     stream: self.handle(stream),
-                };
-                true
-            }
-            Verb::Stat { what } => {
-                *call = Call::Stat { what: *what };
-                true
-            }
-            Verb::DeviceNew => {
-                *call = Call::DeviceNew;
-                true
-            }
-            Verb::DeviceDestroy { device } => {
-                *call = Call::DeviceDestroy {
+                },
+            ),
+            Verb::Stat { what } => put(call, Call::Stat { what: *what }),
+            Verb::DeviceNew => put(call, Call::DeviceNew),
+            Verb::DeviceDestroy { device } => put(
+                call,
+                Call::DeviceDestroy {
                     device: self.handle(device),
-                };
-                true
-            }
-            Verb::GetError { device } => {
-                *call = Call::GetError {
+                },
+            ),
+            Verb::GetError { device } => put(
+                call,
+                Call::GetError {
                     device: self.handle(device),
-                };
-                true
-            }
+                },
+            ),
             _ => self.context_call(verb, call),
         }
     }
