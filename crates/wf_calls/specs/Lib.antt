@@ -1,7 +1,8 @@
--- The numbers of the codes, answers and replies, who answers a call, which calls make an object, and which ports may be
+-- The numbers of the codes, answers and replies, who answers a call, which calls make an object, which bring nothing, and which ports may be
 -- declared.
 pub mod Codes
 pub mod Replies
 pub mod Parts
 pub mod Creations
 pub mod PortRules
+pub mod Requests

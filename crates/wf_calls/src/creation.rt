@@ -2,24 +2,25 @@
 
 ghost use Rattle.std.specs.Prelude.{◌≡◌};
 ghost use Rattle.wf_calls.specs.Creations.{is_creation};
+ghost use Rattle.wf_calls.specs.Requests.{call_of};
 
-use crate::call::Call;
+use crate::request::Request;
 
-impl Call {
+impl Request {
     /// Whether this call makes an object, whose handle it answers. No other call takes memory.
     pub fn is_creation(&self) -> bool
-        ensures { result ≡ is_creation self.now }
+        ensures { result ≡ is_creation (call_of self.now) }
     {
         matches!(
             self,
-            Call::StreamNew { .. }
-                | Call::DeviceNew
-                | Call::ScreenContext { .. }
-                | Call::StreamContext { .. }
-                | Call::ElementNew { .. }
-                | Call::SourceNew { .. }
-                | Call::MaskNew { .. }
-                | Call::DisplaySource { .. }
+            Request::StreamNew { .. }
+                | Request::DeviceNew
+                | Request::ScreenContext { .. }
+                | Request::StreamContext { .. }
+                | Request::ElementNew { .. }
+                | Request::SourceNew { .. }
+                | Request::MaskNew { .. }
+                | Request::DisplaySource { .. }
         )
     }
 }

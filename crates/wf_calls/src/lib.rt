@@ -9,6 +9,7 @@ mod order;
 mod part;
 mod ports;
 mod reply;
+mod request;
 
 pub use call::{Call, Job, JobKind, StatWord};
 pub use code::Code;
@@ -17,3 +18,4 @@ pub use order::{Order, Turn};
 pub use part::Part;
 pub use ports::{Modes, Ports};
 pub use reply::{Answer, Payload, Refusal, Reply};
+pub use request::Request;

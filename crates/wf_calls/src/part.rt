@@ -2,8 +2,10 @@
 
 ghost use Rattle.std.specs.Prelude.{◌≡◌};
 ghost use Rattle.wf_calls.specs.Parts.{device_of, is_begin, part_of};
+ghost use Rattle.wf_calls.specs.Requests.{call_of};
 
 use crate::call::Call;
+use crate::request::Request;
 
 /// Who answers a call.
 #[derive(Clone, Copy, Debug, PartialEq, Eq)]
@@ -22,63 +24,62 @@ pub enum Part {
     End,
 }
 
-impl Call {
+impl Request {
     /// Who answers this call.
     pub fn part(&self) -> Part
-        ensures { result ≡ part_of self.now }
+        ensures { result ≡ part_of (call_of self.now) }
     {
         match self {
-            Call::StreamNew { .. } | Call::StreamDestroy { .. } | Call::Stat { .. } => {
+            Request::StreamNew { .. } | Request::StreamDestroy { .. } | Request::Stat { .. } => {
                 Part::Streams
             }
-            Call::Acquire { .. } | Call::Post(_) | Call::Discard(_) => Part::Buffers,
-            Call::DeviceNew => Part::Composition { device: 0 },
-            Call::DeviceDestroy { device }
-            | Call::GetError { device }
-            | Call::ScreenContext { device, .. }
-            | Call::StreamContext { device, .. }
-            | Call::ContextDestroy { device, .. }
-            | Call::ElementNew { device, .. }
-            | Call::ElementDestroy { device, .. }
-            | Call::SourceNew { device, .. }
-            | Call::SourceDestroy { device, .. }
-            | Call::MaskNew { device, .. }
-            | Call::MaskDestroy { device, .. }
-            | Call::ElementSet { device, .. }
-            | Call::ElementGet { device, .. }
-            | Call::ElementInsert { device, .. }
-            | Call::ElementRemove { device, .. }
-            | Call::ElementAbove { device, .. }
-            | Call::ElementBelow { device, .. }
-            | Call::ContextSet { device, .. }
-            | Call::ContextGet { device, .. }
-            | Call::Commit { device, .. }
-            | Call::Activate { device, .. }
-            | Call::Deactivate { device, .. } => Part::Composition { device: *device },
-            Call::PortSet { .. }
-            | Call::PortGet { .. }
-            | Call::Attach { .. }
-            | Call::PipeSet { .. }
-            | Call::PipeGet { .. }
-            | Call::PipeBindPort { .. }
-            | Call::DisplaySource { .. }
-            | Call::DisplaySourceDestroy { .. }
-            | Call::PipeBindSource { .. }
-            | Call::CommitDevice
-            | Call::CommitPort { .. }
-            | Call::CommitPipe { .. }
-            | Call::DisplayError => Part::Display,
-            Call::BeginNext { .. } | Call::BeginPort { .. } => Part::Begin { device: None },
-            Call::BeginContext { device, .. } => Part::Begin {
+            Request::Acquire { .. } => Part::Buffers,
+            Request::DeviceNew => Part::Composition { device: 0 },
+            Request::DeviceDestroy { device }
+            | Request::GetError { device }
+            | Request::ScreenContext { device, .. }
+            | Request::StreamContext { device, .. }
+            | Request::ContextDestroy { device, .. }
+            | Request::ElementNew { device, .. }
+            | Request::ElementDestroy { device, .. }
+            | Request::SourceNew { device, .. }
+            | Request::SourceDestroy { device, .. }
+            | Request::MaskNew { device, .. }
+            | Request::MaskDestroy { device, .. }
+            | Request::ElementSet { device, .. }
+            | Request::ElementGet { device, .. }
+            | Request::ElementInsert { device, .. }
+            | Request::ElementRemove { device, .. }
+            | Request::ElementAbove { device, .. }
+            | Request::ElementBelow { device, .. }
+            | Request::ContextSet { device, .. }
+            | Request::ContextGet { device, .. }
+            | Request::Commit { device, .. }
+            | Request::Activate { device, .. }
+            | Request::Deactivate { device, .. } => Part::Composition { device: *device },
+            Request::PortSet { .. }
+            | Request::PortGet { .. }
+            | Request::Attach { .. }
+            | Request::PipeSet { .. }
+            | Request::PipeGet { .. }
+            | Request::PipeBindPort { .. }
+            | Request::DisplaySource { .. }
+            | Request::DisplaySourceDestroy { .. }
+            | Request::PipeBindSource { .. }
+            | Request::CommitDevice
+            | Request::CommitPort { .. }
+            | Request::CommitPipe { .. }
+            | Request::DisplayError => Part::Display,
+            Request::BeginNext { .. } | Request::BeginPort { .. } => Part::Begin { device: None },
+            Request::BeginContext { device, .. } => Part::Begin {
                 device: Some(*device),
             },
-            Call::End(_) => Part::End,
         }
     }
 
     /// The device that this call of composition names, or 0, which no device has.
     pub fn device(&self) -> u32
-        ensures { result ≡ device_of self.now }
+        ensures { result ≡ device_of (call_of self.now) }
     {
         match self.part() {
             Part::Composition { device } => device,
@@ -88,8 +89,20 @@ impl Call {
 
     /// Whether this call begins a frame.
     pub fn is_begin(&self) -> bool
-        ensures { result ≡ is_begin self.now }
+        ensures { result ≡ is_begin (call_of self.now) }
     {
         matches!(self.part(), Part::Begin { .. })
+    }
+}
+
+impl Call {
+    /// Whether this call begins a frame.
+    pub fn is_begin(&self) -> bool
+        ensures { result ≡ is_begin self.now }
+    {
+        matches!(
+            self,
+            Call::BeginNext { .. } | Call::BeginPort { .. } | Call::BeginContext { .. }
+        )
     }
 }

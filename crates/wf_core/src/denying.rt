@@ -4,6 +4,7 @@ ghost use Rattle.std.specs.Prelude.{IfSome, IsSome, IsTrue, pos, true};
 ghost use Rattle.wf_pixel.specs.Choice.{is_between};
 ghost use Rattle.wf_calls.specs.Creations.{is_creation};
 ghost use Rattle.wf_calls.specs.Parts.{device_of, is_of_core, part_of};
+ghost use Rattle.wf_calls.specs.Requests.{call_of};
 ghost use Rattle.wf_model.specs.Core.{core_call, element_new, screen_context, stream_context};
 ghost use Rattle.wf_model.specs.Fitting.{IsOfPixels};
 ghost use Rattle.wf_core.specs.Links.{link_new};
@@ -15,7 +16,7 @@ use crate::answers::reply;
 use crate::composition::Core;
 use crate::contexts::{screen_target, stream_target};
 use crate::sources::linked_stream;
-use wf_calls::{Call, Refusal, Reply};
+use wf_calls::{Refusal, Reply, Request};
 use wf_objects::Objects;
 use wf_stream::Store;
 
@@ -82,28 +83,28 @@ fn deny_link(
 }
 
 /// The refusal of a creation for which there is no memory.
-fn deny(objects: &Objects, store: &Store, call: &Call, screen: Option<u32>) -> Result<u32, Refusal>
+fn deny(objects: &Objects, store: &Store, call: &Request, screen: Option<u32>) -> Result<u32, Refusal>
     requires fits { Fits objects.now store.now }
-    requires creation { IsTrue (is_creation call.now) }
-    requires ours { IsTrue (is_of_core (part_of call.now)) }
-    requires given { IsGiven call.now screen store.now.streams }
-    ensures { Does (λ _. core_call screen true call.now) objects.now objects.now store.now store.now result }
+    requires creation { IsTrue (is_creation (call_of call.now)) }
+    requires ours { IsTrue (is_of_core (part_of (call_of call.now))) }
+    requires given { IsGiven (call_of call.now) screen store.now.streams }
+    ensures { Does (λ _. core_call screen true (call_of call.now)) objects.now objects.now store.now store.now result }
 {
     match call {
-        Call::DeviceNew => Err(objects.deny_device(store)),
-        Call::ScreenContext { device, port } => {
+        Request::DeviceNew => Err(objects.deny_device(store)),
+        Request::ScreenContext { device, port } => {
             deny_screen_context(objects, store, *device, *port, screen)
         }
-        Call::StreamContext { device, stream } => {
+        Request::StreamContext { device, stream } => {
             deny_stream_context(objects, store, *device, *stream)
         }
-        Call::ElementNew { device, context } => deny_element(objects, store, *device, *context),
-        Call::SourceNew {
+        Request::ElementNew { device, context } => deny_element(objects, store, *device, *context),
+        Request::SourceNew {
             device,
             context,
             stream,
         } => deny_link(objects, store, false, *device, *context, *stream),
-        Call::MaskNew {
+        Request::MaskNew {
             device,
             context,
             stream,
@@ -115,12 +116,13 @@ fn deny(objects: &Objects, store: &Store, call: &Call, screen: Option<u32>) -> R
 impl Core {
     /// Refuses a creation for which there is no memory: as the method of its name does, and where that would make the object,
     /// by OutOfMemory. Nothing is made, and the device's register takes the refusal where it is empty.
-    pub fn deny(&mut self, store: &Store, call: &Call, screen: Option<u32>) -> Reply
+    pub fn deny(&mut self, store: &Store, call: &Request, screen: Option<u32>) -> Reply
         requires fits { Fits self.old store.now }
-        requires creation { IsTrue (is_creation call.now) }
-        requires ours { IsTrue (is_of_core (part_of call.now)) }
-        requires given { IsGiven call.now screen store.now.streams }
-        ensures { Steps (device_of call.now) (λ _. core_call screen true call.now) KeepsAll self.old self.new store.now store.now result }
+        requires creation { IsTrue (is_creation (call_of call.now)) }
+        requires ours { IsTrue (is_of_core (part_of (call_of call.now))) }
+        requires given { IsGiven (call_of call.now) screen store.now.streams }
+        ensures { Steps (device_of (call_of call.now)) (λ _. core_call screen true (call_of call.now)) KeepsAll self.old self.new
+            store.now store.now result }
     {
         let denied = deny(&self.objects, store, call, screen);
         reply(&mut self.objects, store, call.device(), denied)

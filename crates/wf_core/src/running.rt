@@ -3,6 +3,7 @@
 ghost use Rattle.std.specs.Prelude.{IsTrue};
 ghost use Rattle.wf_calls.specs.Parts.{device_of, is_of_core, part_of};
 ghost use Rattle.wf_calls.specs.Replies.{bare};
+ghost use Rattle.wf_calls.specs.Requests.{call_of};
 ghost use Rattle.wf_stream.specs.Names.{HasRoom, NamesFit};
 ghost use Rattle.wf_model.specs.Names.{core_names};
 ghost use Rattle.wf_model.specs.Core.{core_call};
@@ -24,7 +25,7 @@ use crate::elements::{
     try_element_new, try_element_remove, try_element_set,
 };
 use crate::sources::{try_link_destroy, try_link_new};
-use wf_calls::{Answer, Call, Refusal};
+use wf_calls::{Answer, Refusal, Request};
 use wf_objects::Objects;
 use wf_stream::Store;
 
@@ -33,92 +34,92 @@ use wf_stream::Store;
 fn carry_out(
     objects: &mut Objects,
     store: &mut Store,
-    call: &Call,
+    call: &Request,
     screen: Option<u32>,
 ) -> Result<u32, Refusal>
     requires fits { Fits objects.old store.old }
     requires names { NamesFit (core_names objects.old) store.old }
     requires room { HasRoom store.old }
-    requires ours { IsTrue (is_of_core (part_of call.now)) }
-    requires given { IsGiven call.now screen store.old.streams }
-    ensures { Does (λ m. core_call screen m call.now) objects.old objects.new store.old store.new result }
+    requires ours { IsTrue (is_of_core (part_of (call_of call.now))) }
+    requires given { IsGiven (call_of call.now) screen store.old.streams }
+    ensures { Does (λ m. core_call screen m (call_of call.now)) objects.old objects.new store.old store.new result }
 {
     match call {
-        Call::DeviceNew => objects.add_device(store),
-        Call::DeviceDestroy { device } => try_device_destroy(objects, store, *device),
-        Call::GetError { device } => objects.take_error(store, *device),
-        Call::ScreenContext { device, port } => {
+        Request::DeviceNew => objects.add_device(store),
+        Request::DeviceDestroy { device } => try_device_destroy(objects, store, *device),
+        Request::GetError { device } => objects.take_error(store, *device),
+        Request::ScreenContext { device, port } => {
             try_screen_context(objects, store, *device, *port, screen)
         }
-        Call::StreamContext { device, stream } => {
+        Request::StreamContext { device, stream } => {
             try_stream_context(objects, store, *device, *stream)
         }
-        Call::ContextDestroy { device, context } => {
+        Request::ContextDestroy { device, context } => {
             try_context_destroy(objects, store, *device, *context)
         }
-        Call::ElementNew { device, context } => try_element_new(objects, store, *device, *context),
-        Call::ElementDestroy { device, element } => {
+        Request::ElementNew { device, context } => try_element_new(objects, store, *device, *context),
+        Request::ElementDestroy { device, element } => {
             try_element_destroy(objects, store, *device, *element)
         }
-        Call::SourceNew {
+        Request::SourceNew {
             device,
             context,
             stream,
         } => try_link_new(objects, store, false, *device, *context, *stream),
-        Call::SourceDestroy { device, source } => {
+        Request::SourceDestroy { device, source } => {
             try_link_destroy(objects, store, false, *device, *source)
         }
-        Call::MaskNew {
+        Request::MaskNew {
             device,
             context,
             stream,
         } => try_link_new(objects, store, true, *device, *context, *stream),
-        Call::MaskDestroy { device, mask } => try_link_destroy(
+        Request::MaskDestroy { device, mask } => try_link_destroy(
             objects, store, true, *device, *mask,
         ),
-        Call::ElementSet {
+        Request::ElementSet {
             device,
             element,
             attr,
             value,
         } => try_element_set(objects, store, *device, *element, *attr, *value),
-        Call::ElementGet {
+        Request::ElementGet {
             device,
             element,
             attr,
             index,
         } => try_element_get(objects, store, *device, *element, *attr, *index),
-        Call::ElementInsert {
+        Request::ElementInsert {
             device,
             element,
             below,
         } => try_element_insert(objects, store, *device, *element, *below),
-        Call::ElementRemove { device, element } => {
+        Request::ElementRemove { device, element } => {
             try_element_remove(objects, store, *device, *element)
         }
-        Call::ElementAbove { device, element } => {
+        Request::ElementAbove { device, element } => {
             try_element_above(objects, store, *device, *element)
         }
-        Call::ElementBelow { device, element } => {
+        Request::ElementBelow { device, element } => {
             try_element_below(objects, store, *device, *element)
         }
-        Call::ContextSet {
+        Request::ContextSet {
             device,
             context,
             attr,
             value,
         } => try_context_set(objects, store, *device, *context, *attr, *value),
-        Call::ContextGet {
+        Request::ContextGet {
             device,
             context,
             attr,
             index,
         } => try_context_get(objects, store, *device, *context, *attr, *index),
-        Call::Commit { device, context } => try_commit(objects, store, *device, *context),
-        Call::Activate { device, context } => {
+        Request::Commit { device, context } => try_commit(objects, store, *device, *context),
+        Request::Activate { device, context } => {
             try_set_active(objects, store, *device, *context, true)
         }
-        Call::Deactivate { device, context } => {
+        Request::Deactivate { device, context } => {
             try_set_active(objects, store, *device, *context, false)
         }
         _ => unreachable!(),
@@ -127,14 +128,14 @@ fn carry_out(
 
 impl Core {
     /// Runs a call of composition: it does and answers what the method of its name does.
-    pub fn run(&mut self, store: &mut Store, call: &Call, screen: Option<u32>) -> Answer
+    pub fn run(&mut self, store: &mut Store, call: &Request, screen: Option<u32>) -> Answer
         requires fits { Fits self.old store.old }
         requires names { NamesFit (core_names self.old) store.old }
         requires room { HasRoom store.old }
-        requires ours { IsTrue (is_of_core (part_of call.now)) }
-        requires given { IsGiven call.now screen store.old.streams }
-        ensures { Steps (device_of call.now) (λ m. core_call screen m call.now) KeepsRest self.old self.new store.old store.new
-            (bare result) }
+        requires ours { IsTrue (is_of_core (part_of (call_of call.now))) }
+        requires given { IsGiven (call_of call.now) screen store.old.streams }
+        ensures { Steps (device_of (call_of call.now)) (λ m. core_call screen m (call_of call.now)) KeepsRest self.old self.new
+            store.old store.new (bare result) }
     {
         let done = carry_out(&mut self.objects, store, call, screen);
         answer(&mut self.objects, store, call.device(), done)

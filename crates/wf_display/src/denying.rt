@@ -3,6 +3,7 @@
 ghost use Rattle.std.specs.Prelude.{◌≡◌, IsTrue, true};
 ghost use Rattle.wf_calls.specs.Creations.{is_creation};
 ghost use Rattle.wf_calls.specs.Parts.{part_of};
+ghost use Rattle.wf_calls.specs.Requests.{call_of};
 ghost use Rattle.wf_model.specs.DisplayCalls.{display_call};
 ghost use Rattle.wf_model.specs.Pipelines.{display_source};
 ghost use Rattle.wf_display.specs.Does.{Does, KeepsAll, Steps};
@@ -10,7 +11,7 @@ ghost use Rattle.wf_display.specs.Fits.{Fits};
 
 use crate::display::Display;
 use crate::sources::pixel_stream;
-use wf_calls::{Call, Code, Part, Refusal, Reply};
+use wf_calls::{Code, Part, Refusal, Reply, Request};
 use wf_stream::Store;
 
 impl Display {
@@ -29,14 +30,14 @@ impl Display {
 
     /// Refuses the creation of a source for which there is no memory: as `display_source` does, and where that would make
     /// the source, by OutOfMemory. Nothing is made, and the register takes the refusal where it is empty.
-    pub fn deny(&mut self, store: &Store, call: &Call) -> Reply
+    pub fn deny(&mut self, store: &Store, call: &Request) -> Reply
         requires fits { Fits self.old store.now }
-        requires creation { IsTrue (is_creation call.now) }
-        requires ours { part_of call.now ≡ Part.Display }
-        ensures { Steps (λ _. display_call true call.now) KeepsAll self.old self.new store.now store.now result }
+        requires creation { IsTrue (is_creation (call_of call.now)) }
+        requires ours { part_of (call_of call.now) ≡ Part.Display }
+        ensures { Steps (λ _. display_call true (call_of call.now)) KeepsAll self.old self.new store.now store.now result }
     {
         let denied = match call {
-            Call::DisplaySource { pipe, stream } => {
+            Request::DisplaySource { pipe, stream } => {
                 self.deny_display_source(store, *pipe, *stream)
             }
             _ => unreachable!(),

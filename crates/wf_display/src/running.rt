@@ -4,6 +4,7 @@ ghost use Rattle.std.specs.Prelude.{◌≡◌};
 ghost use Rattle.wf_stream.specs.Names.{HasRoom, NamesFit};
 ghost use Rattle.wf_calls.specs.Parts.{part_of};
 ghost use Rattle.wf_calls.specs.Replies.{bare};
+ghost use Rattle.wf_calls.specs.Requests.{call_of};
 ghost use Rattle.wf_model.specs.Core.{register_number};
 ghost use Rattle.wf_model.specs.DisplayCalls.{display_call, display_error};
 ghost use Rattle.wf_model.specs.DisplaySides.{on_display};
@@ -13,7 +14,7 @@ ghost use Rattle.wf_display.specs.Fits.{Fits};
 ghost use Rattle.wf_display.specs.Sides.{KeepsRest};
 
 use crate::display::Display;
-use wf_calls::{Answer, Call, Code, Part, Refusal, Reply};
+use wf_calls::{Answer, Code, Part, Refusal, Reply, Request};
 use wf_model::Extent;
 use wf_stream::Store;
 
@@ -47,44 +48,44 @@ impl Display {
     }
 
     /// Carries a call of the display out, or refuses it.
-    fn carry_out(&mut self, store: &mut Store, call: &Call) -> Result<u32, Refusal>
+    fn carry_out(&mut self, store: &mut Store, call: &Request) -> Result<u32, Refusal>
         requires fits { Fits self.old store.old }
         requires names { NamesFit (display_names self.old) store.old }
         requires room { HasRoom store.old }
-        requires ours { part_of call.now ≡ Part.Display }
-        ensures { Does (λ m. display_call m call.now) self.old self.new store.old store.new result }
+        requires ours { part_of (call_of call.now) ≡ Part.Display }
+        ensures { Does (λ m. display_call m (call_of call.now)) self.old self.new store.old store.new result }
     {
         match call {
-            Call::PortSet { port, attr, value } => self.try_port_set(store, *port, *attr, *value),
-            Call::PortGet { port, attr, index } => self.try_port_get(store, *port, *attr, *index),
-            Call::Attach { port, on } => self.try_attach(store, *port, *on),
-            Call::PipeSet { pipe, attr, value } => self.try_pipe_set(store, *pipe, *attr, *value),
-            Call::PipeGet { pipe, attr, index } => self.try_pipe_get(store, *pipe, *attr, *index),
-            Call::PipeBindPort { pipe, port } => self.try_pipe_bind_port(store, *pipe, *port),
-            Call::DisplaySource { pipe, stream } => self.try_display_source(store, *pipe, *stream),
-            Call::DisplaySourceDestroy { source } => {
+            Request::PortSet { port, attr, value } => self.try_port_set(store, *port, *attr, *value),
+            Request::PortGet { port, attr, index } => self.try_port_get(store, *port, *attr, *index),
+            Request::Attach { port, on } => self.try_attach(store, *port, *on),
+            Request::PipeSet { pipe, attr, value } => self.try_pipe_set(store, *pipe, *attr, *value),
+            Request::PipeGet { pipe, attr, index } => self.try_pipe_get(store, *pipe, *attr, *index),
+            Request::PipeBindPort { pipe, port } => self.try_pipe_bind_port(store, *pipe, *port),
+            Request::DisplaySource { pipe, stream } => self.try_display_source(store, *pipe, *stream),
+            Request::DisplaySourceDestroy { source } => {
                 self.try_display_source_destroy(store, *source)
             }
-            Call::PipeBindSource {
+            Request::PipeBindSource {
                 pipe,
                 source,
                 transition,
             } => self.try_pipe_bind_source(store, *pipe, *source, *transition),
-            Call::CommitDevice => self.try_commit(store, Extent::Device),
-            Call::CommitPort { port } => self.try_commit_port(store, *port),
-            Call::CommitPipe { pipe } => self.try_commit_pipe(store, *pipe),
-            Call::DisplayError => self.try_display_error(store),
+            Request::CommitDevice => self.try_commit(store, Extent::Device),
+            Request::CommitPort { port } => self.try_commit_port(store, *port),
+            Request::CommitPipe { pipe } => self.try_commit_pipe(store, *pipe),
+            Request::DisplayError => self.try_display_error(store),
             _ => unreachable!(),
         }
     }
 
     /// Runs a call of the display: it does and answers what the method of its name does.
-    pub fn run(&mut self, store: &mut Store, call: &Call) -> Answer
+    pub fn run(&mut self, store: &mut Store, call: &Request) -> Answer
         requires fits { Fits self.old store.old }
         requires names { NamesFit (display_names self.old) store.old }
         requires room { HasRoom store.old }
-        requires ours { part_of call.now ≡ Part.Display }
-        ensures { Steps (λ m. display_call m call.now) KeepsRest self.old self.new store.old store.new (bare result) }
+        requires ours { part_of (call_of call.now) ≡ Part.Display }
+        ensures { Steps (λ m. display_call m (call_of call.now)) KeepsRest self.old self.new store.old store.new (bare result) }
     {
         let done = self.carry_out(store, call);
         self.answer(store, done)

@@ -106,15 +106,15 @@ fn rows_of_bound<R: Threads + Sync>(
     ensures { bytes.new ≡ bound_picture scene.now contents.now }
 {
     if scene.layers.len() <= 4 {
-        rows_of_few(rt, workers, bytes, scene, contents, tables);
+        rows_of_layers::<R, 4>(rt, workers, bytes, scene, contents, tables);
     } else {
-        rows_of_many(rt, workers, bytes, scene, contents, tables);
+        rows_of_layers::<R, 32>(rt, workers, bytes, scene, contents, tables);
     }
 }
 
-/// The same of up to four layers.
+/// The same with a list of `N` layers at most.
 #[inline(never)]
-fn rows_of_few<R: Threads + Sync>(
+fn rows_of_layers<R: Threads + Sync, const N: usize>(
     rt: &R,
     workers: u32,
     bytes: &mut [u8],
@@ -122,7 +122,7 @@ fn rows_of_few<R: Threads + Sync>(
     contents: &Contents,
     tables: &[[u16; 1024]],
 )
-    requires short { length scene.now.layers.items ≤ 4 }
+    requires room { length scene.now.layers.items ≤ N }
     requires some { 1 ≤ workers }
     requires few { workers ≤ 16 }
     requires count { length bytes.old ≡ scene.now.size.w * scene.now.size.h * 4 }
@@ -130,37 +130,7 @@ fn rows_of_few<R: Threads + Sync>(
     requires tables { AreTables scene.now tables.now }
     ensures { bytes.new ≡ bound_picture scene.now contents.now }
 {
-    let mut layers = no_layers::<4>();
-    bind_layers(&mut layers, scene, contents, tables);
-    paint_bands(
-        rt,
-        workers,
-        bytes,
-        scene.size,
-        layers.as_slice(),
-        scene.background,
-    );
-}
-
-/// The same of any number of layers.
-#[inline(never)]
-fn rows_of_many<R: Threads + Sync>(
-    rt: &R,
-    workers: u32,
-    bytes: &mut [u8],
-    scene: &Scene,
-    contents: &Contents,
-    tables: &[[u16; 1024]],
-)
-    requires short { length scene.now.layers.items ≤ 32 }
-    requires some { 1 ≤ workers }
-    requires few { workers ≤ 16 }
-    requires count { length bytes.old ≡ scene.now.size.w * scene.now.size.h * 4 }
-    requires fits { Fits scene.now contents.now }
-    requires tables { AreTables scene.now tables.now }
-    ensures { bytes.new ≡ bound_picture scene.now contents.now }
-{
-    let mut layers = no_layers::<32>();
+    let mut layers = no_layers::<N>();
     bind_layers(&mut layers, scene, contents, tables);
     paint_bands(
         rt,

@@ -74,36 +74,27 @@ fn paint_bound(bytes: &mut [u8], scene: &Scene, contents: &Contents, tables: &[[
     ensures { bytes.new ≡ bound_picture scene.now contents.now }
 {
     if scene.layers.len() <= 4 {
-        paint_few(bytes, scene, contents, tables);
+        paint_layers::<4>(bytes, scene, contents, tables);
     } else {
-        paint_many(bytes, scene, contents, tables);
+        paint_layers::<32>(bytes, scene, contents, tables);
     }
 }
 
-/// The same of up to four layers: a list costs by its room, which stands on the stack.
+/// The same with a list of `N` layers at most, which costs by its room: this stands on the stack.
 #[inline(never)]
-fn paint_few(bytes: &mut [u8], scene: &Scene, contents: &Contents, tables: &[[u16; 1024]])
-    requires few { length scene.now.layers.items ≤ 4 }
+fn paint_layers<const N: usize>(
+    bytes: &mut [u8],
+    scene: &Scene,
+    contents: &Contents,
+    tables: &[[u16; 1024]],
+)
+    requires room { length scene.now.layers.items ≤ N }
     requires count { length bytes.old ≡ scene.now.size.w * scene.now.size.h * 4 }
     requires fits { Fits scene.now contents.now }
     requires tables { AreTables scene.now tables.now }
     ensures { bytes.new ≡ bound_picture scene.now contents.now }
 {
-    let mut layers = no_layers::<4>();
-    bind_layers(&mut layers, scene, contents, tables);
-    paint(bytes, scene.size.w, layers.as_slice(), scene.background, 0);
-}
-
-/// The same of any number of layers.
-#[inline(never)]
-fn paint_many(bytes: &mut [u8], scene: &Scene, contents: &Contents, tables: &[[u16; 1024]])
-    requires few { length scene.now.layers.items ≤ 32 }
-    requires count { length bytes.old ≡ scene.now.size.w * scene.now.size.h * 4 }
-    requires fits { Fits scene.now contents.now }
-    requires tables { AreTables scene.now tables.now }
-    ensures { bytes.new ≡ bound_picture scene.now contents.now }
-{
-    let mut layers = no_layers::<32>();
+    let mut layers = no_layers::<N>();
     bind_layers(&mut layers, scene, contents, tables);
     paint(bytes, scene.size.w, layers.as_slice(), scene.background, 0);
 }

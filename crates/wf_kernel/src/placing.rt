@@ -1,6 +1,6 @@
 //! Where a layer lies on the target, and which pixel of its source shows at a distance from there.
 
-ghost use Rattle.std.specs.Prelude.{◌≡◌, ◌+◌, ◌-◌, ◌*◌, ◌<◌, ◌≤◌, ◌≤ℤ◌, pos, negsuc, nat_abs, true, IsTrue};
+ghost use Rattle.std.specs.Prelude.{◌≡◌, ◌≢◌, ◌+◌, ◌-◌, ◌*◌, ◌<◌, ◌≤◌, ◌≤ℤ◌, pos, negsuc, nat_abs, true, IsTrue};
 ghost use Rattle.wf_pixel.specs.Arithmetic.{samp};
 ghost use Rattle.wf_pixel.specs.Choice.{has_sides};
 ghost use Rattle.wf_pixel.specs.Place.{turned, size_of, IsDrawn};
@@ -129,9 +129,10 @@ fn top_of(layer: &Layer, dy: u32) -> u32
     }
 }
 
-/// The same for each turn.
+/// The same of a layer that is turned.
 #[inline(never)]
 fn top_of_turned(layer: &Layer, dy: u32) -> u32
+    requires turned { layer.now.turn ≢ Rotation.R0 }
     requires src { IsDrawn layer.now.src }
     requires dest { IsDrawn layer.now.dest }
     requires x { pos 0 ≤ℤ layer.now.src.x }
@@ -142,7 +143,7 @@ fn top_of_turned(layer: &Layer, dy: u32) -> u32
 {
     let (src, h) = (layer.src, layer.dest.h);
     match layer.turn {
-        Rotation::R0 => src.y as u32 + flipped(layer.flip, src.h, place_in(dy, h, src.h)),
+        Rotation::R0 => unreachable!(),
         Rotation::R90 => src.x as u32 + place_in(dy, h, src.w),
         Rotation::R180 => src.y as u32
             + flipped(layer.flip, src.h, src.h - 1 - place_in(dy, h, src.h)),

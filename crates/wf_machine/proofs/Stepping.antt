@@ -9,8 +9,10 @@ use Rattle.wf_calls.specs.Parts.{carries, part_of}
 use Rattle.wf_calls.specs.declared.call.Call.TheVariants as call
 use Rattle.wf_calls.specs.declared.call.Job.{Job}
 use Rattle.wf_calls.specs.declared.reply.Answer.{Answer}
+use Rattle.wf_calls.specs.Creations.{is_creation}
 use Rattle.wf_model.specs.Effects.{refused_leaves}
-use Rattle.wf_machine.specs.Object.{IsMarkedAct, IsMarkedStep, IsRefusal, MayAnswer, after}
+use Rattle.wf_model.specs.Step.{unmarked_step}
+use Rattle.wf_machine.specs.Object.{IsAnswer, IsMarkedAct, IsMarkedStep, IsRefusal, MayAnswer, after}
 use Rattle.wf_machine.proofs.Dropping.{settled}
 
 not_ok : (b : Bool) → not b ≡ true → b ≡ false
@@ -112,3 +114,15 @@ answered h was client c left None seen named done =
 answered h was client c left (Some a) seen named done =
     let made = stepped h client c left (bare a) (acts h was seen c left (bare a) done) (subst IsSettled seen named) in
     record { settled = made.settled; carried = tt; after_is = made.after_is; may = made.answer; refused = made.refused }
+
+-- the mark says nothing to a call that makes nothing
+pub unmarked : (m n : Bool) (h : State) (client : ℕ) (c : Call) (left : State) (r : Reply) → is_creation c ≡ false
+    → IsMarkedStep m h client c left r → IsMarkedStep n h client c left r
+unmarked m n h client c left r other done =
+    let same = unmarked_step h client c m n other in
+    record {
+      after_is = done.after_is ∙ ap (λ x. x.0) same;
+      answer = subst (λ x. IsAnswer x.1 r) same done.answer;
+      settled = done.settled;
+      refused = done.refused;
+    }

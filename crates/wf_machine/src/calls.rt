@@ -3,17 +3,18 @@
 ghost use Rattle.std.specs.Prelude.{◌≡◌, IsTrue, IfSome, IsSome, MatchOption, None};
 ghost use Rattle.wf_calls.specs.Parts.{carries, is_begin, is_of_core, part_of};
 ghost use Rattle.wf_calls.specs.Replies.{bare, with_canvas, with_job};
+ghost use Rattle.wf_calls.specs.Requests.{call_of};
 ghost use Rattle.wf_machine.specs.Object.{IsAct};
 
 use crate::parts::Parts;
-use wf_calls::{Answer, Call, Job, Part};
+use wf_calls::{Answer, Call, Job, Part, Request};
 use wf_image::Canvas;
 
 impl Parts {
     /// Does what a call asks for that brings nothing and takes nothing, or none where it is another call.
-    pub(crate) fn act_plain(&mut self, call: &Call) -> Option<Answer>
-        ensures { MatchOption result (IsTrue (carries (part_of call.now))
-            × (self.new ≡ self.old)) (λ answer. IsAct self.old call.now self.new (bare answer)) }
+    pub(crate) fn act_plain(&mut self, call: &Request) -> Option<Answer>
+        ensures { MatchOption result (IsTrue (carries (part_of (call_of call.now)))
+            × (self.new ≡ self.old)) (λ answer. IsAct self.old (call_of call.now) self.new (bare answer)) }
     {
         match call.part() {
             Part::Streams => Some(self.act_on_streams(call)),
@@ -24,28 +25,28 @@ impl Parts {
     }
 
     /// Does what a call on streams asks for.
-    fn act_on_streams(&mut self, call: &Call) -> Answer
-        requires { part_of call.now ≡ Part.Streams }
-        ensures { IsAct self.old call.now self.new (bare result) }
+    fn act_on_streams(&mut self, call: &Request) -> Answer
+        requires { part_of (call_of call.now) ≡ Part.Streams }
+        ensures { IsAct self.old (call_of call.now) self.new (bare result) }
     {
         self.all_named();
         match call {
-            Call::StreamNew {
+            Request::StreamNew {
                 width,
                 height,
                 format,
                 buffers,
             } => self.stream_new(*width, *height, *format, *buffers),
-            Call::StreamDestroy { stream } => self.stream_destroy(*stream),
-            Call::Stat { what } => self.stat(*what),
+            Request::StreamDestroy { stream } => self.stream_destroy(*stream),
+            Request::Stat { what } => self.stat(*what),
             _ => unreachable!(),
         }
     }
 
     /// Does what a call of composition asks for.
-    fn act_on_objects(&mut self, call: &Call) -> Answer
-        requires { IsTrue (is_of_core (part_of call.now)) }
-        ensures { IsAct self.old call.now self.new (bare result) }
+    fn act_on_objects(&mut self, call: &Request) -> Answer
+        requires { IsTrue (is_of_core (part_of (call_of call.now))) }
+        ensures { IsAct self.old (call_of call.now) self.new (bare result) }
     {
         let screen = self.screen_of(call);
         self.core.few_names();
@@ -54,9 +55,9 @@ impl Parts {
     }
 
     /// Does what a call of the display asks for.
-    fn act_on_display(&mut self, call: &Call) -> Answer
-        requires { part_of call.now ≡ Part.Display }
-        ensures { IsAct self.old call.now self.new (bare result) }
+    fn act_on_display(&mut self, call: &Request) -> Answer
+        requires { part_of (call_of call.now) ≡ Part.Display }
+        ensures { IsAct self.old (call_of call.now) self.new (bare result) }
     {
         self.core.few_names();
         self.display.few_names();
@@ -64,15 +65,15 @@ impl Parts {
     }
 
     /// Begins the frame that a call asks for. Its Job is put in a place that holds none.
-    pub(crate) fn act_begin(&mut self, call: &Call, job: &mut Option<Job>) -> Answer
-        requires begins { IsTrue (is_begin call.now) }
+    pub(crate) fn act_begin(&mut self, call: &Request, job: &mut Option<Job>) -> Answer
+        requires begins { IsTrue (is_begin (call_of call.now)) }
         requires empty { job.old ≡ None }
-        ensures { IsAct self.old call.now self.new (with_job result job.new) }
+        ensures { IsAct self.old (call_of call.now) self.new (with_job result job.new) }
     {
         match call {
-            Call::BeginNext { after } => self.begin_next(*after, job),
-            Call::BeginPort { port } => self.begin_port(*port, job),
-            Call::BeginContext { device, context } => self.begin_composed(*device, *context, job),
+            Request::BeginNext { after } => self.begin_next(*after, job),
+            Request::BeginPort { port } => self.begin_port(*port, job),
+            Request::BeginContext { device, context } => self.begin_composed(*device, *context, job),
             _ => unreachable!(),
         }
     }

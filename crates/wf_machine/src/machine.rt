@@ -1,12 +1,13 @@
 //! The machine.
 
-ghost use Rattle.std.specs.Prelude.{◌≡◌, ◌<◌, IfOk, IfSome, IsSome, IsTrue, IsFalse, length, true};
+ghost use Rattle.std.specs.Prelude.{◌≡◌, ◌<◌, IfOk, IfSome, IsSome, IsTrue, length, true};
 ghost use Rattle.std.specs.Option.{IfNone};
 ghost use Rattle.wf_stream.specs.Streams.{held};
 ghost use Rattle.wf_calls.specs.Creations.{is_creation};
 ghost use Rattle.wf_calls.specs.Parts.{carries, part_of};
 ghost use Rattle.wf_calls.specs.Replies.{bare, with_canvas, with_job};
 ghost use Rattle.wf_calls.specs.PortRules.{may_declare};
+ghost use Rattle.wf_calls.specs.Requests.{brings, call_of};
 ghost use Rattle.wf_model.specs.Names.{kept, names};
 ghost use Rattle.wf_model.specs.State.{opening};
 ghost use Rattle.wf_machine.specs.Object.{IsMarkedStep, IsRefusal, IsStep, MayAnswer, MayDeny, after, denied, is_ready};
@@ -16,7 +17,7 @@ use crate::parts::Parts;
 use crate::replies::with_canvas;
 use std::alloc::Global;
 use std::marker::Model;
-use wf_calls::{Answer, Call, Job, Ports, Reply};
+use wf_calls::{Answer, Call, Job, Ports, Reply, Request};
 use wf_image::Canvas;
 use wf_stream::Held;
 use wf_words::NoMemory;
@@ -51,21 +52,21 @@ impl Machine {
 
     /// Answers a client's call that brings nothing and takes nothing, as `run` does, or none where it is another call. It
     /// moves no image and no Job, and is what `run` stands on.
-    pub fn answer(&mut self, client: u8, call: &Call) -> Option<Answer>
-        ensures carries { IfNone result (IsTrue (carries (part_of call.now)) × (self.new ≡ self.old)) }
-        ensures after { IfSome result (λ answer. self.new ≡ after self.old client call.now (bare answer)) }
-        ensures may { IfSome result (λ answer. MayAnswer self.old client call.now (bare answer)) }
+    pub fn answer(&mut self, client: u8, call: &Request) -> Option<Answer>
+        ensures carries { IfNone result (IsTrue (carries (part_of (call_of call.now))) × (self.new ≡ self.old)) }
+        ensures after { IfSome result (λ answer. self.new ≡ after self.old client (call_of call.now) (bare answer)) }
+        ensures may { IfSome result (λ answer. MayAnswer self.old client (call_of call.now) (bare answer)) }
         ensures lifetime { self.new.streams ≡ kept self.new }
-        ensures refused { IfSome result (λ answer. IsRefusal self.old self.new call.now answer.code) }
+        ensures refused { IfSome result (λ answer. IsRefusal self.old self.new (call_of call.now) answer.code) }
     {
         self.parts.act_plain(call)
     }
 
     /// Begins a frame as `run` does for a call that begins one. The Job that comes is put in this place, which is empty where none
     /// comes: so no Job is moved.
-    pub fn begin(&mut self, client: u8, call: &Call, job: &mut Option<Job>) -> Answer
-        requires { IsTrue (is_begin call.now) }
-        ensures step { IsStep self.old client call.now self.new (with_job result job.new) }
+    pub fn begin(&mut self, client: u8, call: &Request, job: &mut Option<Job>) -> Answer
+        requires { IsTrue (is_begin (call_of call.now)) }
+        ensures step { IsStep self.old client (call_of call.now) self.new (with_job result job.new) }
         ensures lifetime { self.new.streams ≡ kept self.new }
     {
         *job = None;
@@ -106,13 +107,34 @@ impl Machine {
     }
 
     /// Runs a client's call that begins a frame.
-    fn run_begin(&mut self, client: u8, call: &Call) -> Reply
-        requires { IsTrue (is_begin call.now) }
-        ensures step { IsStep self.old client call.now self.new result }
+    fn run_begin(&mut self, client: u8, call: &Request) -> Reply
+        requires { IsTrue (is_begin (call_of call.now)) }
+        ensures step { IsStep self.old client (call_of call.now) self.new result }
     {
         let mut job = None;
         let answer = self.begin(client, call, &mut job);
         Reply::with_job(answer, job)
+    }
+
+    /// Runs a client's call that brings nothing, and may take a write buffer or a Job.
+    fn run_taking(&mut self, client: u8, call: &Request) -> Reply
+        requires { IsTrue (carries (part_of (call_of call.now))) }
+        ensures step { IsStep self.old client (call_of call.now) self.new result }
+    {
+        match call {
+            Request::Acquire { stream } => with_canvas(self.acquire(client, *stream)),
+            _ => self.run_begin(client, call),
+        }
+    }
+
+    /// Runs a client's call that brings nothing.
+    fn run_request(&mut self, client: u8, call: &Request) -> Reply
+        ensures step { IsStep self.old client (call_of call.now) self.new result }
+    {
+        match self.answer(client, call) {
+            Some(answer) => Reply::bare(answer),
+            None => self.run_taking(client, call),
+        }
     }
 
     /// Runs a client's End.
@@ -124,30 +146,16 @@ impl Machine {
         Reply::with_job(answer, job)
     }
 
-    /// Runs a client's call that brings a write buffer or a Job, or takes a write buffer.
-    fn run_handing(&mut self, client: u8, call: Call) -> Reply
-        requires carries { IsTrue (carries (part_of call)) }
-        requires other { IsFalse (is_begin call) }
+    /// Runs a client's call that brings a write buffer or a Job.
+    fn run_bringing(&mut self, client: u8, call: Call) -> Reply
+        requires { IsTrue (brings call) }
         ensures step { IsStep self.old client call self.new result }
     {
         match call {
-            Call::Acquire { stream } => with_canvas(self.acquire(client, stream)),
             Call::Post(canvas) => with_canvas(self.post(client, canvas)),
             Call::Discard(canvas) => with_canvas(self.discard(client, canvas)),
             Call::End(job) => self.run_end(client, job),
             _ => unreachable!(),
-        }
-    }
-
-    /// Runs a client's call that `answer` does not.
-    fn run_carrying(&mut self, client: u8, call: Call) -> Reply
-        requires { IsTrue (carries (part_of call)) }
-        ensures step { IsStep self.old client call self.new result }
-    {
-        if call.is_begin() {
-            self.run_begin(client, &call)
-        } else {
-            self.run_handing(client, call)
         }
     }
 
@@ -160,19 +168,30 @@ impl Machine {
         ensures lifetime { self.new.streams ≡ kept self.new }
         ensures refused { IsRefusal self.old self.new call result.code }
     {
-        match self.answer(client, &call) {
-            Some(answer) => Reply::bare(answer),
-            None => self.run_carrying(client, call),
+        match call.request() {
+            Some(request) => self.run_request(client, &request),
+            None => self.run_bringing(client, call),
         }
     }
 
     /// Refuses a creation as `run` does where there is no memory for it: one that no other refusal meets answers OutOfMemory.
-    fn refuse(&mut self, client: u8, call: &Call) -> Reply
-        requires { IsTrue (is_creation call.now) }
-        ensures step { IsMarkedStep true self.old client call.now self.new result }
+    fn refuse(&mut self, client: u8, call: &Request) -> Reply
+        requires { IsTrue (is_creation (call_of call.now)) }
+        ensures step { IsMarkedStep true self.old client (call_of call.now) self.new result }
         ensures lifetime { self.new.streams ≡ kept self.new }
     {
         self.parts.deny(call)
+    }
+
+    /// Answers a client's call that brings nothing, where memory is refused to it.
+    fn deny_request(&mut self, client: u8, call: &Request) -> Reply
+        ensures step { IsMarkedStep true self.old client (call_of call.now) self.new result }
+    {
+        if call.is_creation() {
+            self.refuse(client, call)
+        } else {
+            self.run_request(client, call)
+        }
     }
 
     /// Answers a client's call as `run` does, but that memory is refused to it: a creation that no other refusal meets answers
@@ -183,16 +202,22 @@ impl Machine {
         ensures lifetime { self.new.streams ≡ kept self.new }
         ensures refused { IsRefusal self.old self.new call result.code }
     {
-        if call.is_creation() {
-            self.refuse(client, &call)
-        } else {
-            self.run(client, call)
+        match call.request() {
+            Some(request) => self.deny_request(client, &request),
+            None => self.run_bringing(client, call),
         }
     }
 
     /// Whether a call can be answered now: no call that begins a frame waits for the running one.
     pub fn ready(&self, call: &Call) -> bool
         ensures { result ≡ is_ready self.now call.now }
+    {
+        !call.is_begin() || self.parts.frame.is_none()
+    }
+
+    /// The same of a call that brings nothing.
+    pub fn ready_for(&self, call: &Request) -> bool
+        ensures { result ≡ is_ready self.now (call_of call.now) }
     {
         !call.is_begin() || self.parts.frame.is_none()
     }

@@ -2,20 +2,21 @@
 
 ghost use Rattle.std.specs.Prelude.{◌≡◌, IsSome, IsTrue, pos};
 ghost use Rattle.wf_pixel.specs.Choice.{is_between};
+ghost use Rattle.wf_calls.specs.Requests.{call_of};
 ghost use Rattle.wf_model.specs.Composing.{declared_screen, screen_of};
 ghost use Rattle.wf_core.specs.Steps.{IsOfPort};
 
 use crate::parts::Parts;
-use wf_calls::Call;
+use wf_calls::Request;
 
 impl Parts {
     /// The screen that a call asks for, where it makes the context of one.
-    pub(crate) fn screen_of(&self, call: &Call) -> Option<u32>
-        ensures screen { result ≡ screen_of call.now self.now }
-        ensures within { IsOfPort call.now result }
+    pub(crate) fn screen_of(&self, call: &Request) -> Option<u32>
+        ensures screen { result ≡ screen_of (call_of call.now) self.now }
+        ensures within { IsOfPort (call_of call.now) result }
     {
         match call {
-            Call::ScreenContext { port, .. } => self.declared_screen(*port),
+            Request::ScreenContext { port, .. } => self.declared_screen(*port),
             _ => None,
         }
     }

@@ -9,7 +9,7 @@ use Rattle.wf_calls.specs.declared.call.Call.TheVariants as call
 use Rattle.wf_calls.specs.declared.reply.Answer.{Answer}
 use Rattle.wf_calls.specs.declared.reply.Payload.TheVariants as payload
 use Rattle.wf_script.specs.declared.line.Verb.TheVariants as verb
-use Rattle.wf_turn.specs.Asked.{asked, begins_frame, handed, is_ending, is_stuck, takes_job}
+use Rattle.wf_turn.specs.Asked.{asked, begins_frame, given, handed, is_ending, is_stuck, takes_job}
 use Rattle.wf_turn.specs.Replayed.{wanted_now}
 use Rattle.wf_turn.specs.declared.stage.Asks.{Asks}
 use Rattle.wf_turn.specs.declared.stage.Asks.TheVariants as asks
@@ -104,6 +104,26 @@ wanted_of p some = of_next (next p) some
     of_next : (o : Option Wanted) → IsSome o → (w : Wanted) × (o ≡ Some w)
     of_next None some = absurd cc
     of_next (Some w) some = (w, refl)
+
+-- what is handed on goes out of the program
+pub given_handed : (p q : Program) (a : Asks) → q ≡ handed p a → (a ≡ asks.End → is_ending p ≡ true) → given q a ≡ issued p
+given_handed p q a same ends = rw same (of_asks a refl)
+  where
+    of_stage : (l : Line) (s : Stage) → p.stage ≡ s → first_line p ≡ Some l → is_ending p ≡ true → record p { job = None } ≡ issued p
+    of_stage l (stage.Ending m) at line is = rw (line, at) refl
+    of_stage l _ at line is = absurd (let no : false ≡ true = rw (line, at) at is in cc)
+
+    of_line : (o : Option Line) → first_line p ≡ o → is_ending p ≡ true → record p { job = None } ≡ issued p
+    of_line None none is = absurd (let no : false ≡ true = rw none at is in cc)
+    of_line (Some l) line is = of_stage l p.stage refl line is
+
+    of_asks : (b : Asks) → a ≡ b → given (handed p b) b ≡ issued p
+    of_asks asks.End at = of_line (first_line p) refl (ends at)
+    of_asks asks.Nothing at = refl
+    of_asks asks.Call at = refl
+    of_asks (asks.Acquire s) at = refl
+    of_asks (asks.Post canvas) at = refl
+    of_asks (asks.Discard canvas) at = refl
 
 -- the answer is taken as before the call was handed out
 pub took_handed : (p : Program) (a : Asks) (reply : Reply) → took (handed p a) reply ≡ took p reply
@@ -213,7 +233,7 @@ module _ (p q : Program) (a : Asks) (w : Wanted) (is : asked p.job w a ≡ next 
       rw here (ends at, ending_job p fit (ends at))
 
   -- what is asked of the program after it
-  asked_after : asked q.job w a ≡ asked p.job w a
+  pub asked_after : asked q.job w a ≡ asked p.job w a
   asked_after = ap (λ x. asked x.job w a) same ∙ of_asks a
     where
       of_asks : (b : Asks) → asked (handed p b).job w b ≡ asked p.job w b
@@ -223,6 +243,10 @@ module _ (p q : Program) (a : Asks) (w : Wanted) (is : asked p.job w a ≡ next 
       of_asks (asks.Acquire s) = refl
       of_asks (asks.Post canvas) = refl
       of_asks (asks.Discard canvas) = refl
+
+  -- is its next call
+  pub wanted_is : asked q.job w a ≡ next p
+  wanted_is = asked_after ∙ is
 
   pub asked_answers : (client : ℕ) (h left : State) (now : Program) (t : Turn) (x : Wanted) → next p ≡ Some x
       → IfSome (asked q.job w a) (λ y. Answers client h left y.call q now t) → Answers client h left x.call p now t

@@ -1,5 +1,6 @@
 -- A program that makes its next call goes on after each answer, and one that makes none is through.
-use Rattle.wf_turn.proofs.Common.{◌≡◌, ℕ, true, false, List, [], ◌∷◌, Option, Some, None, refl, ap, is_some, Line, Wanted}
+use Rattle.wf_turn.proofs.Common.{◌≡◌, ℕ, true, false, List, [], ◌∷◌, Option, Some, None, refl, ap, sym, is_some, Line, Wanted, IfSome}
+use Rattle.std.specs.Option.{IfNone}
 use Rattle.wf_turn.proofs.Common.{◌<◌, arith, is_begin, Program, first_line, issued, left, next, place_of, IsFit}
 use Rattle.wf_calls.specs.declared.code.Code.TheVariants as code
 use Rattle.wf_calls.specs.declared.reply.Payload.TheVariants as payload
@@ -64,3 +65,13 @@ is_through p fit none = of_line (first_line p) refl
     of_line (Some l) is =
         absurd (let some = wants p l fit is in let no : is_some (next p) ≡ false = ap is_some none in
         let yes : is_some (next p) ≡ true = some in cc)
+
+-- of the next call, if there is one
+pub if_some : {P : Wanted → Type 0} (p : Program) (o : Option Wanted) → o ≡ next p → ((w : Wanted) → next p ≡ Some w → P w) → IfSome o P
+if_some p None is all = tt
+if_some p (Some w) is all = all w (sym is)
+
+-- where there is none
+pub if_none : {X : Type 0} (p : Program) (o : Option Wanted) → o ≡ next p → (next p ≡ None → X) → IfNone o X
+if_none p None is all = all (sym is)
+if_none p (Some w) is all = tt

@@ -7,12 +7,18 @@ use Rattle.wf_model.specs.State.{State}
 use Rattle.wf_script.specs.declared.line.Line.{Line}
 use Rattle.wf_script.specs.declared.line.Verb.{Verb}
 use Rattle.wf_script.specs.declared.line.Verb.TheVariants as verb
+use Rattle.wf_calls.specs.Requests.{call_of}
+use Rattle.wf_turn.specs.declared.stage.Asked.{Asked}
 use Rattle.wf_turn.specs.declared.stage.Asks.{Asks}
 use Rattle.wf_turn.specs.declared.stage.Asks.TheVariants as asks
 use Rattle.wf_turn.specs.declared.stage.Stage.{Stage}
 use Rattle.wf_turn.specs.declared.stage.Stage.TheVariants as stage
 use Rattle.wf_turn.specs.declared.stage.Wanted.{Wanted}
 use Rattle.wf_turn.specs.Program.{Program, first_line, issued, plain}
+
+-- a call that brings nothing, as the call that is wanted
+abbrev pub as_wanted : Asked → Wanted
+as_wanted a = record { call = call_of a.request; wait = a.wait }
 
 -- the call that is asked for, by the Job that is held and the call that was put in its place
 abbrev pub asked : Option Job → Wanted → Asks → Option Wanted
@@ -27,6 +33,11 @@ asked job wanted asks.End = option_map (λ j. plain (call.End j)) job
 abbrev pub handed : Program → Asks → Program
 handed p asks.End = p
 handed p _ = issued p
+
+-- the program after what it held was handed on: the Job of a frame to be ended
+abbrev pub given : Program → Asks → Program
+given p asks.End = record p { job = None }
+given p _ = p
 
 -- a line whose first call begins a frame
 abbrev pub begins_frame : Verb → Bool

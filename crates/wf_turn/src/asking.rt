@@ -1,38 +1,35 @@
-//! What a program asks for next: a call that is put in its place, or a call that carries an image, which is told without it.
+//! What a program asks for next: a call that brings nothing, which is put in its place, or a call that brings an image, which is told
+//! without it.
 
 ghost use Rattle.std.specs.Prelude.{◌≡◌, ◌≢◌, is_some, option_map, Some, None, true};
 ghost use Rattle.std.specs.Prelude.{if◌then◌else◌};
 ghost use Rattle.wf_calls.specs.Parts.{carries, is_begin, part_of};
-ghost use Rattle.wf_turn.specs.Asked.{asked, begins_frame, handed, is_ending, takes_job};
-ghost use Rattle.wf_turn.specs.Calls.{IsPut, plain_call};
-ghost use Rattle.wf_turn.specs.Program.{asked_for, first_call, handle, issued, kept_first, next, plain};
+ghost use Rattle.wf_calls.specs.Requests.{call_of};
+ghost use Rattle.wf_turn.specs.Asked.{as_wanted, asked, begins_frame, given, handed, is_ending, takes_job};
+ghost use Rattle.wf_turn.specs.Calls.{plain_call};
+ghost use Rattle.wf_turn.specs.Program.{asked_for, first_call, handle, kept_first, next, plain};
 
-use crate::calls::put;
 use crate::program::Program;
-use crate::stage::{Asks, Phase, Stage, Wanted};
-use wf_calls::Call;
+use crate::stage::{Asked, Asks, Phase, Stage, Wanted};
+use wf_calls::{Call, Request};
 use wf_script::{Name, Verb};
 
-/// Puts a call that waits for nothing.
-#[inline(always)]
-fn ask(place: &mut Wanted, call: Call) -> bool
-    ensures given { result ≡ true }
-    ensures put { place.new ≡ plain call }
+/// A call that waits for nothing.
+fn plain(call: Call) -> Wanted
+    ensures { result ≡ plain call }
 {
-    place.wait = false;
-    put(&mut place.call, call)
+    Wanted { call, wait: false }
 }
 
 /// Asks for what a tick asks for.
-#[inline(never)]
-fn ask_phase(place: &mut Wanted, phase: Phase) -> Asks
+fn ask_phase(place: &mut Asked, phase: Phase) -> Asks
     ensures asks { result ≡ Asks.Call }
-    ensures put { place.new ≡ asked_for phase }
+    ensures put { as_wanted place.new ≡ asked_for phase }
 {
     place.wait = true;
-    match phase {
-        Phase::Contexts { last, .. } => put(&mut place.call, Call::BeginNext { after: last }),
-        Phase::Ports { port } => put(&mut place.call, Call::BeginPort { port: port.into() }),
+    place.request = match phase {
+        Phase::Contexts { last, .. } => Request::BeginNext { after: last },
+        Phase::Ports { port } => Request::BeginPort { port: port.into() },
     };
     Asks::Call
 }
@@ -49,13 +46,13 @@ fn begins_frame(verb: &Verb) -> bool
 
 impl<'a> Program<'a> {
     /// What a line of one call that waits for nothing asks for, if it is such a line.
-    fn ask_one(&self, verb: &'a Verb, wanted: &mut Wanted) -> Asks
-        ensures asked { asked self.now.job wanted.new result ≡ option_map plain (plain_call (handle self.now) verb.now) }
-        ensures call { result ≡ Asks.Call → carries (part_of wanted.new.call) ≡ is_begin wanted.new.call }
+    fn ask_one(&self, verb: &'a Verb, place: &mut Asked) -> Asks
+        ensures asked { asked self.now.job (as_wanted place.new) result ≡ option_map plain (plain_call (handle self.now) verb.now) }
+        ensures call { result ≡ Asks.Call → carries (part_of (call_of place.new.request)) ≡ is_begin (call_of place.new.request) }
         ensures other { result ≢ Asks.End }
     {
-        wanted.wait = false;
-        if self.plain_call(verb, &mut wanted.call) {
+        place.wait = false;
+        if self.plain_call(verb, &mut place.request) {
             Asks::Call
         } else {
             Asks::Nothing
@@ -68,20 +65,17 @@ impl<'a> Program<'a> {
         device: &'a Option<Name>,
         context: &'a Option<Name>,
         wait: bool,
-        wanted: &mut Wanted,
+        place: &mut Asked,
     ) -> Asks
         ensures asks { result ≡ Asks.Call }
-        ensures put { wanted.new
+        ensures put { as_wanted place.new
             ≡ record { call = Call.BeginContext (handle self.now device.now) (handle self.now context.now); wait = wait } }
     {
-        wanted.wait = wait;
-        put(
-            &mut wanted.call,
-            Call::BeginContext {
-                device: self.handle(device),
-                context: self.handle(context),
-            },
-        );
+        place.wait = wait;
+        place.request = Request::BeginContext {
+            device: self.handle(device),
+            context: self.handle(context),
+        };
         Asks::Call
     }
 
@@ -124,9 +118,9 @@ impl<'a> Program<'a> {
     }
 
     /// What a line asks for first, if it makes an event.
-    fn ask_first(&mut self, verb: &'a Verb, wanted: &mut Wanted) -> Asks
-        ensures asked { asked self.old.job wanted.new result ≡ first_call self.old verb.now }
-        ensures call { result ≡ Asks.Call → carries (part_of wanted.new.call) ≡ is_begin wanted.new.call }
+    fn ask_first(&mut self, verb: &'a Verb, place: &mut Asked) -> Asks
+        ensures asked { asked self.old.job (as_wanted place.new) result ≡ first_call self.old verb.now }
+        ensures call { result ≡ Asks.Call → carries (part_of (call_of place.new.request)) ≡ is_begin (call_of place.new.request) }
         ensures other { result ≢ Asks.End }
         ensures issued { self.new ≡ record self.old { canvas = kept_first verb.now self.old.canvas } }
     {
@@ -135,19 +129,19 @@ impl<'a> Program<'a> {
             Verb::Post => self.ask_post(),
             Verb::Discard => self.ask_discard(),
             Verb::Paint(_) => Asks::Nothing,
-            Verb::Tick => ask_phase(wanted, Phase::Contexts { asked: 0, last: 0 }),
-            Verb::Compose { device, context } => self.ask_composed(device, context, true, wanted),
+            Verb::Tick => ask_phase(place, Phase::Contexts { asked: 0, last: 0 }),
+            Verb::Compose { device, context } => self.ask_composed(device, context, true, place),
             Verb::TryCompose { device, context } => {
-                self.ask_composed(device, context, false, wanted)
+                self.ask_composed(device, context, false, place)
             }
-            _ => self.ask_one(verb, wanted),
+            _ => self.ask_one(verb, place),
         }
     }
 
     /// What is asked for next. A Job to be ended stays where it is held, and a canvas goes out.
-    pub(crate) fn asks(&mut self, wanted: &mut Wanted) -> Asks
-        ensures asked { asked self.old.job wanted.new result ≡ next self.old }
-        ensures call { result ≡ Asks.Call → carries (part_of wanted.new.call) ≡ is_begin wanted.new.call }
+    pub(crate) fn asks(&mut self, place: &mut Asked) -> Asks
+        ensures asked { asked self.old.job (as_wanted place.new) result ≡ next self.old }
+        ensures call { result ≡ Asks.Call → carries (part_of (call_of place.new.request)) ≡ is_begin (call_of place.new.request) }
         ensures end { result ≡ Asks.End → is_ending self.old ≡ true }
         ensures issued { self.new ≡ handed self.old result }
     {
@@ -155,37 +149,31 @@ impl<'a> Program<'a> {
             return Asks::Nothing;
         };
         match self.stage {
-            Stage::Fresh => self.ask_first(&line.verb, wanted),
+            Stage::Fresh => self.ask_first(&line.verb, place),
             Stage::Posting => self.ask_post(),
-            Stage::Ticking(phase) => ask_phase(wanted, phase),
+            Stage::Ticking(phase) => ask_phase(place, phase),
             Stage::Ending(_) => Asks::End,
         }
     }
 
-    /// Hands the Job out, to be ended.
-    #[inline(never)]
-    fn end(&mut self, wanted: &mut Wanted) -> bool
-        ensures wanted { IsPut (option_map (λ job. plain (Call.End job)) self.old.job) wanted.new result }
-        ensures issued { self.new ≡ record self.old { job = None } }
+    /// The call that was asked for. What it carries goes out with it.
+    pub(crate) fn wanted(&mut self, asks: Asks, place: Asked) -> Option<Wanted>
+        ensures wanted { result ≡ asked self.old.job (as_wanted place) asks }
+        ensures issued { self.new ≡ given self.old asks }
     {
-        match self.job.take() {
-            Some(job) => ask(wanted, Call::End(job)),
-            None => false,
-        }
-    }
-
-    /// The next call, as `next` gives it, if there is one: it is put where one stood.
-    pub(crate) fn next_into(&mut self, wanted: &mut Wanted) -> bool
-        ensures wanted { IsPut (next self.old) wanted.new result }
-        ensures issued { self.new ≡ issued self.old }
-    {
-        match self.asks(wanted) {
-            Asks::Nothing => false,
-            Asks::Call => true,
-            Asks::Acquire { stream } => ask(wanted, Call::Acquire { stream }),
-            Asks::Post(canvas) => ask(wanted, Call::Post(canvas)),
-            Asks::Discard(canvas) => ask(wanted, Call::Discard(canvas)),
-            Asks::End => self.end(wanted),
+        match asks {
+            Asks::Nothing => None,
+            Asks::Call => Some(Wanted {
+                call: place.request.call(),
+                wait: place.wait,
+            }),
+            Asks::Acquire { stream } => Some(plain(Call::Acquire { stream })),
+            Asks::Post(canvas) => Some(plain(Call::Post(canvas))),
+            Asks::Discard(canvas) => Some(plain(Call::Discard(canvas))),
+            Asks::End => match self.job.take() {
+                Some(job) => Some(plain(Call::End(job))),
+                None => None,
+            },
         }
     }
 

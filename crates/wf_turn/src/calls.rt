@@ -1,16 +1,17 @@
 //! The calls of lines that are one call and wait for nothing.
 
 ghost use Rattle.std.specs.Prelude.{◌≡◌, true};
+ghost use Rattle.wf_calls.specs.Requests.{call_of};
 ghost use Rattle.wf_turn.specs.Calls.{IsPut, context_call, display_line, element_call, plain_call, set_to, source_call};
 ghost use Rattle.wf_turn.specs.Program.{handle};
 
 use crate::program::Program;
-use wf_calls::Call;
+use wf_calls::Request;
 use wf_script::{Value, Verb};
 
 /// Puts a call where another one stood.
 #[inline(always)]
-pub(crate) fn put(place: &mut Call, call: Call) -> bool
+pub(crate) fn put(place: &mut Request, call: Request) -> bool
     ensures given { result ≡ true }
     ensures put { place.new ≡ call }
 {
@@ -30,13 +31,13 @@ impl<'a> Program<'a> {
     }
 
     /// The call of a line of the display, if it is such a line: it is put where a call stood.
-    fn display_line(&self, verb: &'a Verb, call: &mut Call) -> bool
-        ensures { IsPut (display_line (handle self.now) verb.now) call.new result }
+    fn display_line(&self, verb: &'a Verb, call: &mut Request) -> bool
+        ensures { IsPut (display_line (handle self.now) verb.now) (call_of call.new) result }
     {
         match verb {
             Verb::PortSet { port, attr, value } => put(
                 call,
-                Call::PortSet {
+                Request::PortSet {
                     port: *port,
                     attr: *attr,
                     value: self.set_to(value),
@@ -44,7 +45,7 @@ impl<'a> Program<'a> {
             ),
             Verb::PortGet { port, attr, index } => put(
                 call,
-                Call::PortGet {
+                Request::PortGet {
                     port: *port,
                     attr: *attr,
                     index: *index,
@@ -52,14 +53,14 @@ impl<'a> Program<'a> {
             ),
             Verb::Attach { port, on } => put(
                 call,
-                Call::Attach {
+                Request::Attach {
                     port: *port,
                     on: *on,
                 },
             ),
             Verb::PipeSet { pipe, attr, value } => put(
                 call,
-                Call::PipeSet {
+                Request::PipeSet {
                     pipe: *pipe,
                     attr: *attr,
                     value: self.set_to(value),
@@ -67,7 +68,7 @@ impl<'a> Program<'a> {
             ),
             Verb::PipeGet { pipe, attr, index } => put(
                 call,
-                Call::PipeGet {
+                Request::PipeGet {
                     pipe: *pipe,
                     attr: *attr,
                     index: *index,
@@ -75,21 +76,21 @@ impl<'a> Program<'a> {
             ),
             Verb::PipeBindPort { pipe, port } => put(
                 call,
-                Call::PipeBindPort {
+                Request::PipeBindPort {
                     pipe: *pipe,
                     port: *port,
                 },
             ),
             Verb::DisplaySource { pipe, stream } => put(
                 call,
-                Call::DisplaySource {
+                Request::DisplaySource {
                     pipe: *pipe,
                     stream: self.handle(stream),
                 },
             ),
             Verb::DisplaySourceDestroy { source } => put(
                 call,
-                Call::DisplaySourceDestroy {
+                Request::DisplaySourceDestroy {
                     source: self.handle(source),
                 },
             ),
@@ -99,23 +100,23 @@ impl<'a> Program<'a> {
                 transition,
             } => put(
                 call,
-                Call::PipeBindSource {
+                Request::PipeBindSource {
                     pipe: *pipe,
                     source: self.handle(source),
                     transition: *transition,
                 },
             ),
-            Verb::CommitDevice => put(call, Call::CommitDevice),
-            Verb::CommitPort { port } => put(call, Call::CommitPort { port: *port }),
-            Verb::CommitPipe { pipe } => put(call, Call::CommitPipe { pipe: *pipe }),
-            Verb::DisplayError => put(call, Call::DisplayError),
+            Verb::CommitDevice => put(call, Request::CommitDevice),
+            Verb::CommitPort { port } => put(call, Request::CommitPort { port: *port }),
+            Verb::CommitPipe { pipe } => put(call, Request::CommitPipe { pipe: *pipe }),
+            Verb::DisplayError => put(call, Request::DisplayError),
             _ => false,
         }
     }
 
     /// The call of a line of a source, a mask or the display, if it is such a line: it is put where a call stood.
-    fn source_call(&self, verb: &'a Verb, call: &mut Call) -> bool
-        ensures { IsPut (source_call (handle self.now) verb.now) call.new result }
+    fn source_call(&self, verb: &'a Verb, call: &mut Request) -> bool
+        ensures { IsPut (source_call (handle self.now) verb.now) (call_of call.new) result }
     {
         match verb {
             Verb::SourceNew {
@@ -124,7 +125,7 @@ impl<'a> Program<'a> {
                 stream,
             } => put(
                 call,
-                Call::SourceNew {
+                Request::SourceNew {
                     device: self.handle(device),
                     context: self.handle(context),
                     stream: self.handle(stream),
@@ -132,7 +133,7 @@ impl<'a> Program<'a> {
             ),
             Verb::SourceDestroy { device, source } => put(
                 call,
-                Call::SourceDestroy {
+                Request::SourceDestroy {
                     device: self.handle(device),
                     source: self.handle(source),
                 },
@@ -143,7 +144,7 @@ impl<'a> Program<'a> {
                 stream,
             } => put(
                 call,
-                Call::MaskNew {
+                Request::MaskNew {
                     device: self.handle(device),
                     context: self.handle(context),
                     stream: self.handle(stream),
@@ -151,7 +152,7 @@ impl<'a> Program<'a> {
             ),
             Verb::MaskDestroy { device, mask } => put(
                 call,
-                Call::MaskDestroy {
+                Request::MaskDestroy {
                     device: self.handle(device),
                     mask: self.handle(mask),
                 },
@@ -161,13 +162,13 @@ impl<'a> Program<'a> {
     }
 
     /// The call of a line of an element, a source or a mask, if it is such a line: it is put where a call stood.
-    fn element_call(&self, verb: &'a Verb, call: &mut Call) -> bool
-        ensures { IsPut (element_call (handle self.now) verb.now) call.new result }
+    fn element_call(&self, verb: &'a Verb, call: &mut Request) -> bool
+        ensures { IsPut (element_call (handle self.now) verb.now) (call_of call.new) result }
     {
         match verb {
             Verb::ElementNew { device, context } => put(
                 call,
-                Call::ElementNew {
+                Request::ElementNew {
                     device: self.handle(device),
                     context: self.handle(context),
                 },
@@ -179,7 +180,7 @@ impl<'a> Program<'a> {
                 value,
             } => put(
                 call,
-                Call::ElementSet {
+                Request::ElementSet {
                     device: self.handle(device),
                     element: self.handle(element),
                     attr: *attr,
@@ -193,7 +194,7 @@ impl<'a> Program<'a> {
                 index,
             } => put(
                 call,
-                Call::ElementGet {
+                Request::ElementGet {
                     device: self.handle(device),
                     element: self.handle(element),
                     attr: *attr,
@@ -206,7 +207,7 @@ impl<'a> Program<'a> {
                 below,
             } => put(
                 call,
-                Call::ElementInsert {
+                Request::ElementInsert {
                     device: self.handle(device),
                     element: self.handle(element),
                     below: self.handle(below),
@@ -214,28 +215,28 @@ impl<'a> Program<'a> {
             ),
             Verb::ElementRemove { device, element } => put(
                 call,
-                Call::ElementRemove {
+                Request::ElementRemove {
                     device: self.handle(device),
                     element: self.handle(element),
                 },
             ),
             Verb::ElementAbove { device, element } => put(
                 call,
-                Call::ElementAbove {
+                Request::ElementAbove {
                     device: self.handle(device),
                     element: self.handle(element),
                 },
             ),
             Verb::ElementBelow { device, element } => put(
                 call,
-                Call::ElementBelow {
+                Request::ElementBelow {
                     device: self.handle(device),
                     element: self.handle(element),
                 },
             ),
             Verb::ElementDestroy { device, element } => put(
                 call,
-                Call::ElementDestroy {
+                Request::ElementDestroy {
                     device: self.handle(device),
                     element: self.handle(element),
                 },
@@ -245,20 +246,20 @@ impl<'a> Program<'a> {
     }
 
     /// The call of a line of a context or of what is in it, if it is such a line: it is put where a call stood.
-    fn context_call(&self, verb: &'a Verb, call: &mut Call) -> bool
-        ensures { IsPut (context_call (handle self.now) verb.now) call.new result }
+    fn context_call(&self, verb: &'a Verb, call: &mut Request) -> bool
+        ensures { IsPut (context_call (handle self.now) verb.now) (call_of call.new) result }
     {
         match verb {
             Verb::ScreenContext { device, port } => put(
                 call,
-                Call::ScreenContext {
+                Request::ScreenContext {
                     device: self.handle(device),
                     port: *port,
                 },
             ),
             Verb::StreamContext { device, stream } => put(
                 call,
-                Call::StreamContext {
+                Request::StreamContext {
                     device: self.handle(device),
                     stream: self.handle(stream),
                 },
@@ -270,7 +271,7 @@ impl<'a> Program<'a> {
                 value,
             } => put(
                 call,
-                Call::ContextSet {
+                Request::ContextSet {
                     device: self.handle(device),
                     context: self.handle(context),
                     attr: *attr,
@@ -284,7 +285,7 @@ impl<'a> Program<'a> {
                 index,
             } => put(
                 call,
-                Call::ContextGet {
+                Request::ContextGet {
                     device: self.handle(device),
                     context: self.handle(context),
                     attr: *attr,
@@ -293,28 +294,28 @@ impl<'a> Program<'a> {
             ),
             Verb::Commit { device, context } => put(
                 call,
-                Call::Commit {
+                Request::Commit {
                     device: self.handle(device),
                     context: self.handle(context),
                 },
             ),
             Verb::Activate { device, context } => put(
                 call,
-                Call::Activate {
+                Request::Activate {
                     device: self.handle(device),
                     context: self.handle(context),
                 },
             ),
             Verb::Deactivate { device, context } => put(
                 call,
-                Call::Deactivate {
+                Request::Deactivate {
                     device: self.handle(device),
                     context: self.handle(context),
                 },
             ),
             Verb::ContextDestroy { device, context } => put(
                 call,
-                Call::ContextDestroy {
+                Request::ContextDestroy {
                     device: self.handle(device),
                     context: self.handle(context),
                 },
@@ -324,8 +325,8 @@ impl<'a> Program<'a> {
     }
 
     /// The call of a line that is one call and waits for nothing, if it is such a line: it is put where a call stood.
-    pub(crate) fn plain_call(&self, verb: &'a Verb, call: &mut Call) -> bool
-        ensures { IsPut (plain_call (handle self.now) verb.now) call.new result }
+    pub(crate) fn plain_call(&self, verb: &'a Verb, call: &mut Request) -> bool
+        ensures { IsPut (plain_call (handle self.now) verb.now) (call_of call.new) result }
     {
         match verb {
             Verb::StreamNew {
@@ -335,7 +336,7 @@ impl<'a> Program<'a> {
                 buffers,
             } => put(
                 call,
-                Call::StreamNew {
+                Request::StreamNew {
                     width: *width,
                     height: *height,
                     format: *format,
@@ -344,21 +345,21 @@ impl<'a> Program<'a> {
             ),
             Verb::StreamDestroy { stream } => put(
                 call,
-                Call::StreamDestroy {
+                Request::StreamDestroy {
                     stream: self.handle(stream),
                 },
             ),
-            Verb::Stat { what } => put(call, Call::Stat { what: *what }),
-            Verb::DeviceNew => put(call, Call::DeviceNew),
+            Verb::Stat { what } => put(call, Request::Stat { what: *what }),
+            Verb::DeviceNew => put(call, Request::DeviceNew),
             Verb::DeviceDestroy { device } => put(
                 call,
-                Call::DeviceDestroy {
+                Request::DeviceDestroy {
                     device: self.handle(device),
                 },
             ),
             Verb::GetError { device } => put(
                 call,
-                Call::GetError {
+                Request::GetError {
                     device: self.handle(device),
                 },
             ),

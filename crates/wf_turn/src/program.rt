@@ -14,10 +14,10 @@ ghost use Rattle.wf_turn.specs.Ready.{IsFit};
 use crate::names::Names;
 use crate::setup::setup_lines;
 use crate::skipping::skip;
-use crate::stage::{Stage, Wanted};
+use crate::stage::{Asked, Stage, Wanted};
 use std::alloc::Global;
 use std::marker::Model;
-use wf_calls::{Call, Job};
+use wf_calls::{Job, Request};
 use wf_image::Canvas;
 use wf_script::{Line, Name, Script};
 use wf_words::NoMemory;
@@ -52,10 +52,9 @@ impl<'a> Model for Program<'a> {
 }
 
 /// Where a call is put that a program asks for: any call.
-#[inline(always)]
-pub(crate) fn unasked() -> Wanted {
-    Wanted {
-        call: Call::DeviceNew,
+pub(crate) fn unasked() -> Asked {
+    Asked {
+        request: Request::DeviceNew,
         wait: false,
     }
 }
@@ -131,12 +130,9 @@ impl<'a> Program<'a> {
         ensures through { IsFit self.old → IfNone result (place_of self.old ≡ None) }
         ensures same { IsFit self.old → IfNone result (self.new ≡ self.old) }
     {
-        let mut wanted = unasked();
-        if self.next_into(&mut wanted) {
-            Some(wanted)
-        } else {
-            None
-        }
+        let mut place = unasked();
+        let asks = self.asks(&mut place);
+        self.wanted(asks, place)
     }
 
     /// The client whose program it is.

@@ -18,7 +18,7 @@ ghost use Rattle.wf_turn.specs.Turns.{is_over, opening_show};
 use crate::program::{Program, unasked};
 use crate::retaking::{OUT_OF_MEMORY, retake};
 use crate::show::{hand_on, open_programs, put_job};
-use crate::stage::Wanted;
+use crate::stage::Asked;
 use std::alloc::Global;
 use std::marker::Model;
 use wf_calls::Turn;
@@ -36,7 +36,7 @@ pub(crate) struct Replayer<'a> {
     machine: Machine,
     clock: Program<'a>,
     others: Vec<Program<'a>>,
-    wanted: Wanted,
+    place: Asked,
     turns: u32,
 }
 
@@ -83,7 +83,7 @@ fn retake_of<P: Painter>(
     others: &mut Vec<Program>,
     client: usize,
     memory_refused: bool,
-    wanted: &mut Wanted,
+    place: &mut Asked,
     painter: &mut P,
 ) -> Result<Option<(Turn, bool)>, NoMemory>
     requires within { client < 8 }
@@ -93,7 +93,7 @@ fn retake_of<P: Painter>(
         x.0 x.1)) }
 {
     if client == 0 {
-        retake(machine, clock, 0, memory_refused, wanted, painter)
+        retake(machine, clock, 0, memory_refused, place, painter)
     } else {
         let other = &mut others[client - 1];
         retake(
@@ -101,7 +101,7 @@ fn retake_of<P: Painter>(
             other,
             client as u8,
             memory_refused,
-            wanted,
+            place,
             painter,
         )
     }
@@ -120,7 +120,7 @@ impl<'a> Replayer<'a> {
             machine,
             clock,
             others,
-            wanted: unasked(),
+            place: unasked(),
             turns: 0,
         })
     }
@@ -148,7 +148,7 @@ impl<'a> Replayer<'a> {
             &mut self.others,
             client,
             entry.code == OUT_OF_MEMORY,
-            &mut self.wanted,
+            &mut self.place,
             painter,
         );
         let taken = match taken {

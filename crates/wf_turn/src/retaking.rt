@@ -2,14 +2,13 @@
 
 ghost use Rattle.std.specs.Prelude.{◌≡◌, ◌&&◌, IfOk, MatchOption, None, false, not, true};
 ghost use Rattle.wf_machine.specs.Object.{is_ready};
-ghost use Rattle.wf_turn.specs.Asked.{is_stuck};
+ghost use Rattle.wf_turn.specs.Asked.{as_wanted, is_stuck};
 ghost use Rattle.wf_turn.specs.Ready.{IsFit};
 ghost use Rattle.wf_turn.specs.Replayed.{MarkedAnswers, Retakes, TakesAgain, wanted_now};
 
 use crate::program::Program;
-use crate::stage::{Asks, Wanted};
+use crate::stage::{Asked, Asks, Wanted};
 use crate::turning::take_asked;
-use std::mem;
 use wf_calls::{Call, Turn};
 use wf_kernel::Painter;
 use wf_machine::Machine;
@@ -20,10 +19,10 @@ pub(crate) const OUT_OF_MEMORY: u8 = 1;
 
 /// The machine answers the next call of a program, to which memory is refused.
 #[inline(never)]
-fn deny_turn(machine: &mut Machine, program: &mut Program, client: u8, call: &mut Call) -> Turn
-    ensures { MarkedAnswers true client machine.old machine.new call.old program.old program.new result }
+fn deny_turn(machine: &mut Machine, program: &mut Program, client: u8, call: Call) -> Turn
+    ensures { MarkedAnswers true client machine.old machine.new call program.old program.new result }
 {
-    let reply = machine.deny(client, mem::replace(call, Call::DeviceNew));
+    let reply = machine.deny(client, call);
     let turn = reply.entry(client);
     program.took(reply);
     turn
@@ -37,31 +36,27 @@ fn waits(machine: &Machine, wanted: &Wanted) -> bool
 }
 
 /// One turn of a program, to which memory is refused; or none where it has no turn now.
-fn retake_denied(
-    machine: &mut Machine,
-    program: &mut Program,
-    client: u8,
-    wanted: &mut Wanted,
-) -> Option<Turn>
+#[inline(never)]
+fn retake_denied(machine: &mut Machine, program: &mut Program, client: u8) -> Option<Turn>
     requires { IsFit program.old }
     ensures { TakesAgain true client machine.old machine.new program.old program.new result }
 {
-    if !program.next_into(wanted) {
+    let Some(wanted) = program.next() else {
+        return None;
+    };
+    if waits(machine, &wanted) {
         return None;
     }
-    if waits(machine, wanted) {
-        return None;
-    }
-    Some(deny_turn(machine, program, client, &mut wanted.call))
+    Some(deny_turn(machine, program, client, wanted.call))
 }
 
 /// Whether a program has no turn now: its lines are through, or its call waits and a frame runs.
-fn is_stuck(machine: &Machine, asks: &Asks, wanted: &Wanted) -> bool
-    ensures { result ≡ is_stuck machine.now asks.now wanted.now }
+fn is_stuck(machine: &Machine, asks: &Asks, place: &Asked) -> bool
+    ensures { result ≡ is_stuck machine.now asks.now (as_wanted place.now) }
 {
     match asks {
         Asks::Nothing => true,
-        Asks::Call => waits(machine, wanted),
+        Asks::Call => place.wait && !machine.ready_for(&place.request),
         _ => false,
     }
 }
@@ -71,16 +66,16 @@ fn retake_plain(
     machine: &mut Machine,
     program: &mut Program,
     client: u8,
-    wanted: &mut Wanted,
+    place: &mut Asked,
 ) -> Result<Option<Turn>, NoMemory>
     requires { IsFit program.old }
     ensures { IfOk result (TakesAgain false client machine.old machine.new program.old program.new) }
 {
-    let asks = program.asks(wanted);
-    if is_stuck(machine, &asks, wanted) {
+    let asks = program.asks(place);
+    if is_stuck(machine, &asks, place) {
         return Ok(None);
     }
-    let turn = take_asked(machine, program, client, asks, wanted);
+    let turn = take_asked(machine, program, client, asks, place);
     if turn.code == OUT_OF_MEMORY {
         return Err(NoMemory);
     }
@@ -93,15 +88,15 @@ fn retake_unpainted(
     program: &mut Program,
     client: u8,
     memory_refused: bool,
-    wanted: &mut Wanted,
+    place: &mut Asked,
 ) -> Result<Option<Turn>, NoMemory>
     requires { IsFit program.old }
     ensures { IfOk result (TakesAgain memory_refused client machine.old machine.new program.old program.new) }
 {
     if memory_refused {
-        Ok(retake_denied(machine, program, client, wanted))
+        Ok(retake_denied(machine, program, client))
     } else {
-        retake_plain(machine, program, client, wanted)
+        retake_plain(machine, program, client, place)
     }
 }
 
@@ -113,14 +108,14 @@ pub(crate) fn retake<P: Painter>(
     program: &mut Program,
     client: u8,
     memory_refused: bool,
-    wanted: &mut Wanted,
+    place: &mut Asked,
     painter: &mut P,
 ) -> Result<Option<(Turn, bool)>, NoMemory>
     requires { IsFit program.old }
     ensures { IfOk result (λ taken. MatchOption taken (wanted_now machine.old program.old ≡ None)
         (λ x. Retakes memory_refused client machine.old machine.new program.old program.new x.0 x.1)) }
 {
-    match retake_unpainted(machine, program, client, memory_refused, wanted)? {
+    match retake_unpainted(machine, program, client, memory_refused, place)? {
         Some(turn) => Ok(Some((turn, program.paint(painter)))),
         None => Ok(None),
     }

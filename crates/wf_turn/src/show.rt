@@ -16,7 +16,7 @@ ghost use Rattle.wf_turn.specs.Serial.{IsFirst};
 ghost use Rattle.wf_turn.specs.Turns.{opening_show, shown};
 
 use crate::program::{Program, unasked};
-use crate::stage::Wanted;
+use crate::stage::Asked;
 use crate::turning::take_turn;
 use std::alloc::Global;
 use std::marker::Model;
@@ -38,7 +38,7 @@ pub(crate) struct Show<'a> {
     machine: Machine,
     clock: Program<'a>,
     others: Vec<Program<'a>>,
-    wanted: Wanted,
+    place: Asked,
     turns: u32,
 }
 
@@ -116,16 +116,16 @@ fn take_turn_of(
     clock: &mut Program,
     others: &mut Vec<Program>,
     client: usize,
-    wanted: &mut Wanted,
+    place: &mut Asked,
 ) -> Turn
     requires within { client < 8 }
     requires ready { IsSomeAnd (slice_get (clock.old ∷ others.old.items) client) (IsReady machine.old) }
     ensures { TakesTurnAt client machine.old machine.new (clock.old ∷ others.old.items) (clock.new ∷ others.new.items) result }
 {
     if client == 0 {
-        take_turn(machine, clock, 0, wanted)
+        take_turn(machine, clock, 0, place)
     } else {
-        take_turn(machine, &mut others[client - 1], client as u8, wanted)
+        take_turn(machine, &mut others[client - 1], client as u8, place)
     }
 }
 
@@ -164,7 +164,7 @@ impl<'a> Show<'a> {
             machine,
             clock,
             others,
-            wanted: unasked(),
+            place: unasked(),
             turns: 0,
         })
     }
@@ -208,7 +208,7 @@ impl<'a> Show<'a> {
             &mut self.clock,
             &mut self.others,
             client,
-            &mut self.wanted,
+            &mut self.place,
         );
         hand_on(was_setup, &self.clock, &mut self.others);
         self.turns += 1;

@@ -1,6 +1,6 @@
 //! Where a program stands in its first line.
 
-use wf_calls::Call;
+use wf_calls::{Call, Request};
 use wf_image::Canvas;
 
 /// What a tick asks for next.
@@ -29,6 +29,13 @@ pub enum Stage {
 #[derive(Drop)]
 pub struct Wanted {
     pub call: Call,
+    pub wait: bool,
+}
+
+/// A call that a program asks for and that brings nothing, and whether it waits until no frame runs.
+#[derive(Clone, Copy)]
+pub struct Asked {
+    pub request: Request,
     pub wait: bool,
 }
 

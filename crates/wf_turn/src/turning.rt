@@ -4,14 +4,15 @@ ghost use Rattle.std.specs.Prelude.{◌≡◌, ◌≢◌, true, IfSome, IsSome, 
 ghost use Rattle.wf_calls.specs.Codes.{entry};
 ghost use Rattle.wf_calls.specs.Parts.{carries, is_begin, part_of};
 ghost use Rattle.wf_calls.specs.Replies.{with_canvas};
-ghost use Rattle.wf_turn.specs.Asked.{asked, is_ending, takes_job};
+ghost use Rattle.wf_calls.specs.Requests.{call_of};
+ghost use Rattle.wf_turn.specs.Asked.{as_wanted, asked, is_ending, takes_job};
 ghost use Rattle.wf_turn.specs.Playing.{Answers, IsReady, TakesTurn};
 ghost use Rattle.wf_turn.specs.Program.{is_work, took, worked};
 ghost use Rattle.wf_turn.specs.Ready.{IsWork};
 
 use crate::program::Program;
-use crate::stage::{Asks, Wanted};
-use wf_calls::{Answer, Call, Turn};
+use crate::stage::{Asked, Asks};
+use wf_calls::{Answer, Call, Request, Turn};
 use wf_image::Canvas;
 use wf_machine::Machine;
 
@@ -21,14 +22,14 @@ pub(crate) fn take_turn(
     machine: &mut Machine,
     program: &mut Program,
     client: u8,
-    wanted: &mut Wanted,
+    place: &mut Asked,
 ) -> Turn
     requires { IsReady machine.old program.old }
     ensures takes { TakesTurn client machine.old machine.new program.old (worked program.new) result (is_work program.new) }
     ensures work { IsWork program.new }
 {
-    let asks = program.asks(wanted);
-    take_asked(machine, program, client, asks, wanted)
+    let asks = program.asks(place);
+    take_asked(machine, program, client, asks, place)
 }
 
 /// The machine answers what a program asks for, and the program takes the answer. No Job is moved, neither where a frame begins
@@ -38,18 +39,18 @@ pub(crate) fn take_asked(
     program: &mut Program,
     client: u8,
     asks: Asks,
-    wanted: &Wanted,
+    place: &Asked,
 ) -> Turn
     requires some { asks ≢ Asks.Nothing }
-    requires call { asks ≡ Asks.Call → carries (part_of wanted.now.call) ≡ is_begin wanted.now.call }
-    requires begins { asks ≡ Asks.Call → is_begin wanted.now.call ≡ true → takes_job program.old ≡ true }
+    requires call { asks ≡ Asks.Call → carries (part_of (call_of place.now.request)) ≡ is_begin (call_of place.now.request) }
+    requires begins { asks ≡ Asks.Call → is_begin (call_of place.now.request) ≡ true → takes_job program.old ≡ true }
     requires ends { asks ≡ Asks.End → (is_ending program.old ≡ true) × IsSome program.old.job }
-    ensures { IfSome (asked program.old.job wanted.now asks)
+    ensures { IfSome (asked program.old.job (as_wanted place.now) asks)
         (λ w. Answers client machine.old machine.new w.call program.old program.new result) }
 {
     match asks {
         Asks::Nothing => unreachable!(),
-        Asks::Call => take_called(machine, program, client, &wanted.call),
+        Asks::Call => take_called(machine, program, client, &place.request),
         Asks::Acquire { stream } => take_canvas(program, client, machine.acquire(client, stream)),
         Asks::Post(canvas) => take_canvas(program, client, machine.post(client, canvas)),
         Asks::Discard(canvas) => take_canvas(program, client, machine.discard(client, canvas)),
@@ -58,10 +59,10 @@ pub(crate) fn take_asked(
 }
 
 /// The turn of a call that carries nothing, or begins a frame.
-fn take_called(machine: &mut Machine, program: &mut Program, client: u8, call: &Call) -> Turn
-    requires call { carries (part_of call.now) ≡ is_begin call.now }
-    requires begins { is_begin call.now ≡ true → takes_job program.old ≡ true }
-    ensures { Answers client machine.old machine.new call.now program.old program.new result }
+fn take_called(machine: &mut Machine, program: &mut Program, client: u8, call: &Request) -> Turn
+    requires call { carries (part_of (call_of call.now)) ≡ is_begin (call_of call.now) }
+    requires begins { is_begin (call_of call.now) ≡ true → takes_job program.old ≡ true }
+    ensures { Answers client machine.old machine.new (call_of call.now) program.old program.new result }
 {
     match machine.answer(client, call) {
         Some(answer) => {
@@ -73,10 +74,10 @@ fn take_called(machine: &mut Machine, program: &mut Program, client: u8, call: &
 }
 
 /// The turn of a call that begins a frame: the Job is put where the program holds it.
-fn take_begin(machine: &mut Machine, program: &mut Program, client: u8, call: &Call) -> Turn
-    requires call { IsTrue (is_begin call.now) }
+fn take_begin(machine: &mut Machine, program: &mut Program, client: u8, call: &Request) -> Turn
+    requires call { IsTrue (is_begin (call_of call.now)) }
     requires begins { takes_job program.old ≡ true }
-    ensures { Answers client machine.old machine.new call.now program.old program.new result }
+    ensures { Answers client machine.old machine.new (call_of call.now) program.old program.new result }
 {
     let answer = machine.begin(client, call, &mut program.job);
     program.took_begun(answer);

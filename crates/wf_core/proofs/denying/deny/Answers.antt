@@ -1,8 +1,9 @@
 use Rattle.std.proofs.Common.{◌≡◌, true, refl}
 use Rattle.wf_calls.specs.Creations.{is_creation}
 use Rattle.wf_calls.specs.Parts.{is_of_core, part_of}
-use Rattle.wf_calls.specs.declared.call.Call.{Call}
-use Rattle.wf_calls.specs.declared.call.Call.TheVariants as call
+use Rattle.wf_calls.specs.Requests.{call_of}
+use Rattle.wf_calls.specs.declared.request.Request.{Request}
+use Rattle.wf_calls.specs.declared.request.Request.TheVariants as request
 use Rattle.wf_model.specs.Core.{device_new}
 use Rattle.wf_objects.specs.Does.{refuses}
 use Rattle.wf_objects.specs.Sides.{core_side_of}
@@ -13,15 +14,15 @@ use Rattle.wf_core.proofs.denying.deny.Goals as goal
 pub unreachable-requires : goal.unreachable-requires
 unreachable-requires c = of_call c.args.call.now refl c.requires.creation c.requires.ours
   where
-    of_call : (x : Call) → c.args.call.now ≡ x → is_creation x ≡ true → is_of_core (part_of x) ≡ true → ⊥
-    of_call call.DeviceNew is made ours = c.in_default.not-DeviceNew is
-    of_call (call.ScreenContext d p) is made ours = c.in_default.not-ScreenContext d p is
-    of_call (call.StreamContext d s) is made ours = c.in_default.not-StreamContext d s is
-    of_call (call.ElementNew d x) is made ours = c.in_default.not-ElementNew d x is
-    of_call (call.SourceNew d x s) is made ours = c.in_default.not-SourceNew d x s is
-    of_call (call.MaskNew d x s) is made ours = c.in_default.not-MaskNew d x s is
-    of_call (call.StreamNew w h f b) is made ours = absurd cc
-    of_call (call.DisplaySource l s) is made ours = absurd cc
+    of_call : (x : Request) → c.args.call.now ≡ x → is_creation (call_of x) ≡ true → is_of_core (part_of (call_of x)) ≡ true → ⊥
+    of_call request.DeviceNew is made ours = c.in_default.not-DeviceNew is
+    of_call (request.ScreenContext d p) is made ours = c.in_default.not-ScreenContext d p is
+    of_call (request.StreamContext d s) is made ours = c.in_default.not-StreamContext d s is
+    of_call (request.ElementNew d x) is made ours = c.in_default.not-ElementNew d x is
+    of_call (request.SourceNew d x s) is made ours = c.in_default.not-SourceNew d x s is
+    of_call (request.MaskNew d x s) is made ours = c.in_default.not-MaskNew d x s is
+    of_call (request.StreamNew w h f b) is made ours = absurd cc
+    of_call (request.DisplaySource l s) is made ours = absurd cc
     of_call _ is made ours = absurd cc
 
 pub returns-in-DeviceNew : goal.returns-in-DeviceNew

@@ -1,4 +1,5 @@
 use Rattle.wf_turn.proofs.Common.{IsFit, IsSome, Program, TakesTurn, is_work, next, place_of, worked, IsWork}
+use Rattle.wf_turn.specs.Asked.{as_wanted}
 use Rattle.wf_turn.proofs.Asked.{asked_answers, begins_asked, ends_asked, some_asked, wanted_of}
 use Rattle.wf_turn.proofs.Fitting.{wants}
 use Rattle.wf_turn.proofs.Turnings.{has_line, turn_taken}
@@ -10,17 +11,17 @@ more p fit has = (let line = has_line p has in wants p line.0 fit line.1)
 
 pub take_asked-requires-clause-some : goal.take_asked-requires-clause-some
 take_asked-requires-clause-some c =
-    some_asked c.args.program.now c.asks-asks.new.self c.asks-asks.result c.asks-asks.new.wanted
+    some_asked c.args.program.now c.asks-asks.new.self c.asks-asks.result (as_wanted c.asks-asks.new.place)
     c.asks-asks.ensures.asked c.asks-asks.ensures.issued (more c.args.program.now c.requires.fit c.requires.more)
 
 pub take_asked-requires-clause-begins : goal.take_asked-requires-clause-begins
 take_asked-requires-clause-begins c =
-    begins_asked c.args.program.now c.asks-asks.new.self c.asks-asks.result c.asks-asks.new.wanted
+    begins_asked c.args.program.now c.asks-asks.new.self c.asks-asks.result (as_wanted c.asks-asks.new.place)
     c.asks-asks.ensures.asked c.asks-asks.ensures.issued
 
 pub take_asked-requires-clause-ends : goal.take_asked-requires-clause-ends
 take_asked-requires-clause-ends c =
-    ends_asked c.args.program.now c.asks-asks.new.self c.asks-asks.result c.asks-asks.new.wanted
+    ends_asked c.args.program.now c.asks-asks.new.self c.asks-asks.result (as_wanted c.asks-asks.new.place)
     c.asks-asks.ensures.asked c.asks-asks.ensures.issued
     c.requires.fit c.asks-asks.ensures.end
 
@@ -33,7 +34,7 @@ module _ (c : goal.After-take_asked) where
       let w = wanted_of p (more c.args.program.now c.requires.fit c.requires.more) in
       turn_taken c.args.client c.args.machine.now c.take_asked.new.machine p c.take_asked.new.program w.0 c.take_asked.result
       c.requires.fit c.requires.alone w.1
-      (asked_answers p c.asks-asks.new.self c.asks-asks.result c.asks-asks.new.wanted
+      (asked_answers p c.asks-asks.new.self c.asks-asks.result (as_wanted c.asks-asks.new.place)
       c.asks-asks.ensures.asked c.asks-asks.ensures.issued c.args.client
       c.args.machine.now c.take_asked.new.machine c.take_asked.new.program c.take_asked.result w.0 w.1 c.take_asked.ensures)
 

@@ -1,6 +1,7 @@
-use Rattle.wf_machine.proofs.Common.{rules, to_z-of_z, act}
+use Rattle.wf_machine.proofs.Common.{rules, ap, to_z-of_z, act}
 use Rattle.wf_calls.specs.Parts.{no_register, of_device}
 use Rattle.wf_calls.specs.Replies.{with_job}
+use Rattle.wf_calls.specs.Requests.{call_of}
 use Rattle.wf_model.specs.Frames.{begin_composed, begin_next, started}
 use mir.Syntax.{w64}
 use mir.Val.{SFits}
@@ -11,7 +12,7 @@ use Rattle.wf_machine.proofs.parts.Parts.act_begin.Goals as goal
 pub returns-in-BeginNext : goal.returns-in-BeginNext
 unfolding act
 returns-in-BeginNext c =
-    as_begin _ _ _ (call.BeginNext c.in-BeginNext.after) _ c.in-BeginNext.is
+    as_begin _ _ _ (call.BeginNext c.in-BeginNext.after) _ (ap call_of c.in-BeginNext.is)
     (settled_left (started no_register c.args.self.now (begin_next c.in-BeginNext.after c.args.self.now)) _ c.begin_next.ensures.left
     c.begin_next.ensures.settled) c.begin_next.ensures.answer
 
@@ -21,12 +22,12 @@ returns-in-BeginPort c =
     let p : SFits w64 c.in-BeginPort.port = search rules in
     let begun = rw (to_z-of_z p) at c.begin_port.ensures in
     as_begin _ _ _ (call.BeginPort c.in-BeginPort.port)
-    (with_job c.begin_port.result c.begin_port.new.job) c.in-BeginPort.is begun.left begun.answer
+    (with_job c.begin_port.result c.begin_port.new.job) (ap call_of c.in-BeginPort.is) begun.left begun.answer
 
 pub returns-in-BeginContext : goal.returns-in-BeginContext
 unfolding act
 returns-in-BeginContext c =
-    as_begin _ _ _ (call.BeginContext c.in-BeginContext.device c.in-BeginContext.context) _ c.in-BeginContext.is
+    as_begin _ _ _ (call.BeginContext c.in-BeginContext.device c.in-BeginContext.context) _ (ap call_of c.in-BeginContext.is)
     (settled_left (started (of_device c.in-BeginContext.device) c.args.self.now
     (begin_composed c.in-BeginContext.device c.in-BeginContext.context c.args.self.now)) _ c.begin_composed.ensures.left
     c.begin_composed.ensures.settled) c.begin_composed.ensures.answer

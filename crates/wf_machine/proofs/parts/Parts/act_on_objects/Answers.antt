@@ -1,4 +1,5 @@
 use Rattle.wf_machine.proofs.Common.{sym, subst, IfSome, IsOfPixels}
+use Rattle.wf_calls.specs.Requests.{call_of}
 use Rattle.wf_machine.proofs.Screening.{asked_pixels}
 use Rattle.wf_machine.proofs.Acts.{as_composed}
 use Rattle.wf_machine.proofs.Counts.{core_fits, room}
@@ -25,7 +26,7 @@ run-requires-clause-given c =
 pub returns : goal.returns
 returns c =
     as_composed c.self.inside _ c.self.view_is c.self.invariant _ _ c.run.ensures.kept c.run.ensures.names c.run.ensures.fits
-    c.args.call.now
+    (call_of c.args.call.now)
     c.screen_of-screen.result _ c.requires c.screen_of-screen.ensures.screen c.run.ensures
 
 pub invariant_of-self : goal.invariant_of-self

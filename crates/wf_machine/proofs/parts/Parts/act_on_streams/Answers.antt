@@ -1,6 +1,7 @@
 use Rattle.wf_machine.proofs.Common.{rules, ap, sym, to_z-of_z, bare, act}
 use mir.Syntax.{w64}
 use mir.Val.{SFits}
+use Rattle.wf_calls.specs.Requests.{call_of}
 use Rattle.wf_calls.specs.declared.call.Call.TheVariants as call
 use Rattle.wf_machine.proofs.Acts.{as_act, as_settled, plain_answer}
 use Rattle.wf_machine.proofs.parts.Parts.act_on_streams.Goals as goal
@@ -13,7 +14,7 @@ returns-in-StreamNew c =
     let h : SFits w64 c.in-StreamNew.height = search rules in
     let b : SFits w64 c.in-StreamNew.buffers = search rules in
     as_act _ _ _ (call.StreamNew x.width x.height x.format x.buffers)
-    (bare _) x.is
+    (bare _) (ap call_of x.is)
     (as_settled _ _ _ (rw (to_z-of_z w, to_z-of_z h, to_z-of_z b) at c.stream_new.ensures.made) c.stream_new.ensures.settled)
     (plain_answer c.stream_new.result)
 
@@ -22,12 +23,12 @@ unfolding act
 returns-in-StreamDestroy c =
     as_act _ _ _ (call.StreamDestroy c.in-StreamDestroy.stream)
     (bare _)
-    c.in-StreamDestroy.is c.stream_destroy.ensures (plain_answer c.stream_destroy.result)
+    (ap call_of c.in-StreamDestroy.is) c.stream_destroy.ensures (plain_answer c.stream_destroy.result)
 
 pub returns-in-Stat : goal.returns-in-Stat
 unfolding act
 returns-in-Stat c =
-    as_act _ _ _ (call.Stat c.in-Stat.what) (bare _) c.in-Stat.is
+    as_act _ _ _ (call.Stat c.in-Stat.what) (bare _) (ap call_of c.in-Stat.is)
     (as_settled _ _ _ (ap (λ a. (c.args.self.now, bare a)) (sym c.stat.ensures))
     c.all_named.ensures)
     (plain_answer c.stat.result)

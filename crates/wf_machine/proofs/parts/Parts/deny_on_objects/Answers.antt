@@ -1,5 +1,6 @@
 use Rattle.wf_machine.proofs.Common.{true, refl, sym, subst, IfSome, IsOfPixels}
 use Rattle.wf_calls.specs.Replies.{told}
+use Rattle.wf_calls.specs.Requests.{call_of}
 use Rattle.wf_machine.proofs.Screening.{asked_pixels}
 use Rattle.wf_machine.proofs.Acts.{as_bare, as_marked_composed}
 use Rattle.wf_machine.proofs.Renaming.{sound_composed}
@@ -18,9 +19,9 @@ deny-requires-clause-given c =
 
 pub returns : goal.returns
 returns c =
-    as_bare true _ _ c.args.call.now c.deny.result c.deny.ensures.bare
+    as_bare true _ _ (call_of c.args.call.now) c.deny.result c.deny.ensures.bare
     (as_marked_composed c.self.inside _ c.self.view_is c.self.invariant _ c.self.inside.store
-    (record { numbered = refl; others = refl }) c.deny.ensures.names c.deny.ensures.fits true c.args.call.now
+    (record { numbered = refl; others = refl }) c.deny.ensures.names c.deny.ensures.fits true (call_of c.args.call.now)
     c.screen_of-screen.result (told c.deny.result) c.requires.ours c.screen_of-screen.ensures.screen c.deny.ensures.step)
 
 pub invariant_of-self : goal.invariant_of-self

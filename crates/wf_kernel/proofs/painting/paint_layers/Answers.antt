@@ -1,7 +1,7 @@
 use Rattle.std.proofs.Common.{length, ◌∙◌}
 use Rattle.wf_kernel.specs.Bound.{bound_rows}
 use Rattle.wf_kernel.proofs.Banded.{row_count}
-use Rattle.wf_kernel.proofs.painting.paint_many.Goals as goal
+use Rattle.wf_kernel.proofs.painting.paint_layers.Goals as goal
 
 pub returns : goal.returns
 returns c =

@@ -1,6 +1,6 @@
 use Rattle.std.proofs.Common.{◌∙◌}
 use Rattle.wf_kernel.specs.Bound.{bound_rows}
-use Rattle.wf_kernel.proofs.bands.rows_of_many.Goals as goal
+use Rattle.wf_kernel.proofs.bands.rows_of_layers.Goals as goal
 
 pub returns : goal.returns
 returns g c =
