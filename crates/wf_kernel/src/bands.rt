@@ -123,6 +123,7 @@ fn rows_of_layers<R: Threads + Sync, const N: usize>(
     tables: &[[u16; 1024]],
 )
     requires room { length scene.now.layers.items ≤ N }
+    requires small { N ≤ 32 }
     requires some { 1 ≤ workers }
     requires few { workers ≤ 16 }
     requires count { length bytes.old ≡ scene.now.size.w * scene.now.size.h * 4 }

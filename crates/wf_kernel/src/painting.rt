@@ -89,6 +89,7 @@ fn paint_layers<const N: usize>(
     tables: &[[u16; 1024]],
 )
     requires room { length scene.now.layers.items ≤ N }
+    requires small { N ≤ 32 }
     requires count { length bytes.old ≡ scene.now.size.w * scene.now.size.h * 4 }
     requires fits { Fits scene.now contents.now }
     requires tables { AreTables scene.now tables.now }
