@@ -269,15 +269,39 @@ fn begin_strip(
     }
 }
 
-/// Writes one colour into each pixel of a row.
+/// Writes one colour into each pixel of a row, as many as there are of four at a time.
 fn fill(row: &mut [u8], width: u32, color: Rgba)
     requires count { length row.old ≡ 4 * width }
     requires few { width ≤ 1024 }
     ensures { row.new ≡ drawn_row width Format.Rgba8Pre (λ _. color) }
 {
-    for x in 0..width {
+    let fours = width / 4;
+    fill_fours(row, fours, color);
+    for x in 4 * fours..width {
         put_pixel(row, 4 * x as usize, color);
     }
+}
+
+/// Writes one colour into the first pixels of a row, so many times four.
+fn fill_fours(row: &mut [u8], count: u32, color: Rgba)
+    requires room { 16 * count ≤ length row.old }
+    requires few { count ≤ 256 }
+    ensures { row.new ≡ drawn_row (4 * count) Format.Rgba8Pre (λ _. color) ++ drop (16 * count) row.old }
+{
+    let Rgba { r, g, b, a } = color;
+    let four = [r, g, b, a, r, g, b, a, r, g, b, a, r, g, b, a];
+    for i in 0..count {
+        put_four(row, 16 * i as usize, &four);
+    }
+}
+
+/// Writes the bytes of four pixels.
+#[inline(always)]
+fn put_four(row: &mut [u8], at: usize, four: &[u8; 16])
+    requires { at + 16 ≤ length row.old }
+    ensures { row.new ≡ take at row.old ++ four.now ++ drop (at + 16) row.old }
+{
+    row[at..at + 16].copy_from_slice(four);
 }
 
 /// Writes the four bytes of a pixel.
