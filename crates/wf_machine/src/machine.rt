@@ -69,7 +69,7 @@ impl Machine {
         ensures step { IsStep self.old client (call_of call.now) self.new (with_job result job.new) }
         ensures lifetime { self.new.streams ≡ kept self.new }
     {
-        *job = None;
+        Job::clear(job);
         self.parts.act_begin(call, job)
     }
 

@@ -113,7 +113,7 @@ impl<'a> Program<'a> {
         requires { IsAnswered (port_count self.old) phase }
         ensures { self.new ≡ go_on (unheld self.old) phase }
     {
-        self.job = None;
+        Job::clear(&mut self.job);
         self.unpainted = false;
         self.go_on(phase);
     }
