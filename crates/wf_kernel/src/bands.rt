@@ -1,17 +1,19 @@
 //! Writes the picture of a scene by bands of rows, each in a thread of its own where one can be made.
 
-ghost use Rattle.std.specs.Prelude.{◌≡◌, ◌+◌, ◌-◌, ◌*◌, min, ◌%◌, ◌<◌, ◌≤◌, ℕ, length, slice_index, IsTrue};
+ghost use Rattle.std.specs.Prelude.{◌≡◌, ◌*◌, ◌≤◌, length, IsTrue};
+ghost use Rattle.std.specs.Thread.{IsSync};
 ghost use Rattle.wf_pixel.specs.Choice.{has_sides};
 ghost use Rattle.wf_image.specs.Bitmap.{pixel_bytes};
 ghost use Rattle.wf_model.specs.Picture.{picture, Fits};
+ghost use Rattle.wf_kernel.specs.Bands.{IsBand};
 ghost use Rattle.wf_kernel.specs.Bound.{bound_picture, bound_rows};
 ghost use Rattle.wf_kernel.specs.Prepared.{AreTables, table_count};
 
 use crate::bound::{BoundLayer, bind_layers, no_layers};
 use crate::painting::paint;
+use crate::splitting::{Band, split_band};
 use crate::tables::{count_tables, fill_tables};
-use std::thread;
-use std::thread::Threads;
+use std::thread::{Threads, join_mut};
 use wf_image::{Contents, Image};
 use wf_pixel::{Rgba, Size};
 use wf_scene::Scene;
@@ -133,77 +135,85 @@ fn rows_of_layers<R: Threads + Sync, const N: usize>(
 {
     let mut layers = no_layers::<N>();
     bind_layers(&mut layers, scene, contents, tables);
-    paint_bands(
+    let whole = Band {
+        first: 0,
+        rows: scene.size.h,
+        workers: workers_for(workers, scene.size),
+    };
+    paint_band(
         rt,
-        workers,
-        bytes,
-        scene.size,
+        whole,
+        scene.size.w,
         layers.as_slice(),
         scene.background,
-    );
-}
-
-/// Writes all rows.
-fn paint_bands<R: Threads + Sync>(
-    rt: &R,
-    workers: u32,
-    bytes: &mut [u8],
-    size: Size,
-    layers: &[BoundLayer],
-    background: Rgba,
-)
-    requires some { 1 ≤ workers }
-    requires few { workers ≤ 16 }
-    requires sides { IsTrue (has_sides size) }
-    requires count { length bytes.old ≡ size.w * size.h * 4 }
-    ensures { bytes.new ≡ bound_rows size.w layers.now background 0 size.h }
-{
-    paint_each(rt, workers, bytes, size, layers, background);
-}
-
-/// Writes each byte of all rows.
-fn paint_each<R: Threads + Sync>(
-    rt: &R,
-    workers: u32,
-    bytes: &mut [u8],
-    size: Size,
-    layers: &[BoundLayer],
-    background: Rgba,
-)
-    requires some { 1 ≤ workers }
-    requires few { workers ≤ 16 }
-    requires sides { IsTrue (has_sides size) }
-    requires count { length bytes.old ≡ size.w * size.h * 4 }
-    ensures { (i : ℕ) → i < length bytes.old → slice_index bytes.new i ≡ slice_index (bound_rows size.w layers.now background 0 size.h) i }
-{
-    let stride = 4 * size.w as usize;
-    let bands = workers.min(size.w * size.h / FEWEST).max(1);
-    let rows = size.h.div_ceil(bands).max(1) as usize;
-    thread::for_each_chunk_mut(
-        rt,
         bytes,
-        rows * stride,
-        &|start, part| paint_band(part, size, layers, background, rows, start),
     );
 }
 
-/// Writes the rows of a band whose bytes begin at `start`, where each band but the last has `rows` rows.
-fn paint_band(
-    part: &mut [u8],
-    size: Size,
+/// How many of at most so many workers a picture of this size is worth.
+fn workers_for(most: u32, size: Size) -> u32
+    requires some { 1 ≤ most }
+    requires few { most ≤ 16 }
+    requires sides { IsTrue (has_sides size) }
+    ensures some { 1 ≤ result }
+    ensures few { result ≤ 16 }
+{
+    most.min(size.w * size.h / FEWEST).max(1)
+}
+
+/// Writes the rows of a band: alone, or in two halves beside each other.
+#[cycle(halves)]
+fn paint_band<R: Threads + Sync>(
+    rt: &R,
+    band: Band,
+    width: u32,
     layers: &[BoundLayer],
     background: Rgba,
-    rows: usize,
-    start: usize,
+    bytes: &mut [u8],
 )
-    requires sides { IsTrue (has_sides size) }
-    requires some { 1 ≤ rows }
-    requires first { start % (rows * (4 * size.w)) ≡ 0 }
-    requires count { length part.old ≡ min (rows * (4 * size.w)) (size.w * size.h * 4 - start) }
-    requires within { start + length part.old ≤ size.w * size.h * 4 }
-    ensures { (k : ℕ) → k < length part.old → slice_index part.new k
-        ≡ slice_index (bound_rows size.w layers.now background 0 size.h) (start + k) }
+    requires some { 1 ≤ width }
+    requires few { width ≤ 1024 }
+    requires band { IsBand band }
+    requires count { length bytes.old ≡ band.rows * (4 * width) }
+    ensures { bytes.new ≡ bound_rows width layers.now background band.first band.rows }
 {
-    let stride = 4 * size.w as usize;
-    paint(part, size.w, layers, background, (start / stride) as u32);
+    if band.workers == 1 || band.rows == 1 {
+        paint(bytes, width, layers, background, band.first);
+        return;
+    }
+    let (upper, lower) = split_band(band, width, layers);
+    let (a, b) = bytes.split_at_mut(upper.rows as usize * (4 * width as usize));
+    paint_halves(rt, width, layers, background, upper, a, lower, b);
+}
+
+/// Writes the rows of two bands, one of them in a thread of its own where one can be made.
+#[cycle(halves)]
+fn paint_halves<R: Threads + Sync>(
+    rt: &R,
+    width: u32,
+    layers: &[BoundLayer],
+    background: Rgba,
+    upper: Band,
+    a: &mut [u8],
+    lower: Band,
+    b: &mut [u8],
+)
+    requires some { 1 ≤ width }
+    requires few { width ≤ 1024 }
+    requires upper { IsBand upper }
+    requires lower { IsBand lower }
+    requires a { length a.old ≡ upper.rows * (4 * width) }
+    requires b { length b.old ≡ lower.rows * (4 * width) }
+    ensures upper { a.new ≡ bound_rows width layers.now background upper.first upper.rows }
+    ensures lower { b.new ≡ bound_rows width layers.now background lower.first lower.rows }
+{
+    let mut first = ||
+        requires { IsSync R.row × (1 ≤ width) × (width ≤ 1024) × IsBand upper × (length a.now ≡ upper.rows * (4 * width)) }
+        ensures { a.exit.now ≡ bound_rows width layers.entry.now background upper.first upper.rows }
+    { paint_band(rt, upper, width, layers, background, a) };
+    let mut second = ||
+        requires { IsSync R.row × (1 ≤ width) × (width ≤ 1024) × IsBand lower × (length b.now ≡ lower.rows * (4 * width)) }
+        ensures { b.exit.now ≡ bound_rows width layers.entry.now background lower.first lower.rows }
+    { paint_band(rt, lower, width, layers, background, b) };
+    join_mut(rt, &mut first, &mut second);
 }

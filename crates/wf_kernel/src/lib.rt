@@ -12,6 +12,7 @@ mod painter;
 mod painting;
 mod placing;
 mod spans;
+mod splitting;
 mod stretch;
 mod strips;
 mod tables;

@@ -14,6 +14,15 @@ pub(crate) struct Span {
     pub(crate) len: u32,
 }
 
+impl Span {
+    /// How many of these pixels lie before pixel `end` of the row or the column.
+    pub(crate) fn before(self, end: u32) -> u32
+        ensures { result ≤ end }
+    {
+        end.saturating_sub(self.start).min(self.len)
+    }
+}
+
 /// No pixel.
 pub(crate) const NONE: Span = Span {
     start: 0,

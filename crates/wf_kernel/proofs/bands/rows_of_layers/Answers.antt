@@ -6,4 +6,4 @@ pub returns : goal.returns
 returns g c =
     let scene = c.args.scene.now in
     let layers = c.as_slice.ensures.value ∙ c.bind_layers.ensures in
-    c.paint_bands.ensures ∙ (λ i. bound_rows scene.size.w (layers i) scene.background 0 scene.size.h)
+    c.paint_band.ensures ∙ (λ i. bound_rows scene.size.w (layers i) scene.background 0 scene.size.h)

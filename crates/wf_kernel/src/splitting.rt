@@ -1,0 +1,87 @@
+//! Rows that are split among workers where each has as much to paint.
+
+ghost use Rattle.std.specs.Prelude.{◌≡◌, ◌+◌, ◌-◌, ◌<◌, ◌≤◌};
+ghost use Rattle.wf_kernel.specs.Bands.{IsBand, AreHalves};
+
+use crate::bound::BoundLayer;
+
+/// Some rows of a target, and how many workers paint them.
+#[derive(Clone, Copy, Debug, PartialEq, Eq)]
+pub(crate) struct Band {
+    pub(crate) first: u32,
+    pub(crate) rows: u32,
+    pub(crate) workers: u32,
+}
+
+/// Splits a band in two, so that both have workers in the ratio of what there is to paint.
+pub(crate) fn split_band(band: Band, width: u32, layers: &[BoundLayer]) -> (Band, Band)
+    requires few { width ≤ 1024 }
+    requires band { IsBand band }
+    requires rows { 2 ≤ band.rows }
+    requires workers { 2 ≤ band.workers }
+    ensures upper { IsBand result.0 }
+    ensures lower { IsBand result.1 }
+    ensures halves { AreHalves band result.0 result.1 }
+{
+    let workers = band.workers / 2;
+    let goal = cost_goal(band, width, layers, workers);
+    let rows = rows_to(band, width, layers, goal);
+    (
+        Band {
+            first: band.first,
+            rows,
+            workers,
+        },
+        Band {
+            first: band.first + rows,
+            rows: band.rows - rows,
+            workers: band.workers - workers,
+        },
+    )
+}
+
+/// What the rows above a band and those of so many of its workers cost together.
+fn cost_goal(band: Band, width: u32, layers: &[BoundLayer], workers: u32) -> u64
+    requires few { width ≤ 1024 }
+    requires band { IsBand band }
+    requires workers { workers ≤ band.workers }
+{
+    let above = u64::from(cost_above(width, layers, band.first));
+    let all = u64::from(cost_above(width, layers, band.first + band.rows));
+    let others = band.workers - workers;
+    (above * u64::from(others) + all * u64::from(workers)) / u64::from(band.workers)
+}
+
+/// How many rows of a band it takes to come to this cost, but at least one, and not all.
+fn rows_to(band: Band, width: u32, layers: &[BoundLayer], goal: u64) -> u32
+    requires few { width ≤ 1024 }
+    requires band { IsBand band }
+    requires rows { 2 ≤ band.rows }
+    ensures some { 1 ≤ result }
+    ensures rest { result < band.rows }
+{
+    let mut low = 1;
+    let mut high = band.rows - 1;
+    while low < high {
+        let middle = (low + high) / 2;
+        if u64::from(cost_above(width, layers, band.first + middle)) < goal {
+            low = middle + 1;
+        } else {
+            high = middle;
+        }
+    }
+    low
+}
+
+/// What the rows above row `y` cost: how many pixels the background and the layers have there.
+fn cost_above(width: u32, layers: &[BoundLayer], y: u32) -> u32
+    requires few { width ≤ 1024 }
+    requires y { y ≤ 1024 }
+{
+    let mut cost = width * y;
+    for layer in layers {
+        let pixels = layer.columns.before(width) * layer.rows.before(y);
+        cost = cost.saturating_add(pixels);
+    }
+    cost
+}
