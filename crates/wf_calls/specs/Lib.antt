@@ -1,5 +1,5 @@
--- The numbers of the codes, answers and replies, who answers a call, which calls make an object, which bring nothing, and which ports may be
--- declared.
+-- The numbers of the codes, answers and replies, who answers a call, which calls make an object, which bring nothing, and which ports
+-- may be declared.
 pub mod Codes
 pub mod Replies
 pub mod Parts

@@ -83,7 +83,12 @@ fn deny_link(
 }
 
 /// The refusal of a creation for which there is no memory.
-fn deny(objects: &Objects, store: &Store, call: &Request, screen: Option<u32>) -> Result<u32, Refusal>
+fn deny(
+    objects: &Objects,
+    store: &Store,
+    call: &Request,
+    screen: Option<u32>,
+) -> Result<u32, Refusal>
     requires fits { Fits objects.now store.now }
     requires creation { IsTrue (is_creation (call_of call.now)) }
     requires ours { IsTrue (is_of_core (part_of (call_of call.now))) }

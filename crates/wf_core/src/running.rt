@@ -57,7 +57,9 @@ fn carry_out(
         Request::ContextDestroy { device, context } => {
             try_context_destroy(objects, store, *device, *context)
         }
-        Request::ElementNew { device, context } => try_element_new(objects, store, *device, *context),
+        Request::ElementNew { device, context } => try_element_new(
+            objects, store, *device, *context,
+        ),
         Request::ElementDestroy { device, element } => {
             try_element_destroy(objects, store, *device, *element)
         }

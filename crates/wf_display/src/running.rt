@@ -56,13 +56,23 @@ impl Display {
         ensures { Does (λ m. display_call m (call_of call.now)) self.old self.new store.old store.new result }
     {
         match call {
-            Request::PortSet { port, attr, value } => self.try_port_set(store, *port, *attr, *value),
-            Request::PortGet { port, attr, index } => self.try_port_get(store, *port, *attr, *index),
+            Request::PortSet { port, attr, value } => self.try_port_set(
+                store, *port, *attr, *value,
+            ),
+            Request::PortGet { port, attr, index } => self.try_port_get(
+                store, *port, *attr, *index,
+            ),
             Request::Attach { port, on } => self.try_attach(store, *port, *on),
-            Request::PipeSet { pipe, attr, value } => self.try_pipe_set(store, *pipe, *attr, *value),
-            Request::PipeGet { pipe, attr, index } => self.try_pipe_get(store, *pipe, *attr, *index),
+            Request::PipeSet { pipe, attr, value } => self.try_pipe_set(
+                store, *pipe, *attr, *value,
+            ),
+            Request::PipeGet { pipe, attr, index } => self.try_pipe_get(
+                store, *pipe, *attr, *index,
+            ),
             Request::PipeBindPort { pipe, port } => self.try_pipe_bind_port(store, *pipe, *port),
-            Request::DisplaySource { pipe, stream } => self.try_display_source(store, *pipe, *stream),
+            Request::DisplaySource { pipe, stream } => self.try_display_source(
+                store, *pipe, *stream,
+            ),
             Request::DisplaySourceDestroy { source } => {
                 self.try_display_source_destroy(store, *source)
             }

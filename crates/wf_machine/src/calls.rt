@@ -73,7 +73,9 @@ impl Parts {
         match call {
             Request::BeginNext { after } => self.begin_next(*after, job),
             Request::BeginPort { port } => self.begin_port(*port, job),
-            Request::BeginContext { device, context } => self.begin_composed(*device, *context, job),
+            Request::BeginContext { device, context } => self.begin_composed(
+                *device, *context, job,
+            ),
             _ => unreachable!(),
         }
     }

@@ -96,14 +96,7 @@ fn retake_of<P: Painter>(
         retake(machine, clock, 0, memory_refused, place, painter)
     } else {
         let other = &mut others[client - 1];
-        retake(
-            machine,
-            other,
-            client as u8,
-            memory_refused,
-            place,
-            painter,
-        )
+        retake(machine, other, client as u8, memory_refused, place, painter)
     }
 }
 

@@ -3,7 +3,8 @@ use Rattle.wf_machine.proofs.Stepping.{IsAnswered, answered}
 use Rattle.wf_machine.proofs.machine.Machine.answer.Goals as goal
 
 -- the step that was made, or none
-made : (c : goal.After-act_plain) → IsAnswered c.args.self.now c.args.client (call_of c.args.call.now) c.act_plain.new.self c.act_plain.result
+made : (c : goal.After-act_plain)
+    → IsAnswered c.args.self.now c.args.client (call_of c.args.call.now) c.act_plain.new.self c.act_plain.result
 made c = answered _ c.self.inside.parts _ _ _ c.act_plain.result c.self.view_is c.self.invariant c.act_plain.ensures
 
 pub invariant_of-self : goal.invariant_of-self

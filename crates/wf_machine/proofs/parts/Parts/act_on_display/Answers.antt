@@ -13,7 +13,8 @@ pub run-requires-clause-room : goal.run-requires-clause-room
 run-requires-clause-room c = room c.self.inside c.self.invariant c.few_names.ensures c.few_names-2.ensures
 
 pub invariant_of-self : goal.invariant_of-self
-invariant_of-self c = sound_after_display c.self.inside _ c.self.view_is c.self.invariant _ _ (call_of c.args.call.now) c.run.result c.run.ensures
+invariant_of-self c =
+    sound_after_display c.self.inside _ c.self.view_is c.self.invariant _ _ (call_of c.args.call.now) c.run.result c.run.ensures
 
 pub returns : goal.returns
 returns c = as_displayed c.self.inside _ c.self.view_is c.self.invariant _ _ (call_of c.args.call.now) c.run.result c.run.ensures c.requires
