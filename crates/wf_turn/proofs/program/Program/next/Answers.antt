@@ -1,4 +1,4 @@
-use Rattle.wf_turn.proofs.Common.{◌≡◌, ◌∙◌, ap, next, issued}
+use Rattle.wf_turn.proofs.Common.{◌≡◌, ◌∙◌, next, issued}
 use Rattle.wf_turn.specs.Asked.{as_wanted}
 use Rattle.wf_turn.proofs.Asked.{given_handed, wanted_is}
 use Rattle.wf_turn.proofs.Going.{goes_on, if_none, if_some, is_through, some_left, waiting_begins}
