@@ -58,6 +58,12 @@ abbrev pub fade_of : Bool → ℕ → Option ℕ
 fade_of true k = Some k
 fade_of false k = None
 
+-- the pixels of a layer's source are copied: no mask and no alpha makes them transparent
+pub record IsCopied (b : Bound) (image : Bitmap) : Type 0 where
+  pub mask : b.layer.transparency.mask ≡ false
+  pub alpha : b.layer.transparency.alpha ≡ false
+  pub mode : mode_of image.format b.layer.transparency.source ≡ Opaque
+
 -- the premultiplied pixel of a layer at distances from its corner, before its mask
 abbrev pub lifted_texel : Bound → Bitmap → ℕ → ℕ → Rgba
 lifted_texel b image a d =

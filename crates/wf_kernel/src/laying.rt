@@ -1,6 +1,6 @@
 //! Lays one layer over pixels of a row of the target.
 
-ghost use Rattle.std.specs.Prelude.{◌≡◌, ◌≢◌, ℕ, ◌+◌, ◌*◌, ◌<◌, ◌≤◌, length, true, All, Some};
+ghost use Rattle.std.specs.Prelude.{◌≡◌, ◌≢◌, ℕ, ◌+◌, ◌*◌, ◌<◌, ◌≤◌, length, true, All, IsTrue, Some};
 ghost use Rattle.wf_pixel.specs.declared.Format.TheVariants.{Rgba8Pre};
 ghost use Rattle.wf_pixel.specs.Arithmetic.{scaled};
 ghost use Rattle.wf_pixel.specs.Place.{size_of};
@@ -8,17 +8,18 @@ ghost use Rattle.wf_image.specs.Bitmap.{read_at, drawn_row};
 ghost use Rattle.wf_kernel.specs.Bound.{bound_texel, layer_at};
 ghost use Rattle.wf_kernel.specs.Kept.{AreKept};
 ghost use Rattle.wf_kernel.specs.Placed.{is_crossed, source_colour, mask_value};
-ghost use Rattle.wf_kernel.specs.Laid.{laid, lifted_pixel, mode_of, fade_of, placed_texel, IsStretch};
+ghost use Rattle.wf_kernel.specs.Laid.{laid, lifted_pixel, mode_of, fade_of, placed_texel, IsCopied, IsStretch};
+ghost use Rattle.wf_kernel.specs.Prepared.{IsWalk};
 
 use crate::bound::BoundLayer;
 use crate::keeping::{COLUMNS, Kept, keep_block, keep_line};
-use crate::lines::{fill_line, forward_line};
+use crate::lines::{backward_line, fill_line, forward_line};
 use crate::masks::{fill_values, straight_values};
 use crate::placing::{Walk, down};
 use crate::stretch::{Stretch, stretch_of};
 use wf_image::Image;
 use wf_pixel::{Format, Rotation};
-use wf_row::{AlphaMode, blend_masked_row, blend_row, gather_fourth};
+use wf_row::{AlphaMode, blend_masked_row, blend_row, copy_reversed_row, gather_fourth};
 
 /// Lays a layer, by its place, over `width` pixels of row `y`, from column `first` on. The source's pixels go through what is
 /// kept, where they are not taken as they stand.
@@ -73,9 +74,48 @@ fn lay_stretch(
             let line = forward_line(layer, image, stretch);
             lay_forward(part, line, layer, image, stretch);
         }
-        Walk::Backward => lay_by_lines(part, layers, i, kept, spare, image, stretch),
+        Walk::Backward => lay_backward(part, layers, i, kept, spare, image, stretch),
         Walk::Table => lay_by_lines(part, layers, i, kept, spare, image, stretch),
     }
+}
+
+/// The same, where the source's pixels stand there from the last to the first.
+fn lay_backward(
+    part: &mut [u8],
+    layers: &[BoundLayer],
+    i: usize,
+    kept: &mut [Kept],
+    spare: &mut [[u8; 4096]],
+    image: &Image,
+    stretch: Stretch,
+)
+    requires count { length part.old ≡ 4 * stretch.len }
+    requires layer { i < length layers.now }
+    requires source { (layer_at layers.now i).source ≡ Some image.now }
+    requires stretch { IsStretch (layer_at layers.now i) stretch }
+    requires walk { IsWalk (layer_at layers.now i).turn (layer_at layers.now i).layer Walk.Backward }
+    requires kept { All (AreKept layers.now) kept.old }
+    ensures part { part.new ≡ laid stretch.len
+        (λ j. placed_texel (layer_at layers.now i) image.now (stretch.across + j) stretch.down) part.old }
+    ensures kept { All (AreKept layers.now) kept.new }
+{
+    if is_copied(&layers[i], image) {
+        lay_reversed(part, &layers[i], image, stretch);
+    } else {
+        lay_by_lines(part, layers, i, kept, spare, image, stretch);
+    }
+}
+
+/// The same of a layer that is copied.
+fn lay_reversed(part: &mut [u8], layer: &BoundLayer, image: &Image, stretch: Stretch)
+    requires count { length part.old ≡ 4 * stretch.len }
+    requires source { layer.now.source ≡ Some image.now }
+    requires stretch { IsStretch layer.now stretch }
+    requires walk { IsWalk layer.now.turn layer.now.layer Walk.Backward }
+    requires copied { IsCopied layer.now image.now }
+    ensures { part.new ≡ laid stretch.len (λ i. placed_texel layer.now image.now (stretch.across + i) stretch.down) part.old }
+{
+    copy_reversed_row(part, backward_line(layer, image, stretch));
 }
 
 /// The same, where the source's pixels go through a line. A picture with such a layer keeps some.
@@ -270,15 +310,26 @@ fn lay_forward(part: &mut [u8], line: &[u8], layer: &BoundLayer, image: &Image, 
     requires line { line.now ≡ drawn_row stretch.len Rgba8Pre (λ i. source_colour layer.now image.now (stretch.across + i) stretch.down) }
     ensures { part.new ≡ laid stretch.len (λ i. placed_texel layer.now image.now (stretch.across + i) stretch.down) part.old }
 {
+    if is_copied(layer, image) {
+        blend_row(part, line, AlphaMode::Opaque, None);
+    } else {
+        lay_line(part, line, layer, image, stretch);
+    }
+}
+
+/// Whether the pixels of a layer's source are copied: nothing makes them transparent.
+#[inline(always)]
+fn is_copied(layer: &BoundLayer, image: &Image) -> bool
+    requires source { layer.now.source ≡ Some image.now }
+    ensures { IsTrue result → IsCopied layer.now image.now }
+{
     let transparency = layer.layer.transparency;
     if transparency.mask || transparency.alpha {
-        lay_line(part, line, layer, image, stretch);
-        return;
+        return false;
     }
-    let mode = mode_of(image.format(), transparency.source);
-    match mode {
-        AlphaMode::Opaque => blend_row(part, line, AlphaMode::Opaque, None),
-        _ => lay_line(part, line, layer, image, stretch),
+    match mode_of(image.format(), transparency.source) {
+        AlphaMode::Opaque => true,
+        _ => false,
     }
 }
 

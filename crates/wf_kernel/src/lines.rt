@@ -3,6 +3,7 @@
 ghost use Rattle.std.specs.Prelude.{◌≡◌, ◌≢◌, ◌+◌, ◌*◌, ◌<◌, ◌≤◌, ◌≤ℤ◌, ℕ, length, nat_abs, pos, slice_index, Some};
 ghost use Rattle.wf_pixel.specs.declared.Format.TheVariants.{Rgba8Pre};
 ghost use Rattle.wf_image.specs.Bitmap.{pixel, drawn_row};
+ghost use Rattle.wf_row.specs.Gather.{reversed};
 ghost use Rattle.wf_kernel.specs.Placed.{across, source_colour};
 ghost use Rattle.wf_kernel.specs.Prepared.{IsWalk};
 ghost use Rattle.wf_kernel.specs.Laid.{IsStretch};
@@ -37,7 +38,7 @@ pub(crate) fn fill_line(line: &mut [u8], layer: &BoundLayer, image: &Image, stre
 {
     match layer.walk {
         Walk::Forward => line.copy_from_slice(forward_line(layer, image, stretch)),
-        Walk::Backward => fill_backward(line, layer, image, stretch),
+        Walk::Backward => reverse_row(line, backward_line(layer, image, stretch)),
         Walk::Table => {
             let first = stretch.x as usize;
             let places = &layer.table[first..first + stretch.len as usize];
@@ -46,18 +47,19 @@ pub(crate) fn fill_line(line: &mut [u8], layer: &BoundLayer, image: &Image, stre
     }
 }
 
-/// The same from the right to the left.
-fn fill_backward(line: &mut [u8], layer: &BoundLayer, image: &Image, stretch: Stretch)
-    requires count { length line.old ≡ 4 * stretch.len }
+/// The part of a row of the source that is shown from its last pixel to its first.
+pub(crate) fn backward_line<'a>(layer: &BoundLayer, image: &'a Image, stretch: Stretch) -> &'a [u8]
     requires source { layer.now.source ≡ Some image.now }
     requires stretch { IsStretch layer.now stretch }
     requires walk { IsWalk layer.now.turn layer.now.layer Walk.Backward }
-    ensures { line.new ≡ drawn_row stretch.len Rgba8Pre (λ i. source_colour layer.now image.now (stretch.across + i) stretch.down) }
+    ensures len { length result.now ≡ 4 * stretch.len }
+    ensures value { reversed result.now
+        ≡ drawn_row stretch.len Rgba8Pre (λ i. source_colour layer.now image.now (stretch.across + i) stretch.down) }
 {
     let row = down(layer.turn, &layer.layer, stretch.down);
     let src = layer.layer.src;
     let first = left_column(src) + (src.w - stretch.across - stretch.len);
-    reverse_row(line, row_part(image, first, row, stretch.len));
+    row_part(image, first, row, stretch.len)
 }
 
 /// The same, where the target's columns are at these places of the source.

@@ -54,7 +54,7 @@ lanes_written f p m j n k next src old row piece n_is k_is next_is room same row
 channel_is : (p d : ℕ) → p < 256 → channel_over 255 p d ≡ p
 channel_is p d x = omega arith
 
-over_opaque : (m : ℕ) (xs ys : List ℕ) → length xs ≡ 4 * m → length ys ≡ 4 * m → Each1 (λ x. x < 256) xs
+pub over_opaque : (m : ℕ) (xs ys : List ℕ) → length xs ≡ 4 * m → length ys ≡ 4 * m → Each1 (λ x. x < 256) xs
     → premultiplied_bytes Opaque xs ≡ over_bytes (premultiplied_bytes Opaque xs) ys
 over_opaque zero [] ys l d x = refl
 over_opaque zero (r ∷ xs) ys l d x = absurd (omega arith)

@@ -1,7 +1,7 @@
 -- Pixels from the last one to the first.
 use Rattle.std.proofs.Common.{◌≡◌, ℕ, zero, suc, ◌+◌, ◌-◌, ◌*◌, ◌≤◌, List, [], ◌∷◌, ◌++◌, length, take, drop, refl, sym, ap, subst, ◌∙◌}
 use Rattle.std.proofs.Common.{arith, append_assoc, length-append}
-use Rattle.std.specs.Simd.Lanes.{chunk, put_chunk, pick_l}
+use Rattle.std.specs.Simd.Lanes.{chunk, put_chunk, pick_l, Each1}
 use Rattle.std.proofs.lemmas.Simd.{pick_l_whole, chunk-drop, length-chunk, put_chunk_is}
 use Rattle.std.proofs.lemmas.List.{take_at, drop_all, drop-drop, append-nil, length-drop, take-append-drop, length-take-le}
 use Rattle.std.proofs.Math.Seq.{drop-append_seam}
@@ -92,3 +92,48 @@ padded_reversed m j n xs zeros len more n_is =
     ap (drop n) (reversed_append m xs zeros len)
     ∙ ap (λ (i : ℕ). drop i (reversed zeros ++ reversed xs)) (n_is ∙ more ∙ sym (reversed_count j zeros more))
     ∙ drop-append_seam (reversed zeros) (reversed xs)
+
+-- a piece of reversed pixels is a piece of the pixels, reversed
+pub chunk_reversed : (q m j n k from : ℕ) (src : List ℕ) → length src ≡ 4 * q → n ≡ 4 * m → k ≡ 4 * j → from + k + n ≡ length src
+    → chunk n k (reversed src) ≡ reversed (chunk from k src)
+chunk_reversed q m j n k from src whole n_is k_is end =
+    let first : List ℕ = take from src in
+    let piece : List ℕ = chunk from k src in
+    let last : List ℕ = drop (from + k) src in
+    let first_len : length first ≡ 4 * (q - m - j) = length-take-le from src (omega arith) ∙ omega arith in
+    let piece_len : length piece ≡ 4 * j = length-chunk from k src (omega arith) ∙ k_is in
+    let last_len : length last ≡ 4 * m = length-drop (from + k) src ∙ omega arith in
+    let split : src ≡ first ++ (piece ++ last) =
+    sym (take-append-drop from src) ∙ ap (λ (l : List ℕ). first ++ l) (chunk-drop from k src) in
+    let all : reversed src ≡ reversed last ++ (reversed piece ++ reversed first) =
+    ap reversed split ∙ reversed_append (q - m - j) first (piece ++ last) first_len
+    ∙ ap (λ (l : List ℕ). l ++ reversed first) (reversed_append j piece last piece_len)
+    ∙ append_assoc (reversed last) (reversed piece) (reversed first) in
+    let before : n ≡ length (reversed last) = n_is ∙ sym (reversed_count m last last_len) in
+    let count : length (reversed piece) ≡ k = reversed_count j piece piece_len ∙ sym k_is in
+    ap (chunk n k) all
+    ∙ ap (take k) (ap (λ (i : ℕ). drop i (reversed last ++ (reversed piece ++ reversed first))) before
+    ∙ drop-append_seam (reversed last) (reversed piece ++ reversed first))
+    ∙ take_at (reversed piece) (reversed first) k count
+
+-- a pixel by itself
+pub one_reversed : (xs : List ℕ) → length xs ≡ 4 → reversed xs ≡ xs
+one_reversed [] len = absurd (omega arith)
+one_reversed (r ∷ []) len = absurd (omega arith)
+one_reversed (r ∷ g ∷ []) len = absurd (omega arith)
+one_reversed (r ∷ g ∷ b ∷ []) len = absurd (omega arith)
+one_reversed (r ∷ g ∷ b ∷ a ∷ []) len = refl
+one_reversed (r ∷ g ∷ b ∷ a ∷ x ∷ xs) len = absurd (omega arith)
+
+-- what holds of each byte
+each_append : (P : ℕ → Type 0) (xs ys : List ℕ) → Each1 P xs → Each1 P ys → Each1 P (xs ++ ys)
+each_append P [] ys x y = y
+each_append P (a ∷ xs) ys x y = (x.0, each_append P xs ys x.1 y)
+
+pub each_reversed : (P : ℕ → Type 0) (xs : List ℕ) → Each1 P xs → Each1 P (reversed xs)
+each_reversed P [] x = tt
+each_reversed P (r ∷ []) x = tt
+each_reversed P (r ∷ g ∷ []) x = tt
+each_reversed P (r ∷ g ∷ b ∷ []) x = tt
+each_reversed P (r ∷ g ∷ b ∷ a ∷ xs) x =
+    each_append P (reversed xs) (r ∷ g ∷ b ∷ a ∷ []) (each_reversed P xs x.1.1.1.1) (x.0, (x.1.0, (x.1.1.0, (x.1.1.1.0, tt))))

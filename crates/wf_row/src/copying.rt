@@ -26,7 +26,7 @@ pub(crate) fn copy_pixels(row: &mut [u8], src: &[u8])
 
 /// Four pixels made opaque.
 #[inline(always)]
-fn opaque_lanes(x: u8x16) -> u8x16
+pub(crate) fn opaque_lanes(x: u8x16) -> u8x16
     requires { AreBytes 16 x }
     ensures { result ≡ premultiplied_bytes AlphaMode.Opaque x }
 {
@@ -49,7 +49,7 @@ fn copy_rest(row: &mut [u8], src: &[u8])
 
 /// A pixel made opaque.
 #[inline(always)]
-fn opaque_pixel(x: u8x4) -> u8x4
+pub(crate) fn opaque_pixel(x: u8x4) -> u8x4
     requires { AreBytes 4 x }
     ensures { result ≡ premultiplied_bytes AlphaMode.Opaque x }
 {

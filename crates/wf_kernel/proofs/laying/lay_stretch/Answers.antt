@@ -40,7 +40,7 @@ returns-in-Backward-clause-part c =
     let same = layer_is c.args.layers.now c.args.i c.index-layers-i.result c.requires.layer c.index-layers-i.is in
     let source : b.source ≡ Some image = ap (λ (b : Bound). b.source) (sym same) ∙ ap (λ (b : Bound). b.source) (sym c.layer.view_is)
     ∙ ap option_copied c.in-Some.is in
-    c.lay_by_lines.ensures.part
+    c.lay_backward.ensures.part
     ∙ stretch_shown b image s c.args.part.now (subst IsShowable same prepared.showable) source c.requires.stretch
 
 pub returns-in-Table-clause-part : goal.returns-in-Table-clause-part
@@ -52,5 +52,5 @@ returns-in-Table-clause-part c =
     let same = layer_is c.args.layers.now c.args.i c.index-layers-i.result c.requires.layer c.index-layers-i.is in
     let source : b.source ≡ Some image = ap (λ (b : Bound). b.source) (sym same) ∙ ap (λ (b : Bound). b.source) (sym c.layer.view_is)
     ∙ ap option_copied c.in-Some.is in
-    c.lay_by_lines-in-Table.ensures.part
+    c.lay_by_lines.ensures.part
     ∙ stretch_shown b image s c.args.part.now (subst IsShowable same prepared.showable) source c.requires.stretch

@@ -13,7 +13,7 @@ returns c =
     let zeros_len : length zeros ≡ n = pad_length 16 (length src) in
     let m : ℕ = length src / 4 in
     let last : drop n c.reverse_lanes.result ≡ reversed src =
-    ap (drop n) (c.reverse_lanes.ensures ∙ ap reversed c.padded_four.ensures.value)
+    ap (drop n) (c.reverse_lanes.ensures.value ∙ ap reversed c.padded_four.ensures.value)
     ∙ padded_reversed m (4 - m) n src zeros (omega arith) (omega arith) (omega arith) in
     let count : length (reversed src) ≡ 4 * m = reversed_count m src (omega arith) in
     c.copy_from_slice.ensures.after ∙ ap (take (16 - n)) last ∙ take_all (16 - n) (reversed src) (omega arith)

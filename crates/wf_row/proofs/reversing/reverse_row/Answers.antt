@@ -9,7 +9,7 @@ loop-block-preserved c =
     reversed_more (4 * c.loop-block.block) (16 * c.loop-block.block) (16 * (c.loop-block.block + 1))
     (length src - 16 - 16 * c.loop-block.block) (length src / 4) src c.args.out.now c.loop-block.out c.reverse_lanes-pixels.result
     (omega arith) (omega arith) (omega arith) (omega arith) (omega arith) c.requires.same (omega arith) c.loop-block.invariant
-    (c.reverse_lanes-pixels.ensures ∙ ap reversed c.load_four.ensures.value)
+    (c.reverse_lanes-pixels.ensures.value ∙ ap reversed c.load_four.ensures.value)
 
 pub returns : goal.returns
 returns c =

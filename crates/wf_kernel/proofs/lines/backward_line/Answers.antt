@@ -7,7 +7,7 @@ use Rattle.wf_kernel.specs.Bound.{Bound}
 use Rattle.wf_kernel.specs.Placed.{down}
 use Rattle.wf_kernel.specs.Prepared.{prepared_as}
 use Rattle.wf_kernel.proofs.Gathered.{straight_low, backward_shown}
-use Rattle.wf_kernel.proofs.lines.fill_backward.Goals as goal
+use Rattle.wf_kernel.proofs.lines.backward_line.Goals as goal
 
 pub row_part-requires-clause-y : goal.row_part-requires-clause-y
 row_part-requires-clause-y c =
@@ -22,8 +22,8 @@ row_part-requires-clause-y c =
     c.requires.walk.straight in
     omega (arith, low.1)
 
-pub returns : goal.returns
-returns c =
+pub returns-clause-value : goal.returns-clause-value
+returns-clause-value c =
     let b = c.args.layer.now in
     let s = c.args.stretch in
     let image = c.args.image.now in
@@ -36,7 +36,6 @@ returns c =
     let same : w ≡ b.layer.src.w = ap (λ (b : Bound). b.layer.src.w) c.layer.view_is in
     let wide = c.requires.walk.wide in
     let inside = c.requires.stretch.inside in
-    c.reverse_row.ensures
-    ∙ ap reversed (c.row_part.ensures.value ∙ (λ i. drawn_row s.len Rgba8Pre (λ j. pixel image (first + j) (row i))))
+    ap reversed (c.row_part.ensures.value ∙ (λ i. drawn_row s.len Rgba8Pre (λ j. pixel image (first + j) (row i))))
     ∙ backward_shown b image s.across s.down s.len first c.requires.walk.straight
     (λ i low. c.requires.walk.column_is (s.across + i) (omega arith) ∙ omega arith)
