@@ -1,17 +1,17 @@
 //! The machine.
 
-ghost use Rattle.std.specs.Prelude.{◌≡◌, ◌<◌, IfOk, IfSome, IsSome, IsTrue, length, true};
+ghost use Rattle.std.specs.Prelude.{◌≡◌, ◌<◌, ◌&&◌, IfOk, IfSome, IsSome, IsTrue, length, not, true};
 ghost use Rattle.std.specs.Option.{IfNone};
 ghost use Rattle.wf_stream.specs.Streams.{held};
 ghost use Rattle.wf_calls.specs.Creations.{is_creation};
-ghost use Rattle.wf_calls.specs.Parts.{carries, part_of};
+ghost use Rattle.wf_calls.specs.Parts.{carries, is_begin, part_of};
 ghost use Rattle.wf_calls.specs.Replies.{bare, with_canvas, with_job};
 ghost use Rattle.wf_calls.specs.PortRules.{may_declare};
 ghost use Rattle.wf_calls.specs.Requests.{brings, call_of};
 ghost use Rattle.wf_model.specs.Names.{kept, names};
+ghost use Rattle.wf_model.specs.Frames.{is_running};
 ghost use Rattle.wf_model.specs.State.{opening};
 ghost use Rattle.wf_machine.specs.Object.{IsMarkedStep, IsRefusal, IsStep, MayAnswer, MayDeny, after, denied, is_ready};
-ghost use Rattle.wf_calls.specs.Parts.{is_begin};
 
 use crate::parts::Parts;
 use crate::replies::with_canvas;
@@ -208,18 +208,25 @@ impl Machine {
         }
     }
 
+    /// Whether a call can be answered now that begins a frame or does not.
+    fn is_free(&self, begins: bool) -> bool
+        ensures { result ≡ not (begins && is_running self.now) }
+    {
+        !begins || self.parts.frame.is_none()
+    }
+
     /// Whether a call can be answered now: no call that begins a frame waits for the running one.
     pub fn ready(&self, call: &Call) -> bool
         ensures { result ≡ is_ready self.now call.now }
     {
-        !call.is_begin() || self.parts.frame.is_none()
+        self.is_free(call.is_begin())
     }
 
     /// The same of a call that brings nothing.
     pub fn ready_for(&self, call: &Request) -> bool
         ensures { result ≡ is_ready self.now (call_of call.now) }
     {
-        !call.is_begin() || self.parts.frame.is_none()
+        self.is_free(call.is_begin())
     }
 
     /// How many names the stream of a number has, which counts from 1 all streams that were ever made, screens included; 0 where

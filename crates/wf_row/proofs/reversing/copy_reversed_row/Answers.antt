@@ -22,7 +22,8 @@ loop-block-preserved c =
     c.loop-block.invariant
     (c.opaque_lanes.ensures ∙ ap (premultiplied_bytes Opaque) (c.reverse_lanes-pixels.ensures.value
     ∙ ap reversed c.load_four.ensures.value
-    ∙ sym (chunk_reversed (length src / 4) (4 * c.loop-block.block) 4 n 16 from src (omega arith) (omega arith) (omega arith) (omega arith))))
+    ∙ sym (chunk_reversed (length src / 4) (4 * c.loop-block.block) 4 n 16 from src
+    (omega arith) (omega arith) (omega arith) (omega arith))))
 
 pub loop-i-preserved : goal.loop-i-preserved
 loop-i-preserved c =
