@@ -2,6 +2,7 @@
 -- may be declared.
 pub mod Codes
 pub mod Replies
+pub mod Places
 pub mod Parts
 pub mod Creations
 pub mod PortRules

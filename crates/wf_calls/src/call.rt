@@ -1,7 +1,5 @@
 //! Calls, replies, and the running frame that goes with them.
 
-ghost use Rattle.std.specs.Prelude.{◌≡◌, None};
-
 use crate::display::{PipeAttr, PortAttr, Transition};
 use wf_image::{Canvas, Contents, Image};
 use wf_pixel::Format;
@@ -35,17 +33,6 @@ pub struct Job {
     pub scene: Scene,
     pub contents: Contents,
     pub image: Image,
-}
-
-impl Job {
-    /// Empties a place for a Job. One that is empty is left as it is, since to write a place is to write all its 5 KB.
-    pub fn clear(place: &mut Option<Job>)
-        ensures { place.new ≡ None }
-    {
-        if place.is_some() {
-            *place = None;
-        }
-    }
 }
 
 /// A call of the machine. Numbers are wide, so that a value out of its range reaches the call and is refused there.

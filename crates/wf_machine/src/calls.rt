@@ -2,12 +2,13 @@
 
 ghost use Rattle.std.specs.Prelude.{◌≡◌, IsTrue, IfSome, IsSome, MatchOption, None};
 ghost use Rattle.wf_calls.specs.Parts.{carries, is_begin, is_of_core, part_of};
+ghost use Rattle.wf_calls.specs.Places.{job_in};
 ghost use Rattle.wf_calls.specs.Replies.{bare, with_canvas, with_job};
 ghost use Rattle.wf_calls.specs.Requests.{call_of};
 ghost use Rattle.wf_machine.specs.Object.{IsAct};
 
 use crate::parts::Parts;
-use wf_calls::{Answer, Call, Job, Part, Request};
+use wf_calls::{Answer, Call, JobPlace, Part, Request};
 use wf_image::Canvas;
 
 impl Parts {
@@ -65,27 +66,27 @@ impl Parts {
     }
 
     /// Begins the frame that a call asks for. Its Job is put in a place that holds none.
-    pub(crate) fn act_begin(&mut self, call: &Request, job: &mut Option<Job>) -> Answer
+    pub(crate) fn act_begin(&mut self, call: &Request, place: &mut JobPlace) -> Answer
         requires begins { IsTrue (is_begin (call_of call.now)) }
-        requires empty { job.old ≡ None }
-        ensures { IsAct self.old (call_of call.now) self.new (with_job result job.new) }
+        requires empty { job_in place.old ≡ None }
+        ensures { IsAct self.old (call_of call.now) self.new (with_job result (job_in place.new)) }
     {
         match call {
-            Request::BeginNext { after } => self.begin_next(*after, job),
-            Request::BeginPort { port } => self.begin_port(*port, job),
+            Request::BeginNext { after } => self.begin_next(*after, place),
+            Request::BeginPort { port } => self.begin_port(*port, place),
             Request::BeginContext { device, context } => self.begin_composed(
-                *device, *context, job,
+                *device, *context, place,
             ),
             _ => unreachable!(),
         }
     }
 
     /// Ends the frame of the Job in a place.
-    pub(crate) fn act_end(&mut self, job: &mut Option<Job>) -> Answer
-        requires { IsSome job.old }
-        ensures { IfSome job.old (λ j. IsAct self.old (Call.End j) self.new (with_job result job.new)) }
+    pub(crate) fn act_end(&mut self, place: &mut JobPlace) -> Answer
+        requires { IsSome (job_in place.old) }
+        ensures { IfSome (job_in place.old) (λ j. IsAct self.old (Call.End j) self.new (with_job result (job_in place.new))) }
     {
-        self.end(job)
+        self.end(place)
     }
 
     /// Takes a stream's write buffer.

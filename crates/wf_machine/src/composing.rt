@@ -2,13 +2,14 @@
 
 ghost use Rattle.std.specs.Prelude.{◌≡◌, None};
 ghost use Rattle.wf_calls.specs.Parts.{no_register, of_device};
+ghost use Rattle.wf_calls.specs.Places.{job_in};
 ghost use Rattle.wf_calls.specs.Replies.{with_job};
 ghost use Rattle.wf_model.specs.Frames.{begin_composed, started};
 ghost use Rattle.wf_machine.specs.Object.{IsAnswer, IsSettled};
 
 use crate::parts::Parts;
 use crate::replies::refuse;
-use wf_calls::{Answer, Code, Job};
+use wf_calls::{Answer, Code, JobPlace};
 
 impl Parts {
     /// Begins a frame of a device's context that is not active. The device's register takes a refusal.
@@ -17,15 +18,15 @@ impl Parts {
         &mut self,
         device: u32,
         context: u32,
-        job: &mut Option<Job>,
+        place: &mut JobPlace,
     ) -> Answer
-        requires empty { job.old ≡ None }
+        requires empty { job_in place.old ≡ None }
         ensures left { self.new ≡ (started (of_device device) self.old (begin_composed device context self.old)).0 }
         ensures settled { IsSettled self.new }
         ensures answer { IsAnswer (started (of_device device) self.old (begin_composed device context self.old)).1
-            (with_job result job.new) }
+            (with_job result (job_in place.new)) }
     {
-        let answer = self.compose(device, context, job);
+        let answer = self.compose(device, context, place);
         if !answer.code.is_ok() {
             self.core.record(device, answer.code);
         }
@@ -33,11 +34,11 @@ impl Parts {
     }
 
     /// Begins a frame of a device's context that is not active. No register takes a refusal yet.
-    fn compose(&mut self, device: u32, context: u32, job: &mut Option<Job>) -> Answer
-        requires empty { job.old ≡ None }
+    fn compose(&mut self, device: u32, context: u32, place: &mut JobPlace) -> Answer
+        requires empty { job_in place.old ≡ None }
         ensures left { self.new ≡ (started no_register self.old (begin_composed device context self.old)).0 }
         ensures settled { IsSettled self.new }
-        ensures answer { IsAnswer (started no_register self.old (begin_composed device context self.old)).1 (with_job result job.new) }
+        ensures answer { IsAnswer (started no_register self.old (begin_composed device context self.old)).1 (with_job result (job_in place.new)) }
     {
         self.all_named();
         let shown = match self.core.context(device, context) {
@@ -50,6 +51,6 @@ impl Parts {
         if self.is_busy() {
             return refuse(Code::Busy);
         }
-        self.begin_context(0, context, &shown, job)
+        self.begin_context(0, context, &shown, place)
     }
 }

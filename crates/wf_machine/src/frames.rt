@@ -4,6 +4,7 @@ ghost use Rattle.std.specs.List.{AllByRecursion};
 ghost use Rattle.std.specs.Prelude.{◌≡◌, ◌<◌, ◌+◌, ◌-◌, ◌^◌, None, Ok, IfSome, IsSome, MatchOption, Some, length, map};
 ghost use Rattle.wf_words.specs.Keyed.{nth};
 ghost use Rattle.wf_calls.specs.Parts.{no_register};
+ghost use Rattle.wf_calls.specs.Places.{job_in};
 ghost use Rattle.wf_calls.specs.Replies.{with_job};
 ghost use Rattle.wf_stream.specs.Streams.{buffers_at};
 ghost use Rattle.wf_words.specs.Whole.{count_of};
@@ -18,12 +19,13 @@ ghost use Rattle.wf_machine.specs.Ports.{sizes_of};
 ghost use Rattle.wf_machine.specs.Starting.{IsReady, IsTargetOf, MayStart, beginning_of};
 
 use crate::frame::Frame;
-use crate::latching::{Latched, bring_home, latch_scene, names};
+use crate::latching::{bring_home, empty, latch_scene, names};
 use crate::naming::{begin_names, end_names};
 use crate::parts::Parts;
 use crate::port::{Port, put_image, take_image};
 use crate::replies::refuse;
-use wf_calls::{Answer, Code, Job, JobKind, Refusal};
+use arrayvec::ArrayVec;
+use wf_calls::{Answer, Code, Job, JobKind, JobPlace, Refusal};
 use wf_core::Shown;
 use wf_image::{Canvas, Image};
 use wf_scene::Scene;
@@ -70,18 +72,18 @@ impl Parts {
 
     /// Begins a frame of the next active context, if there is one.
     #[inline(never)]
-    pub(crate) fn begin_next(&mut self, after: u32, job: &mut Option<Job>) -> Answer
-        requires empty { job.old ≡ None }
+    pub(crate) fn begin_next(&mut self, after: u32, place: &mut JobPlace) -> Answer
+        requires empty { job_in place.old ≡ None }
         ensures left { self.new ≡ (started no_register self.old (begin_next after self.old)).0 }
         ensures settled { IsSettled self.new }
-        ensures answer { IsAnswer (started no_register self.old (begin_next after self.old)).1 (with_job result job.new) }
+        ensures answer { IsAnswer (started no_register self.old (begin_next after self.old)).1 (with_job result (job_in place.new)) }
     {
         self.all_named();
         if self.is_busy() {
             return refuse(Code::Busy);
         }
         match self.core.next(after) {
-            Some((handle, shown)) => self.begin_context(handle, handle, &shown, job),
+            Some((handle, shown)) => self.begin_context(handle, handle, &shown, place),
             None => Answer::done(0),
         }
     }
@@ -92,9 +94,9 @@ impl Parts {
         value: u32,
         handle: u32,
         shown: &Shown,
-        job: &mut Option<Job>,
+        place: &mut JobPlace,
     ) -> Answer
-        requires empty { job.old ≡ None }
+        requires empty { job_in place.old ≡ None }
         requires free { self.old.frame ≡ None }
         requires home { AreAtHome self.old.streams }
         requires fits { IsComposable self.old.streams shown.now.target shown.now.scene }
@@ -102,7 +104,7 @@ impl Parts {
             ≡ (started no_register self.old (begin_context value handle shown.now.target shown.now.scene self.old)).0 }
         ensures settled { IsSettled self.new }
         ensures answer { IsAnswer (started no_register self.old (begin_context value handle shown.now.target shown.now.scene self.old)).1
-            (with_job result job.new) }
+            (with_job result (job_in place.new)) }
     {
         self.all_named();
         if let Err(refusal) = self.target_ready(value, shown) {
@@ -112,7 +114,7 @@ impl Parts {
             handle,
             target: shown.target,
         };
-        self.start_frame(kind, 0, &shown.scene, handle, job)
+        self.start_frame(kind, 0, &shown.scene, handle, place)
     }
 
     /// A frame of a context may be drawn into its target, which is kept. A refusal has this value.
@@ -139,10 +141,10 @@ impl Parts {
 
     /// Begins a frame of a port, which is counted from 1, where it gives frames.
     #[inline(never)]
-    pub(crate) fn begin_port(&mut self, port: i64, job: &mut Option<Job>) -> Answer
-        requires empty { job.old ≡ None }
+    pub(crate) fn begin_port(&mut self, port: i64, place: &mut JobPlace) -> Answer
+        requires empty { job_in place.old ≡ None }
         ensures left { self.new ≡ (settled_so (started no_register self.old (begin_port port self.old))).0 }
-        ensures answer { IsAnswer (started no_register self.old (begin_port port self.old)).1 (with_job result job.new) }
+        ensures answer { IsAnswer (started no_register self.old (begin_port port self.old)).1 (with_job result (job_in place.new)) }
     {
         self.all_named();
         let Some(number) = self.declared_screen(port) else {
@@ -160,12 +162,12 @@ impl Parts {
         self.core.few_names();
         self.display.few_names();
         self.display.begin(&mut self.store, number);
-        self.start_port(number, job)
+        self.start_port(number, place)
     }
 
     /// Begins a frame of a port that gives frames, once what waited at its pipelines is current, while no frame runs.
-    fn start_port(&mut self, port: u32, job: &mut Option<Job>) -> Answer
-        requires empty { job.old ≡ None }
+    fn start_port(&mut self, port: u32, place: &mut JobPlace) -> Answer
+        requires empty { job_in place.old ≡ None }
         requires free { self.old.frame ≡ None }
         requires few { self.old.begun < 2 ^ 64 - 1 }
         requires shows { IsSome (port_scene port self.old.display) }
@@ -176,7 +178,7 @@ impl Parts {
         ensures layers { IfSome (port_scene port self.old.display)
             (λ scene. AllByRecursion (LayerFits self.old.streams) scene.layers.items) }
         ensures answer { IfSome (port_scene port self.old.display)
-            (λ scene. IsAnswer (start (beginning_of (JobKind.Port port) scene port self.old) self.old).1 (with_job result job.new)) }
+            (λ scene. IsAnswer (start (beginning_of (JobKind.Port port) scene port self.old) self.old).1 (with_job result (job_in place.new))) }
     {
         let Some(mode) = self.display.mode(port) else {
             unreachable!()
@@ -184,7 +186,7 @@ impl Parts {
         let Some(scene) = self.display.scene(port) else {
             unreachable!()
         };
-        self.start_frame(JobKind::Port { port }, mode, &scene, port, job)
+        self.start_frame(JobKind::Port { port }, mode, &scene, port, place)
     }
 
     /// Begins a frame that may begin, while none runs: the newest images of its scene's streams go into its Job, which is put
@@ -195,21 +197,22 @@ impl Parts {
         mode: u32,
         scene: &Scene,
         value: u32,
-        job: &mut Option<Job>,
+        place: &mut JobPlace,
     ) -> Answer
         requires free { self.old.frame ≡ None }
         requires few { self.old.begun < 2 ^ 64 - 1 }
         requires may { MayStart kind mode scene.now self.old }
         ensures left { self.new ≡ (start (beginning_of kind scene.now value self.old) self.old).0 }
         ensures settled { IsSettled self.new }
-        ensures answer { IsAnswer (start (beginning_of kind scene.now value self.old) self.old).1 (with_job result job.new) }
+        ensures answer { IsAnswer (start (beginning_of kind scene.now value self.old) self.old).1 (with_job result (job_in place.new)) }
     {
-        let mut latched = Latched::new();
-        latch_scene(&mut self.store, scene, &mut latched);
+        empty(&mut place.job.contents);
+        let mut shapes = ArrayVec::new();
+        latch_scene(&mut self.store, scene, &mut place.job.contents, &mut shapes);
         let image = take_target(&mut self.store, &mut self.ports, kind, mode);
         self.core.few_names();
         self.display.few_names();
-        begin_names(&mut self.store, latched.shapes.as_slice(), kind);
+        begin_names(&mut self.store, shapes.as_slice(), kind);
         self.begun += 1;
         self.frame = Some(Frame {
             number: self.begun,
@@ -217,15 +220,10 @@ impl Parts {
             mode,
             size: image.size(),
             format: image.format(),
-            contents: latched.shapes,
+            contents: shapes,
         });
-        *job = Some(Job {
-            number: self.begun,
-            kind,
-            scene: scene.copy(),
-            contents: latched.contents,
-            image,
-        });
+        place.job.scene.copy_from(scene);
+        place.begin(self.begun, kind, image);
         Answer::done(value)
     }
 
@@ -240,29 +238,28 @@ impl Parts {
     }
 
     /// Ends the running frame, whose Job is in this place, and brings its images home. Any other Job stays there.
-    pub(crate) fn end(&mut self, place: &mut Option<Job>) -> Answer
-        requires { IsSome place.old }
-        ensures { IfSome place.old (λ job. settled_so (end job self.old) ≡ (self.new, with_job result place.new)) }
+    pub(crate) fn end(&mut self, place: &mut JobPlace) -> Answer
+        requires { IsSome (job_in place.old) }
+        ensures { IfSome (job_in place.old) (λ job. settled_so (end job self.old) ≡ (self.new, with_job result (job_in place.new))) }
     {
         self.all_named();
-        let Some(job) = place.take() else {
-            unreachable!()
-        };
-        if !self.is_of_running(&job) {
-            *place = Some(job);
+        if !self.is_of_running(&place.job) {
             return refuse(Code::BadHandle);
         }
         let Some(frame) = self.frame.take() else {
             unreachable!()
         };
-        let kind = job.kind;
-        bring_home(&mut self.store, job.contents);
+        let kind = place.job.kind;
+        bring_home(&mut self.store, &mut place.job.contents);
+        let Some(image) = place.end() else {
+            unreachable!()
+        };
         deliver(
             &mut self.store,
             &mut self.ports,
             kind,
             frame.mode,
-            job.image,
+            image,
         );
         end_names(&mut self.store, frame.contents.as_slice(), kind);
         Answer::done(0)

@@ -5,6 +5,7 @@ ghost use Rattle.std.specs.Option.{IfNone};
 ghost use Rattle.wf_stream.specs.Streams.{held};
 ghost use Rattle.wf_calls.specs.Creations.{is_creation};
 ghost use Rattle.wf_calls.specs.Parts.{carries, is_begin, part_of};
+ghost use Rattle.wf_calls.specs.Places.{job_in};
 ghost use Rattle.wf_calls.specs.Replies.{bare, with_canvas, with_job};
 ghost use Rattle.wf_calls.specs.PortRules.{may_declare};
 ghost use Rattle.wf_calls.specs.Requests.{brings, call_of};
@@ -17,7 +18,7 @@ use crate::parts::Parts;
 use crate::replies::with_canvas;
 use std::alloc::Global;
 use std::marker::Model;
-use wf_calls::{Answer, Call, Job, Ports, Reply, Request};
+use wf_calls::{Answer, Call, Job, JobPlace, Ports, Reply, Request};
 use wf_image::Canvas;
 use wf_stream::Held;
 use wf_words::NoMemory;
@@ -26,6 +27,8 @@ use wf_words::NoMemory;
 #[derive(Drop)]
 pub struct Machine {
     parts: Parts,
+    // Where `run` has its Jobs.
+    place: JobPlace,
 }
 
 impl Model for Machine {
@@ -47,6 +50,7 @@ impl Machine {
     {
         Ok(Machine {
             parts: Parts::open(alloc, ports)?,
+            place: JobPlace::new(alloc)?,
         })
     }
 
@@ -62,24 +66,25 @@ impl Machine {
         self.parts.act_plain(call)
     }
 
-    /// Begins a frame as `run` does for a call that begins one. The Job that comes is put in this place, which is empty where none
+    /// Begins a frame as `run` does for a call that begins one. The Job that comes is written in this place, which is empty where none
     /// comes: so no Job is moved.
-    pub fn begin(&mut self, client: u8, call: &Request, job: &mut Option<Job>) -> Answer
+    pub fn begin(&mut self, client: u8, call: &Request, place: &mut JobPlace) -> Answer
         requires { IsTrue (is_begin (call_of call.now)) }
-        ensures step { IsStep self.old client (call_of call.now) self.new (with_job result job.new) }
+        ensures step { IsStep self.old client (call_of call.now) self.new (with_job result (job_in place.new)) }
         ensures lifetime { self.new.streams ≡ kept self.new }
     {
-        Job::clear(job);
-        self.parts.act_begin(call, job)
+        place.clear();
+        self.parts.act_begin(call, place)
     }
 
     /// Ends the running frame as `run` does, by the Job in this place. A Job that is not the running frame's stays there.
-    pub fn end(&mut self, client: u8, job: &mut Option<Job>) -> Answer
-        requires { IsSome job.old }
-        ensures step { IfSome job.old (λ j. IsStep self.old client (Call.End j) self.new (with_job result job.new)) }
+    pub fn end(&mut self, client: u8, place: &mut JobPlace) -> Answer
+        requires { IsSome (job_in place.old) }
+        ensures step { IfSome (job_in place.old)
+            (λ j. IsStep self.old client (Call.End j) self.new (with_job result (job_in place.new))) }
         ensures lifetime { self.new.streams ≡ kept self.new }
     {
-        self.parts.act_end(job)
+        self.parts.act_end(place)
     }
 
     /// Takes a stream's write buffer, as `run` does, if it is free.
@@ -111,9 +116,9 @@ impl Machine {
         requires { IsTrue (is_begin (call_of call.now)) }
         ensures step { IsStep self.old client (call_of call.now) self.new result }
     {
-        let mut job = None;
-        let answer = self.begin(client, call, &mut job);
-        Reply::with_job(answer, job)
+        self.place.clear();
+        let answer = self.parts.act_begin(call, &mut self.place);
+        Reply::with_job(answer, self.place.take())
     }
 
     /// Runs a client's call that brings nothing, and may take a write buffer or a Job.
@@ -141,9 +146,9 @@ impl Machine {
     fn run_end(&mut self, client: u8, job: Job) -> Reply
         ensures step { IsStep self.old client (Call.End job) self.new result }
     {
-        let mut job = Some(job);
-        let answer = self.end(client, &mut job);
-        Reply::with_job(answer, job)
+        self.place.put(job);
+        let answer = self.parts.act_end(&mut self.place);
+        Reply::with_job(answer, self.place.take())
     }
 
     /// Runs a client's call that brings a write buffer or a Job.

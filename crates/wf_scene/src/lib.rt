@@ -74,4 +74,17 @@ impl Scene {
             layers,
         }
     }
+
+    /// Becomes the same as another scene. Only what that one has of layers is written.
+    pub fn copy_from(&mut self, other: &Scene)
+        ensures { self.new ≡ other.now }
+    {
+        self.size = other.size;
+        self.turn = other.turn;
+        self.background = other.background;
+        self.layers.clear();
+        for layer in other.layers.as_slice() {
+            self.layers.push(*layer);
+        }
+    }
 }

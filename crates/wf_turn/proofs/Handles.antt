@@ -1,6 +1,6 @@
 -- The values of names that a program sees.
 use Rattle.wf_turn.proofs.Common.{◌≡◌, ◌∙◌, ℕ, true, false, cond, List, [], ◌∷◌, ◌++◌, Option, Some, None, refl, ap, find, option_map}
-use Rattle.wf_turn.proofs.Common.{unwrap_or, bytes_eq, Name, Table, known, value_of, Canvas, PlainScript, Program, handle, lines_from}
+use Rattle.wf_turn.proofs.Common.{unwrap_or, bytes_eq, Name, Table, known, value_of, Canvas, PlainScript, Job, Program, handle, lines_from}
 use Rattle.wf_turn.proofs.Common.{program, skipped}
 use Rattle.wf_turn.specs.declared.stage.Stage.TheVariants as stage
 
@@ -37,7 +37,8 @@ learned_handle p name none = ap (λ o. unwrap_or o 0) (value_either name p.own p
     ∙ ap (λ o. or_else o (value_of name p.learned)) none)
 
 -- the program before the first event of its lines
-pub opened : (script : PlainScript) (client at : ℕ) (own learned : List (Name × ℕ)) (canvas : Option Canvas) → own ≡ [] → learned ≡ []
+pub opened : (script : PlainScript) (client at : ℕ) (own learned : List (Name × ℕ)) (canvas : Option Canvas)
+    (job : Option Job) → own ≡ [] → learned ≡ [] → job ≡ None
     → skipped None (lines_from client 0 script.lines) ≡ (canvas, lines_from client at script.lines)
     → record {
       script = script;
@@ -46,9 +47,9 @@ pub opened : (script : PlainScript) (client at : ℕ) (own learned : List (Name 
       own = own;
       learned = learned;
       canvas = canvas;
-      job = None;
+      job = job;
       unpainted = false;
       stage = stage.Fresh;
       tick = 0;
     } ≡ program script client
-opened script client at own learned canvas no_own no_learned is = rw (no_own, no_learned, is) refl
+opened script client at own learned canvas job no_own no_learned no_job is = rw (no_own, no_learned, no_job, is) refl

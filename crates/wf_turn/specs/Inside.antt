@@ -1,5 +1,6 @@
 -- How a program is kept, and what holds of it.
 use Rattle.std.specs.Prelude.{◌≡◌, ℕ, ◌+◌, ◌≤◌, take, length}
+use Rattle.wf_calls.specs.Places.{job_in}
 use Rattle.wf_turn.specs.declared.program.Program.TheInside.{Inside}
 use Rattle.wf_turn.specs.declared.stage.Stage.{Stage}
 use Rattle.wf_turn.specs.declared.stage.Stage.TheVariants as stage
@@ -18,7 +19,7 @@ program_of p =
       own = known p.own;
       learned = known p.learned;
       canvas = p.canvas;
-      job = p.job;
+      job = job_in p.job;
       unpainted = p.unpainted;
       stage = p.stage;
       tick = p.tick;

@@ -45,7 +45,7 @@ impl<'a> Program<'a> {
         requires { IsAnswered (port_count self.old) phase }
         ensures { self.new ≡ took_job self.old (job_payload self.old.job) phase }
     {
-        if self.job.is_some() {
+        if self.job.is_held() {
             self.unpainted = true;
             self.stage = Stage::Ending(phase);
         } else {
@@ -122,7 +122,7 @@ impl<'a> Program<'a> {
         ensures { self.new ≡ took self.old (replied answer (Payload.Job job)) }
     {
         if self.takes_job() {
-            self.job = Some(job);
+            self.job.put(job);
             self.took_begun(answer);
         } else {
             self.took_answer(answer);

@@ -17,7 +17,7 @@ use crate::skipping::skip;
 use crate::stage::{Asked, Stage, Wanted};
 use std::alloc::Global;
 use std::marker::Model;
-use wf_calls::{Job, Request};
+use wf_calls::{JobPlace, Request};
 use wf_image::Canvas;
 use wf_script::{Line, Name, Script};
 use wf_words::NoMemory;
@@ -34,7 +34,7 @@ pub struct Program<'a> {
     pub(crate) own: Names<'a>,
     pub(crate) learned: Names<'a>,
     pub(crate) canvas: Option<Canvas>,
-    pub(crate) job: Option<Job>,
+    pub(crate) job: JobPlace,
     pub(crate) unpainted: bool,
     pub(crate) stage: Stage,
     pub(crate) tick: u32,
@@ -79,6 +79,7 @@ impl<'a> Program<'a> {
         let setup = setup_lines(lines);
         let own = Names::new(alloc, lines, client)?;
         let learned = Names::new(alloc, &lines[..setup], 0)?;
+        let job = JobPlace::new(alloc)?;
         let mut canvas = None;
         let at = skip(lines, client, 0, &mut canvas);
         Ok(Program {
@@ -90,7 +91,7 @@ impl<'a> Program<'a> {
             own,
             learned,
             canvas,
-            job: None,
+            job,
             unpainted: false,
             stage: Stage::Fresh,
             tick: 0,

@@ -113,7 +113,7 @@ impl<'a> Program<'a> {
         requires { IsAnswered (port_count self.old) phase }
         ensures { self.new ≡ go_on (unheld self.old) phase }
     {
-        Job::clear(&mut self.job);
+        self.job.clear();
         self.unpainted = false;
         self.go_on(phase);
     }
@@ -164,7 +164,11 @@ impl<'a> Program<'a> {
             return None;
         }
         self.unpainted = false;
-        self.job.as_mut()
+        if self.job.is_held() {
+            Some(&mut self.job.job)
+        } else {
+            None
+        }
     }
 
     /// Lets a painter paint the Job that is held and not painted yet, and answers whether there was one.
@@ -186,6 +190,6 @@ impl<'a> Program<'a> {
     pub fn job(&self) -> Option<&Job>
         ensures { option_copied result ≡ self.now.job }
     {
-        self.job.as_ref()
+        self.job.job()
     }
 }

@@ -37,6 +37,6 @@ loop-number-preserved c =
 pub returns : goal.returns
 returns c =
     let before = c.args.store.now in
-    let is : c.args.contents ≡ c.loop-number.invariant.0 = c.loop-number.invariant.1
+    let is : c.args.contents.now ≡ c.loop-number.invariant.0 = c.loop-number.invariant.1
     ∙ ap (λ xs. xs ++ c.loop-number.invariant.0) c.in_default.ensures.none in
     c.loop-number.invariant.2 ∙ ap (λ xs. record before { streams = brought_home xs before.streams }) (sym is)

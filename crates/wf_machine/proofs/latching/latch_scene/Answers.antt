@@ -1,4 +1,4 @@
-use Rattle.wf_machine.proofs.Common.{◌+◌, ◌≤◌, length, sym, ap, subst, arith}
+use Rattle.wf_machine.proofs.Common.{◌+◌, ◌≤◌, ◌∙◌, length, map, sym, ap, subst, arith, content_shape}
 use Rattle.wf_machine.proofs.Latches.{IsTaken, few_step, names_more, nothing_taken, take_home, take_step}
 use Rattle.wf_machine.proofs.latching.latch_scene.Goals as goal
 
@@ -6,33 +6,35 @@ pub loop-layer-init : goal.loop-layer-init
 loop-layer-init c = record {
   so_far = nothing_taken _ _ c.requires.none;
   few = omega (arith, ap length c.requires.none);
+  shapes = c.requires.no_shapes ∙ ap (map content_shape) (sym c.requires.none);
 }
 
 pub take-requires-clause-home : goal.take-requires-clause-home
-take-requires-clause-home c = take_home _ c.loop-layer.store _ _ c.loop-layer.images c.requires.home
+take-requires-clause-home c = take_home _ c.loop-layer.store _ _ c.loop-layer.contents c.requires.home
     c.loop-layer.invariant.so_far
 
 pub take-requires-in-loop-layer-clause-home : goal.take-requires-in-loop-layer-clause-home
 take-requires-in-loop-layer-clause-home c =
-    let first = take_step _ c.loop-layer.store _ _ _ _ c.loop-layer.images
-    c.take.new.self c.requires.numbered c.loop-layer.invariant.so_far c.take.ensures.contents c.take.ensures.store
+    let first = take_step _ c.loop-layer.store _ _ _ _ c.loop-layer.contents
+    c.take.new.contents c.requires.numbered c.loop-layer.invariant.so_far c.take.ensures.contents c.take.ensures.store
     c.take.ensures.shaped in
     take_home _ _ _ _ _ c.requires.home first
 
 pub loop-layer-preserved : goal.loop-layer-preserved
 loop-layer-preserved c =
-    let first = take_step _ c.loop-layer.store _ _ _ _ c.loop-layer.images
-    c.take.new.self c.requires.numbered c.loop-layer.invariant.so_far c.take.ensures.contents c.take.ensures.store
+    let first = take_step _ c.loop-layer.store _ _ _ _ c.loop-layer.contents
+    c.take.new.contents c.requires.numbered c.loop-layer.invariant.so_far c.take.ensures.contents c.take.ensures.store
     c.take.ensures.shaped in
     let t = c.take-in-loop-layer in
-    let second = take_step _ _ t.new.store _ _ _ _ t.new.self
+    let second = take_step _ _ t.new.store _ _ _ _ t.new.contents
     c.requires.numbered first t.ensures.contents t.ensures.store t.ensures.shaped in
-    let one : length c.take.new.self ≤ length c.loop-layer.images + 1 =
-    few_step _ c.loop-layer.store.streams c.loop-layer.images _ c.take.ensures.contents in
-    let two : length t.new.self ≤ length c.take.new.self + 1 =
-    few_step _ _ _ t.new.self t.ensures.contents in
+    let one : length c.take.new.contents ≤ length c.loop-layer.contents + 1 =
+    few_step _ c.loop-layer.store.streams c.loop-layer.contents _ c.take.ensures.contents in
+    let two : length t.new.contents ≤ length c.take.new.contents + 1 =
+    few_step _ _ _ t.new.contents t.ensures.contents in
     record {
-      so_far = subst (λ ns. IsTaken c.args.store.now ns t.new.self t.new.store)
+      so_far = subst (λ ns. IsTaken c.args.store.now ns t.new.contents t.new.store)
           (sym (names_more c.loop-layer.layer-index _ _ c.loop-layer-test.true)) second;
       few = omega (arith, c.loop-layer.invariant.few);
+      shapes = t.ensures.shapes;
     }

@@ -1,5 +1,6 @@
 use Rattle.wf_machine.proofs.Common.{rules, ap, to_z-of_z, act}
 use Rattle.wf_calls.specs.Parts.{no_register, of_device}
+use Rattle.wf_calls.specs.Places.{job_in}
 use Rattle.wf_calls.specs.Replies.{with_job}
 use Rattle.wf_calls.specs.Requests.{call_of}
 use Rattle.wf_model.specs.Frames.{begin_composed, begin_next, started}
@@ -22,7 +23,7 @@ returns-in-BeginPort c =
     let p : SFits w64 c.in-BeginPort.port = search rules in
     let begun = rw (to_z-of_z p) at c.begin_port.ensures in
     as_begin _ _ _ (call.BeginPort c.in-BeginPort.port)
-    (with_job c.begin_port.result c.begin_port.new.job) (ap call_of c.in-BeginPort.is) begun.left begun.answer
+    (with_job c.begin_port.result (job_in c.begin_port.new.place)) (ap call_of c.in-BeginPort.is) begun.left begun.answer
 
 pub returns-in-BeginContext : goal.returns-in-BeginContext
 unfolding act

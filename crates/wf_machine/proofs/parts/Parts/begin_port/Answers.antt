@@ -5,6 +5,7 @@ use Rattle.wf_machine.proofs.Common.{begun_display}
 use Rattle.wf_machine.proofs.Common.{beginning_of, kept, modes_of, not_some, port_scene, settle, settled_so, start, state_of}
 use Rattle.wf_calls.specs.declared.call.JobKind.TheVariants as kind
 use Rattle.wf_calls.specs.Parts.{no_register}
+use Rattle.wf_calls.specs.Places.{job_in}
 use Rattle.wf_calls.specs.Replies.{with_job}
 use Rattle.wf_model.specs.Frames.{started}
 use Rattle.wf_display.specs.Sides.{KeepsRest, beside}
@@ -114,6 +115,6 @@ returns-clause-left c =
 
 pub returns-clause-answer : goal.returns-clause-answer
 returns-clause-answer c =
-    subst (λ x. IsAnswer x.1 (with_job c.start_port.result c.start_port.new.job)) (same c)
+    subst (λ x. IsAnswer x.1 (with_job c.start_port.result (job_in c.start_port.new.place))) (same c)
     (subst (λ o. IfSome o (λ scene. IsAnswer (start (beginning_of (kind.Port c.in-Some.number) scene c.in-Some.number (g c)) (g c)).1
-    (with_job c.start_port.result c.start_port.new.job))) (shown c).1 c.start_port.ensures.answer)
+    (with_job c.start_port.result (job_in c.start_port.new.place)))) (shown c).1 c.start_port.ensures.answer)

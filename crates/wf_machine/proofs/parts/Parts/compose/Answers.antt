@@ -1,5 +1,6 @@
 use Rattle.wf_machine.proofs.Common.{◌≡◌, ap, subst, ◌∙◌, sym, Fits, State, AreAtHome, IsAnswer, not_some}
 use Rattle.wf_calls.specs.Parts.{no_register}
+use Rattle.wf_calls.specs.Places.{job_in}
 use Rattle.wf_calls.specs.Replies.{with_job}
 use Rattle.wf_model.specs.Frames.{begin_composed, begin_context, started}
 use Rattle.wf_objects.specs.Shows.{shown_context}
@@ -36,5 +37,5 @@ returns-clause-left c = c.begin_context.ensures.left ∙ ap (λ r. (started no_r
 
 pub returns-clause-answer : goal.returns-clause-answer
 returns-clause-answer c =
-    subst (λ r. IsAnswer (started no_register c.args.self.now r).1 (with_job c.begin_context.result c.begin_context.new.job))
+    subst (λ r. IsAnswer (started no_register c.args.self.now r).1 (with_job c.begin_context.result (job_in c.begin_context.new.place)))
     (sym (begun c)) c.begin_context.ensures.answer

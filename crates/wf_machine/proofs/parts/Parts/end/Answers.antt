@@ -1,6 +1,10 @@
+use Rattle.std.proofs.lemmas.Option.{none-some, same_Some}
 use Rattle.wf_machine.proofs.Common.{◌≡◌, [], true, ap, sym, ◌∙◌, refl, subst, option_map, StoreView, brought_home, delivered, Inside}
-use Rattle.wf_machine.proofs.Common.{IfSome, IsDue, Job, Option, Reply, Some, State, end}
+use Rattle.std.specs.Prelude.{if◌then◌else◌}
+use Rattle.wf_machine.proofs.Common.{IfSome, IsDue, Job, Option, Some, State, end, Reply, Bool, None, Bitmap, is_some}
 use Rattle.wf_machine.proofs.Common.{bare, Holds, is_of_running, running_of, settled_so}
+use Rattle.wf_calls.specs.declared.reply.Answer.{Answer}
+use Rattle.wf_calls.specs.Places.{is_aside, is_held, job_in}
 use Rattle.wf_calls.specs.Replies.{with_job}
 use Rattle.wf_stream.specs.Names.{NamesFit}
 use Rattle.wf_stream.specs.Renames.{Renames}
@@ -13,107 +17,123 @@ use Rattle.wf_machine.proofs.FrameCounts.{ended_fit, sound_untold, untold_seen}
 use Rattle.wf_machine.proofs.parts.Parts.end.Goals as goal
 
 -- the Job that stands in the place is ended
-of_job : (h left : State) (reply : Reply) (o : Option Job) (job : Job) → o ≡ Some job → settled_so (end job h) ≡ (left, reply)
-    → IfSome o (λ j. settled_so (end j h) ≡ (left, reply))
-of_job h left reply o job is ends = rw is ends
+of_job : (h left : State) (answer : Answer) (before after : Option Job) (job : Job) → before ≡ Some job
+    → settled_so (end job h) ≡ (left, with_job answer after) → IfSome before (λ j. settled_so (end j h) ≡ (left, with_job answer after))
+of_job h left answer before after job is ends = rw is ends
+
+-- the image that is taken out of a place is its Job's
+image_is_own : (image : Bitmap) (there : Bool) (job : Job) → there ≡ true
+    → Some image ≡ option_map (λ (j : Job). j.image) (if there then Some job else None) → image ≡ job.image
+image_is_own image there job is_there is = same_Some image job.image (rw is_there at is)
 
 pub returns-then-not-is_of_running : goal.returns-then-not-is_of_running
 returns-then-not-is_of_running c =
-    let job = c.in-Some.job in
-    of_job _ _ _ _ job (sym c.take.ensures.value ∙ c.in-Some.is)
-    (as_settled _ _ _ (stays_running job c.args.self.now (with_job c.refuse.result (Some job))
-    (sym c.is_of_running.ensures ∙ c.if-not-is_of_running.true) (ap (λ a. with_job a (Some job)) c.refuse.ensures)) c.all_named.ensures)
+    let held = is_held c.args.place.now c.requires in
+    of_job _ _ _ _ _ c.args.place.now.job held
+    (as_settled _ _ _ (stays_running c.args.place.now.job c.args.self.now (with_job c.refuse.result (job_in c.args.place.now))
+    (sym c.is_of_running.ensures ∙ c.if-not-is_of_running.true) (λ i. with_job (c.refuse.ensures i) (held i))) c.all_named.ensures)
 
-pub unreachable-requires-in_default-take : goal.unreachable-requires-in_default-take
-unreachable-requires-in_default-take c =
-    none_of c.self.inside c.in-Some.job (sym c.take-2.ensures.value ∙ c.in_default-take.is)
-    (was_running c.self.inside c.in-Some.job _ c.self.view_is (sym c.is_of_running.ensures ∙ c.if-not-is_of_running.false))
+pub unreachable-requires : goal.unreachable-requires
+unreachable-requires c =
+    none_of c.self.inside c.args.place.now.job (sym c.take.ensures.value ∙ c.in_default.is)
+    (was_running c.self.inside c.args.place.now.job _ c.self.view_is (sym c.is_of_running.ensures ∙ c.if-not-is_of_running.false))
 
 pub bring_home-requires-clause-awaited : goal.bring_home-requires-clause-awaited
 bring_home-requires-clause-awaited c =
-    ending_awaited c.self.inside c.in-Some.job (was_running c.self.inside c.in-Some.job _ c.self.view_is
+    ending_awaited c.self.inside c.args.place.now.job (was_running c.self.inside c.args.place.now.job _ c.self.view_is
     (sym c.is_of_running.ensures ∙ c.if-not-is_of_running.false)) c.self.invariant.holds
+
+-- the Job still stands there when its images are home
+pub unreachable-requires-in_default-end : goal.unreachable-requires-in_default-end
+unreachable-requires-in_default-end c =
+    none_held (is_some c.args.place.now.aside) _ (is_aside c.args.place.now c.requires)
+    (sym c.in_default-end.is ∙ c.end.ensures.image)
+  where
+    none_held : (there : Bool) (job : Job) → there ≡ true
+        → None ≡ option_map (λ (j : Job). j.image) (if there then Some job else None) → ⊥
+    none_held there job is_there is = none-some job.image (rw is_there at is)
 
 pub deliver-requires : goal.deliver-requires
 deliver-requires c =
-    let job = c.in-Some.job in
-    subst (λ ss. IsDue ss c.self.inside.ports.items c.in-Some-take.frame.mode job.kind job.image)
-    (sym (ap (λ v. v.streams) c.bring_home.ensures))
-    (ending_due c.self.inside job (was_running c.self.inside job c.args.self.now c.self.view_is (sym c.is_of_running.ensures
-    ∙ c.if-not-is_of_running.false)) c.self.invariant.holds c.in-Some-take.frame (sym c.take-2.ensures.value ∙ c.in-Some-take.is))
-
-pub end_names-requires : goal.end_names-requires
-end_names-requires c =
     let m = c.self.inside in
-    let job = c.in-Some.job in
-    let f = c.in-Some-take.frame in
-    let is = was_running m job c.args.self.now c.self.view_is (sym c.is_of_running.ensures ∙ c.if-not-is_of_running.false) in
-    let ran = sym c.take-2.ensures.value ∙ c.in-Some-take.is in
-    let now : Inside = record m { store = c.deliver.new.store; ports = c.deliver.new.ports; frame = c.take-2.new.self } in
-    subst (λ cs. NamesFit (held_names cs job.kind) c.deliver.new.store) (sym c.as_slice.ensures.value)
-    (ended_fit m now job f c.self.invariant ran (ran_kind m job is c.self.invariant.holds f ran)
-    (ran_fits m job is c.self.invariant.holds f ran)
-    (c.deliver.ensures.store
-    ∙ ap (λ (v : StoreView). record v { streams = delivered job.kind job.image v.streams }) c.bring_home.ensures)
-    refl refl c.take-2.ensures.after)
+    let job = c.args.place.now.job in
+    let own = image_is_own c.in-Some-end.image (is_some c.args.place.now.aside) _ (is_aside c.args.place.now c.requires)
+    (sym c.in-Some-end.is ∙ c.end.ensures.image) in
+    subst (λ image. IsDue c.bring_home.new.store.streams m.ports.items c.in-Some.frame.mode job.kind image) (sym own)
+    (subst (λ ss. IsDue ss m.ports.items c.in-Some.frame.mode job.kind job.image) (sym (ap (λ v. v.streams) c.bring_home.ensures))
+    (ending_due m job (was_running m job c.args.self.now c.self.view_is (sym c.is_of_running.ensures ∙ c.if-not-is_of_running.false))
+    c.self.invariant.holds c.in-Some.frame (sym c.take.ensures.value ∙ c.in-Some.is)))
 
-module _ (c : goal.After-done) where
+module _ (c : goal.After-deliver) where
   abbrev m : Inside
   m = c.self.inside
 
   abbrev job : Job
-  job = c.in-Some.job
-
-  -- what is answered, and nothing is left in the place
-  abbrev reply : Reply
-  reply = with_job c.done.result c.take.new.self
+  job = c.args.place.now.job
 
   is : is_of_running job (option_map running_of m.frame) ≡ true
   is = was_running m job c.args.self.now c.self.view_is (sym c.is_of_running.ensures ∙ c.if-not-is_of_running.false)
 
-  ran : m.frame ≡ Some c.in-Some-take.frame
-  ran = sym c.take-2.ensures.value ∙ c.in-Some-take.is
+  ran : m.frame ≡ Some c.in-Some.frame
+  ran = sym c.take.ensures.value ∙ c.in-Some.is
+
+  own : c.in-Some-end.image ≡ job.image
+  own = image_is_own c.in-Some-end.image (is_some c.args.place.now.aside) _ (is_aside c.args.place.now c.requires)
+      (sym c.in-Some-end.is ∙ c.end.ensures.image)
 
   -- the machine before the store is told that the names ended
   abbrev now : Inside
-  now = record m { store = c.deliver.new.store; ports = c.deliver.new.ports; frame = c.take-2.new.self }
+  now = record m { store = c.deliver.new.store; ports = c.deliver.new.ports; frame = c.take.new.self }
 
   store_is : now.store ≡ record m.store { streams = delivered job.kind job.image (brought_home job.contents m.store.streams) }
   store_is =
       c.deliver.ensures.store
-      ∙ ap (λ (v : StoreView). record v { streams = delivered job.kind job.image v.streams }) c.bring_home.ensures
+      ∙ ap (λ (v : StoreView). record v { streams = delivered job.kind c.in-Some-end.image v.streams }) c.bring_home.ensures
+      ∙ ap (λ image. record m.store { streams = delivered job.kind image (brought_home job.contents m.store.streams) }) own
 
-  ended : HasEnded m job is c.self.invariant.holds c.deliver.new.store c.deliver.new.ports.items reply
+pub end_names-requires : goal.end_names-requires
+end_names-requires c =
+    subst (λ cs. NamesFit (held_names cs (job c).kind) c.deliver.new.store) (sym c.as_slice.ensures.value)
+    (ended_fit (m c) (now c) (job c) c.in-Some.frame c.self.invariant (ran c) (ran_kind (m c) (job c) (is c) c.self.invariant.holds
+    c.in-Some.frame (ran c)) (ran_fits (m c) (job c) (is c) c.self.invariant.holds c.in-Some.frame (ran c)) (store_is c) refl refl
+    c.take.ensures.after)
+
+module _ (c : goal.After-done) where
+  -- what is answered, and nothing is left in the place
+  abbrev reply : Reply
+  reply = with_job c.done.result (job_in c.end.new.self)
+
+  ended : HasEnded (m c) (job c) (is c) c.self.invariant.holds c.deliver.new.store c.deliver.new.ports.items reply
   ended =
       record {
-        store = store_is;
+        store = store_is c;
         modes = c.deliver.ensures.modes;
         fit = c.deliver.ensures.there;
-        reply_is = ap (with_job c.done.result) c.take.ensures.after ∙ ap bare c.done.ensures;
+        reply_is = ap (with_job c.done.result) c.end.ensures.none ∙ ap bare c.done.ensures;
       }
 
-  holds : Holds now
-  holds = sound_ended m job is c.self.invariant.holds _ c.deliver.new.ports.items reply now refl refl refl refl refl
-      c.take-2.ensures.after ended
+  holds : Holds (now c)
+  holds = sound_ended (m c) (job c) (is c) c.self.invariant.holds _ c.deliver.new.ports.items reply (now c) refl refl refl refl refl
+      c.take.ensures.after ended
 
-  told : Renames (held_names c.in-Some-take.frame.contents.items job.kind) [] now.store c.end_names.new.store
+  told : Renames (held_names c.in-Some.frame.contents.items (job c).kind) [] (now c).store c.end_names.new.store
   told =
-      subst (λ cs. Renames (held_names cs job.kind) [] now.store c.end_names.new.store) c.as_slice.ensures.value
+      subst (λ cs. Renames (held_names cs (job c).kind) [] (now c).store c.end_names.new.store) c.as_slice.ensures.value
       c.end_names.ensures
 
 pub invariant_of-self : goal.invariant_of-self
 invariant_of-self c =
-    sound_untold (m c) (now c) (job c) c.in-Some-take.frame c.self.invariant (ran c)
-    (ran_kind (m c) (job c) (is c) c.self.invariant.holds c.in-Some-take.frame (ran c))
-    (ran_fits (m c) (job c) (is c) c.self.invariant.holds c.in-Some-take.frame (ran c)) (store_is c) refl refl c.take-2.ensures.after
+    sound_untold (m c) (now c) (job c) c.in-Some.frame c.self.invariant (ran c)
+    (ran_kind (m c) (job c) (is c) c.self.invariant.holds c.in-Some.frame (ran c))
+    (ran_fits (m c) (job c) (is c) c.self.invariant.holds c.in-Some.frame (ran c)) (store_is c) refl refl c.take.ensures.after
     (holds c) c.end_names.new.store (told c)
 
 pub returns : goal.returns
 returns c =
-    of_job _ _ (reply c) _ (job c) (sym c.take.ensures.value ∙ c.in-Some.is)
+    of_job _ _ _ _ _ (job c) (is_held c.args.place.now c.requires)
     (ap settled_so (left_ended (m c) (job c) (is c) c.self.invariant.holds _ _ (reply c) (now c) refl refl refl refl refl
-    c.take-2.ensures.after (ended c) c.args.self.now c.self.view_is)
-    ∙ ap (λ s. (s, reply c)) (sym (untold_seen (m c) (now c) (job c) c.in-Some-take.frame c.self.invariant (ran c)
-    (ran_kind (m c) (job c) (is c) c.self.invariant.holds c.in-Some-take.frame (ran c))
-    (ran_fits (m c) (job c) (is c) c.self.invariant.holds c.in-Some-take.frame (ran c)) (store_is c) refl refl c.take-2.ensures.after
+    c.take.ensures.after (ended c) c.args.self.now c.self.view_is)
+    ∙ ap (λ s. (s, reply c)) (sym (untold_seen (m c) (now c) (job c) c.in-Some.frame c.self.invariant (ran c)
+    (ran_kind (m c) (job c) (is c) c.self.invariant.holds c.in-Some.frame (ran c))
+    (ran_fits (m c) (job c) (is c) c.self.invariant.holds c.in-Some.frame (ran c)) (store_is c) refl refl c.take.ensures.after
     (holds c) c.end_names.new.store (told c))))

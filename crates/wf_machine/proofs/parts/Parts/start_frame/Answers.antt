@@ -3,6 +3,7 @@ use Rattle.wf_machine.proofs.Common.{MayStart}
 use Rattle.wf_machine.proofs.Common.{StoreView, content_shape, map, drawing, latch, scene_streams, stream_at, AllByRecursion, beginning_of}
 use Rattle.wf_machine.proofs.Common.{Job, state_of}
 use Rattle.std.specs.Option.{IsSome}
+use Rattle.wf_calls.specs.Places.{job_in}
 use Rattle.wf_calls.specs.Replies.{with_job}
 use Rattle.wf_stream.specs.Names.{AreCounted}
 use Rattle.wf_stream.specs.Renames.{Renames}
@@ -32,15 +33,11 @@ begin_names-requires-clause-counted c =
     ∙ ap (λ (v : StoreView). record v { streams = drawing c.args.kind v.streams }) c.latch_scene.ensures.store))
     (counted_begun c.args.kind (scene_streams c.args.scene.now) c.self.inside.store c.self.invariant.counted)
 
--- the shapes are those of the images that were taken
-shapes_are : (c : goal.After-as_slice) → c.latched.inside.shapes.items ≡ map content_shape c.latch_scene.new.images
-shapes_are c = c.latched.invariant ∙ ap (map content_shape) c.latched.view_is
-
 pub begin_names-requires-clause-kept : goal.begin_names-requires-clause-kept
 begin_names-requires-clause-kept c =
     subst (λ cs. AllByRecursion (λ x. IsSome (stream_at x.stream c.take_target-image.new.store.streams)) cs)
-    (sym (c.as_slice.ensures.value ∙ shapes_are c))
-    (subst (λ (v : StoreView). AllByRecursion (λ x. IsSome (stream_at x.stream v.streams)) (map content_shape c.latch_scene.new.images))
+    (sym (c.as_slice.ensures.value ∙ c.latch_scene.ensures.shapes))
+    (subst (λ (v : StoreView). AllByRecursion (λ x. IsSome (stream_at x.stream v.streams)) (map content_shape c.latch_scene.new.contents))
     (sym c.take_target-image.ensures.store)
     (contents_kept c.args.kind _ c.latch_scene.new.store.streams c.latch_scene.ensures.shaped))
 
@@ -73,7 +70,7 @@ module _ (c : goal.After-done) where
         mode = c.args.mode;
         size = c.size.result;
         format = c.format.result;
-        contents = c.latched.inside.shapes;
+        contents = c.latch_scene.new.shapes;
       }
 
   abbrev given : Job
@@ -81,8 +78,8 @@ module _ (c : goal.After-done) where
       record {
         number = c.self.inside.begun + 1;
         kind = c.args.kind;
-        scene = c.copy.result;
-        contents = c.latched.inside.contents;
+        scene = c.copy_from.new.self;
+        contents = c.latch_scene.new.contents;
         image = c.take_target-image.result;
       }
 
@@ -98,8 +95,8 @@ module _ (c : goal.After-done) where
         frame = Some frame;
       }
 
-  starts : Starts c.self.inside now c.args.kind c.args.mode c.args.scene.now c.latch_scene.new.store c.latch_scene.new.images
-      c.latched.inside.contents
+  starts : Starts c.self.inside now c.args.kind c.args.mode c.args.scene.now c.latch_scene.new.store
+      c.latch_scene.new.contents c.latch_scene.new.contents
       c.take_target-image.result frame
   starts =
       record {
@@ -122,8 +119,8 @@ module _ (c : goal.After-done) where
         mode_is = refl;
         size = c.size.ensures.size;
         format = c.format.ensures;
-        shapes = c.latched.invariant ∙ ap (map content_shape) c.latched.view_is;
-        contents_are = c.latched.view_is;
+        shapes = c.latch_scene.ensures.shapes;
+        contents_are = refl;
       }
 
   -- the store is told of them
@@ -139,7 +136,7 @@ module _ (c : goal.After-done) where
   sound_now =
       let a = c.args in
       let may = subst (λ h. MayStart a.kind a.mode a.scene.now h) (sym c.self.view_is) c.requires.may in
-      sound_told was now (b was now a.kind a.mode a.scene.now a.value _ _ _ _ frame starts) frame c.latched.inside.contents
+      sound_told was now (b was now a.kind a.mode a.scene.now a.value _ _ _ _ frame starts) frame c.latch_scene.new.contents
       (begun was now a.kind a.mode a.scene.now a.value _ _ _ _ frame starts) c.self.invariant was.ports.items a.mode
       (ready was a.mode a.scene.now a.value c.self.invariant.holds (no_frame was _ c.self.view_is c.requires.free) a.kind may.draws)
       c.begin_names.new.store told c.begin_names.ensures.streams
@@ -148,7 +145,7 @@ module _ (c : goal.After-done) where
   seen_now =
       let a = c.args in
       let may = subst (λ h. MayStart a.kind a.mode a.scene.now h) (sym c.self.view_is) c.requires.may in
-      told_seen was now (b was now a.kind a.mode a.scene.now a.value _ _ _ _ frame starts) frame c.latched.inside.contents
+      told_seen was now (b was now a.kind a.mode a.scene.now a.value _ _ _ _ frame starts) frame c.latch_scene.new.contents
       (begun was now a.kind a.mode a.scene.now a.value _ _ _ _ frame starts) c.self.invariant was.ports.items a.mode
       (ready was a.mode a.scene.now a.value c.self.invariant.holds (no_frame was _ c.self.view_is c.requires.free) a.kind may.draws)
       c.begin_names.new.store told c.begin_names.ensures.streams
@@ -166,7 +163,9 @@ returns-clause-settled c = sound_settles (record (now c) { store = c.begin_names
 
 pub returns-clause-answer : goal.returns-clause-answer
 returns-clause-answer c =
-    subst (λ a. IsAnswer (start (beginning_of c.args.kind c.args.scene.now c.args.value c.args.self.now) c.args.self.now).1
+    subst (λ o. IsAnswer (start (beginning_of c.args.kind c.args.scene.now c.args.value c.args.self.now) c.args.self.now).1
+    (with_job c.done.result o)) (sym c.begin.ensures)
+    (subst (λ a. IsAnswer (start (beginning_of c.args.kind c.args.scene.now c.args.value c.args.self.now) c.args.self.now).1
     (with_job a (Some (given c)))) (sym c.done.ensures)
     (answers c.self.inside (now c) c.args.kind c.args.mode c.args.scene.now c.args.value _ _ _ _ (frame c) (starts c)
-    c.args.self.now c.self.view_is (given c) refl refl c.copy.ensures refl refl)
+    c.args.self.now c.self.view_is (given c) refl refl c.copy_from.ensures refl refl))

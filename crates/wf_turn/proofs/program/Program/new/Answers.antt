@@ -1,4 +1,5 @@
 use Rattle.wf_turn.proofs.Common.{◌≤◌, IsTrue, ap, known, left, may_declare, quota, subst, sym, IsFit}
+use Rattle.wf_calls.specs.Places.{job_in}
 use Rattle.wf_turn.proofs.Films.{left_opening}
 use Rattle.wf_turn.proofs.Handles.{known_none, opened}
 use Rattle.wf_turn.proofs.Openings.{opening_fit}
@@ -9,7 +10,7 @@ returns-clause-program c =
     let script = c.args.script.now in
     let own = known_none c.in_ok-own.own (ap (λ t. t.values) c.in_ok-own.ensures) in
     let learned = known_none c.in_ok-learned.learned (ap (λ t. t.values) c.in_ok-learned.ensures) in
-    opened script _ _ (known c.in_ok-own.own) (known c.in_ok-learned.learned) _ own learned
+    opened script _ _ (known c.in_ok-own.own) (known c.in_ok-learned.learned) _ (job_in c.in_ok-job.job) own learned c.in_ok-job.ensures
     (rw c.lines-lines.ensures.lines at c.skip-at.ensures.skipped)
 
 pub returns-clause-fit : goal.returns-clause-fit

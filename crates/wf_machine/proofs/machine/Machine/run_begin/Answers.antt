@@ -1,0 +1,17 @@
+use Rattle.wf_machine.proofs.Common.{IsStep}
+use Rattle.wf_calls.specs.Places.{job_in}
+use Rattle.wf_calls.specs.Replies.{with_job}
+use Rattle.wf_calls.specs.Requests.{call_of}
+use Rattle.wf_machine.proofs.Stepping.{ran}
+use Rattle.wf_machine.proofs.machine.Machine.run_begin.Goals as goal
+
+-- the step that was made
+made : (c : goal.After-act_begin) → IsStep c.args.self.now c.args.client (call_of c.args.call.now) c.act_begin.new.self
+    (with_job c.act_begin.result (job_in c.act_begin.new.place))
+made c = ran _ _ c.self.inside.parts _ _ _ _ c.self.view_is c.self.invariant c.act_begin.ensures
+
+pub invariant_of-self : goal.invariant_of-self
+invariant_of-self c = (made c).settled
+
+pub returns : goal.returns
+returns c = rw (c.with_job.ensures, c.take.ensures.job) (made c)
