@@ -18,7 +18,7 @@ column_ends n b j less =
     let one : n * (b + 1) ≡ n * b + n = grind arith in
     omega arith
 
--- pixel a of column b has the bytes of a source from `from` on
+-- pixel a of column b has the bytes of a source that begin at `from`
 abbrev pub Holds : ℕ → List ℕ → List ℕ → ℕ → ℕ → ℕ → Type 0
 Holds n src out from a b = (k : ℕ) → k < 4 → get_or out (4 * (n * b + a) + k) 0 ≡ get_or src (from + k) 0
 
@@ -103,7 +103,7 @@ turned_count j a b c d la lb lc ld =
     )
 
 -- a byte of rows that were loaded and turned
-pub turned_byte : (j : ℕ) (at : ℕ → ℕ) (src : List ℕ) → j < 4 → ((m : ℕ) → m < 4 → at m + 16 ≤ length src)
+turned_byte : (j : ℕ) (at : ℕ → ℕ) (src : List ℕ) → j < 4 → ((m : ℕ) → m < 4 → at m + 16 ≤ length src)
     → (m : ℕ) → m < 4 → (k : ℕ) → k < 4
     → get_or (turned_lanes j (chunk (at 0) 16 src) (chunk (at 1) 16 src) (chunk (at 2) 16 src) (chunk (at 3) 16 src)) (4 * m + k) 0
     ≡ get_or src (at m + 4 * j + k) 0
@@ -136,18 +136,19 @@ pub record ArePixels (src : List ℕ) (from : ℕ → ℕ → ℕ) (i j : ℕ) (
   pub count : length piece ≡ 16
   pub byte : (m : ℕ) → m < 4 → (k : ℕ) → k < 4 → get_or piece (4 * m + k) 0 ≡ get_or src (from (i + m) j + k) 0
 
--- these written among eight columns: they hold, and what held does so still
-pub record Puts (n i j : ℕ) (src : List ℕ) (from : ℕ → ℕ → ℕ) (old new : List ℕ) : Type 0 where
+-- these written among eight columns: they hold, and what held still does
+record Puts (n i j : ℕ) (src : List ℕ) (from : ℕ → ℕ → ℕ) (old new : List ℕ) : Type 0 where
   pub count : length new ≡ 32 * n
   pub fresh : (a : ℕ) → i ≤ a → a < i + 4 → Holds n src new (from a j) a j
   pub stays : (a b : ℕ) → a < n → Holds n src old (from a b) a b → Holds n src new (from a b) a b
 
-pub four_put : (n i j : ℕ) (src : List ℕ) (from : ℕ → ℕ → ℕ) (out piece : List ℕ) → length out ≡ 32 * n → i + 4 ≤ n → j < 8
+four_put : (n i j : ℕ) (src : List ℕ) (from : ℕ → ℕ → ℕ) (out piece : List ℕ) → length out ≡ 32 * n → i + 4 ≤ n → j < 8
     → ArePixels src from i j piece → Puts n i j src from out (put_chunk (4 * (n * j + i)) out piece)
 four_put n i j src from out piece len within low pixels =
     let end : n * j + n ≤ n * 8 = column_ends n j 8 low in
     let room : 4 * (n * j + i) + 4 * 4 ≤ length out = omega arith in
-    let new : (a b : ℕ) → IsAmong 4 i j a b → (k : ℕ) → k < 4 → get_or piece (4 * (a - i) + k) 0 ≡ get_or src (from a b + k) 0 = λ a b is k less.
+    let new : (a b : ℕ) → IsAmong 4 i j a b → (k : ℕ) → k < 4
+    → get_or piece (4 * (a - i) + k) 0 ≡ get_or src (from a b + k) 0 = λ a b is k less.
     let high = is.1 in
     let inside = is.2 in
     let back : i + (a - i) ≡ a = omega arith in
@@ -185,12 +186,12 @@ tile_pixels column stride i j q b src rows piece low b_is room is =
           ∙ ap (λ (n : ℕ). get_or src n 0) to;
     }
 
--- a tile written among eight columns: its pixels hold, and what held does so still
+-- a tile written among eight columns: its pixels hold, and what held still does
 pub record PutsTile (n i j : ℕ) (src : List ℕ) (from : ℕ → ℕ → ℕ) (old new : List ℕ) : Type 0 where
   pub fresh : (a b : ℕ) → i ≤ a → a < i + 4 → j ≤ b → b < j + 4 → Holds n src new (from a b) a b
   pub stays : (a b : ℕ) → a < n → Holds n src old (from a b) a b → Holds n src new (from a b) a b
 
--- four columns of it, one after the other
+-- its four columns written, one after the other
 abbrev pub tile_written : ℕ → ℕ → ℕ → List ℕ → List ℕ → List ℕ → List ℕ → List ℕ → List ℕ
 tile_written n i j out w x y z =
     put_chunk (4 * (n * (j + 3) + i)) (put_chunk (4 * (n * (j + 2) + i))
