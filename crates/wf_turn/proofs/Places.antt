@@ -66,6 +66,17 @@ told_again old n names told present q =
     or_none None = refl
     or_none (Some i) = refl
 
+-- a place that is put back is told as before
+pub put_back : (old between new : Name → Option ℕ) (n : Name) (place first : ℕ) → Some first ≡ old n
+    → ((q : Name) → between q ≡ cond (bytes_eq n q) (Some place) (old q))
+    → ((q : Name) → new q ≡ cond (bytes_eq n q) (Some first) (between q)) → (q : Name) → new q ≡ old q
+put_back old between new n place first stood puts again q =
+    again q
+    ∙ elim (bytes_eq n q) as (λ b. bytes_eq n q ≡ b → cond b (Some first) (between q) ≡ old q) [
+      | true ↦ λ hit. stood ∙ ap old ((bytes_eq-Decides n q).0 hit)
+      | false ↦ λ miss. puts q ∙ ap (λ b. cond b (Some place) (old q)) miss
+    ] refl
+
 pub copied_some : {A : Type 0} (o : Option (Bor A)) → is_some o ≡ is_some (option_copied o)
 copied_some None = refl
 copied_some (Some b) = refl
