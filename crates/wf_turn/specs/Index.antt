@@ -1,5 +1,6 @@
 -- Where a name stands first in a list of names, and a map that tells it.
-use Rattle.std.specs.Prelude.{◌≡◌, ℕ, zero, suc, ◌+◌, ◌*◌, ◌%◌, ◌^◌, List, [], ◌∷◌, map, fold, Option, Some, None, if◌then◌else◌}
+use Rattle.std.specs.Prelude.{◌≡◌, ℕ, zero, suc, ◌+◌, ◌*◌, ◌%◌, ◌^◌, ◌<◌, List, [], ◌∷◌, length, map, fold, get_or}
+use Rattle.std.specs.Prelude.{Option, Some, None, if◌then◌else◌}
 use Rattle.std.specs.Borrow.{Bor}
 use Rattle.std.specs.Str.{bytes_eq}
 use Rattle.std.specs.BTreeMap.{get_by}
@@ -33,6 +34,9 @@ name_cmp name key = ordering_then (nat_cmp (number_of name) key.0) (slice_cmp na
 abbrev pub told : declared.Index → Name → Option ℕ
 told index name = get_by (name_cmp name) index.places
 
--- the map tells the place where each name stands first
-abbrev pub IsIndex : declared.Index → Type 0
-IsIndex index = (name : Name) → told index name ≡ place_in name (names_of index)
+-- the map tells the place where each name stands first, and so does the list for each name in it
+pub record IsIndex (index : declared.Index) : Type 0 where
+  pub places : (name : Name) → told index name ≡ place_in name (names_of index)
+  pub count : length index.firsts.items ≡ length (names_of index)
+  pub firsts : (i : ℕ) → i < length (names_of index)
+      → place_in (get_or (names_of index) i []) (names_of index) ≡ Some (get_or index.firsts.items i 0)
