@@ -296,7 +296,7 @@ fn lay_forward(part: &mut [u8], line: &[u8], layer: &BoundLayer, image: &Image, 
 
 /// Whether the pixels of a layer's source are copied: nothing makes them transparent.
 #[inline(always)]
-fn is_copied(layer: &BoundLayer, image: &Image) -> bool
+pub(crate) fn is_copied(layer: &BoundLayer, image: &Image) -> bool
     requires source { layer.now.source ≡ Some image.now }
     ensures { IsTrue result → IsCopied layer.now image.now }
 {
