@@ -2,6 +2,7 @@
 //! and write all, doubles in memory for tests, a sink that counts, and adapters over std's readers and writers.
 #![tactic(auto)]
 
+mod lanes;
 mod memory_sink;
 mod memory_source;
 mod reading;

@@ -6,6 +6,7 @@ ghost use Rattle.wf_io.specs.Causes.{HasCause};
 ghost use Rattle.wf_io.specs.Bytes.{Puts, PutsNothing};
 ghost use Rattle.wf_io.specs.Tally.{count_of};
 
+use crate::lanes::sum_of_blocks;
 use crate::sink::Sink;
 use crate::source::Failed;
 use std::marker::Model;
@@ -49,8 +50,8 @@ impl Tally {
     }
 }
 
-/// A sum with these bytes added, modulo 2^32.
-fn sum_with(total: u32, bytes: &[u8]) -> u32
+/// A sum with these bytes added one by one, modulo 2^32.
+fn sum_with_each(total: u32, bytes: &[u8]) -> u32
     ensures { result ≡ (total + sum bytes.now) % 2 ^ 32 }
 {
     let mut sum = total;
@@ -58,6 +59,15 @@ fn sum_with(total: u32, bytes: &[u8]) -> u32
         sum = sum.wrapping_add(u32::from(*byte));
     }
     sum
+}
+
+/// A sum with these bytes added, modulo 2^32.
+fn sum_with(total: u32, bytes: &[u8]) -> u32
+    ensures { result ≡ (total + sum bytes.now) % 2 ^ 32 }
+{
+    let blocks = bytes.len() / 32;
+    let sum = total.wrapping_add(sum_of_blocks(bytes, blocks));
+    sum_with_each(sum, &bytes[32 * blocks..])
 }
 
 impl Sink for Tally {

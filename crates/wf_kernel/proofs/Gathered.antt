@@ -27,7 +27,7 @@ read_is A8 bytes i n = absurd (n refl)
 pub pixel_is : (image : Bitmap) (x y : ℕ) → image.format ≢ A8 → pixel image x y ≡ read_at Rgba8Pre image.bytes (4 * (y * image.size.w + x))
 pixel_is image x y colours = read_is image.format image.bytes (y * image.size.w + x) colours
 
-four_bytes : (format : Format) → format ≢ A8 → pixel_bytes format ≡ 4
+pub four_bytes : (format : Format) → format ≢ A8 → pixel_bytes format ≡ 4
 four_bytes Rgba8 n = refl
 four_bytes Rgba8Pre n = refl
 four_bytes Rgbx8 n = refl

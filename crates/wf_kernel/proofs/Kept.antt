@@ -4,8 +4,9 @@ use Rattle.std.proofs.Common.{add-zero}
 use Rattle.std.specs.Prelude.{◌≢◌, flat_map, Some, if◌then◌else◌}
 use Rattle.std.specs.List.{range_with_len}
 use Rattle.std.specs.Simd.Lanes.{chunk}
+use Rattle.std.proofs.Math.Nat.{mul-le-mul_left}
 use Rattle.std.proofs.lemmas.Simd.{get_or-chunk}
-use Rattle.std.proofs.lemmas.List.{get_or_default, get_or_append_left, take_all}
+use Rattle.std.proofs.lemmas.List.{get_or_default, get_or_append_left}
 use Rattle.wf_pixel.specs.declared.Rgba.{Rgba}
 use Rattle.wf_pixel.specs.declared.Format.TheVariants.{Rgba8Pre, A8}
 use Rattle.wf_image.specs.Bitmap.{Bitmap, pixel, stored, read_at, drawn_row}
@@ -16,12 +17,12 @@ use Rattle.wf_kernel.specs.Kept.{IsLine, IsBlock}
 use Rattle.wf_kernel.specs.Laid.{laid, placed_texel, IsStretch}
 use Rattle.wf_kernel.specs.Prepared.{IsTable}
 use Rattle.wf_kernel.specs.Placed.{across, down, source_colour, is_crossed}
-use Rattle.wf_row.specs.Gather.{AreFours, AreFourths}
+use Rattle.wf_row.specs.Gather.{AreColumns}
 use Rattle.wf_kernel.proofs.Gathered.{pixel_is, crossed_colour}
 use Rattle.wf_kernel.proofs.Shown.{texel_is, has_colours}
 use Rattle.wf_kernel.proofs.Laid.{laid_same}
 use Rattle.wf_kernel.proofs.Pieces.{length-pieces}
-use Rattle.wf_kernel.proofs.Pixels.{pieces_same, pieces_shift, cells, read_chunk, read_drawn}
+use Rattle.wf_kernel.proofs.Pixels.{pieces_same, pieces_shift, cells, read_drawn}
 
 -- a layer that was found by its place
 pub layer_is : (layers : List Bound) (i : ℕ) (r : Bound) → i < length layers → r ≡ get_or layers i r → r ≡ layer_at layers i
@@ -76,64 +77,56 @@ read_front xs ys at room =
       a = get_or_append_left xs ys 0 (at + 3) (omega arith) i;
     }
 
--- a pixel of one of four columns that were gathered
-pub fours_read : (src out rows : List ℕ) (column stride i j : ℕ) → AreFours src column stride rows out → i < length rows → j < 4
-    → read_at Rgba8Pre out (16 * i + 4 * j) ≡ read_at Rgba8Pre src (4 * (get_or rows i 0 * stride + (column + j)))
-fours_read src out rows column stride i j are low place =
+-- a pixel of columns that were gathered
+columns_read : (src out rows : List ℕ) (column stride i j : ℕ) → AreColumns src column stride rows out → i < length rows → j < 8
+    → read_at Rgba8Pre out (4 * (length rows * j + i)) ≡ read_at Rgba8Pre src (4 * (get_or rows i 0 * stride + (column + j)))
+columns_read src out rows column stride i j are low eight =
+    let at : ℕ = 4 * (length rows * j + i) in
     let from : ℕ = 4 * (get_or rows i 0 * stride + (column + j)) in
-    let byte : (k : ℕ) → k < 4 → get_or out (16 * i + 4 * j + k) 0 ≡ get_or src (from + k) 0 = λ k less.
-    let at : 16 * i + 4 * j + k ≡ 16 * i + (4 * j + k) = omega arith in
-    let to : 4 * (column + get_or rows i 0 * stride) + (4 * j + k) ≡ from + k = omega arith in
-    ap (λ (n : ℕ). get_or out n 0) at ∙ are i (4 * j + k) low (omega arith) ∙ ap (λ (n : ℕ). get_or src n 0) to in
-    let first : get_or out (16 * i + 4 * j) 0 ≡ get_or src from 0 =
-    ap (λ (n : ℕ). get_or out n 0) (sym (add-zero (16 * i + 4 * j))) ∙ byte 0 (omega arith)
-    ∙ ap (λ (n : ℕ). get_or src n 0) (add-zero from) in
+    let byte : (k : ℕ) → k < 4 → get_or out (at + k) 0 ≡ get_or src (from + k) 0 = λ k less.
+    let to : 4 * (column + j + get_or rows i 0 * stride) + k ≡ from + k = omega arith in
+    are i j low eight k less ∙ ap (λ (n : ℕ). get_or src n 0) to in
+    let first : get_or out at 0 ≡ get_or src from 0 =
+    ap (λ (n : ℕ). get_or out n 0) (sym (add-zero at)) ∙ byte 0 (omega arith) ∙ ap (λ (n : ℕ). get_or src n 0) (add-zero from) in
     λ k. record { r = first k; g = byte 1 (omega arith) k; b = byte 2 (omega arith) k; a = byte 3 (omega arith) k }
 
--- four columns that were gathered
+-- a pixel of eight columns lies in them
+pub eight_columns : (n i j : ℕ) → i < n → j < 8 → n * j + i < 8 * n
+eight_columns n i j low eight =
+    let to : n * j ≤ n * 7 = mul-le-mul_left n (omega arith) in
+    omega arith
+
+-- eight columns that were gathered
 pub block_kept : (b : Bound) (image : Bitmap) (n a first : ℕ) (bytes out rest places : List ℕ) → image.format ≢ A8
-    → AreFours image.bytes first image.size.w places out → bytes ≡ out ++ rest → length places ≡ n → length out ≡ 16 * n
+    → AreColumns image.bytes first image.size.w places out → bytes ≡ out ++ rest → length places ≡ n → length out ≡ 32 * n
     → ((i : ℕ) → i < n → get_or places i 0 ≡ across b.turn b.layer (a + i))
-    → (i j : ℕ) → i < n → j < 4 → read_at Rgba8Pre bytes (16 * i + 4 * j) ≡ pixel image (first + j) (across b.turn b.layer (a + i))
-block_kept b image n a first bytes out rest places colours fours bytes_is count len places_are i j low place =
-    ap (λ (l : List ℕ). read_at Rgba8Pre l (16 * i + 4 * j)) bytes_is
-    ∙ read_front out rest (16 * i + 4 * j) (omega arith)
-    ∙ fours_read image.bytes out places first image.size.w i j fours (omega arith) place
+    → (i j : ℕ) → i < n → j < 8 → read_at Rgba8Pre bytes (4 * (n * j + i)) ≡ pixel image (first + j) (across b.turn b.layer (a + i))
+block_kept b image n a first bytes out rest places colours columns bytes_is count len places_are i j low eight =
+    let inside = eight_columns n i j low eight in
+    ap (λ (l : List ℕ). read_at Rgba8Pre l (4 * (n * j + i))) bytes_is
+    ∙ read_front out rest (4 * (n * j + i)) (omega arith)
+    ∙ ap (λ (m : ℕ). read_at Rgba8Pre out (4 * (m * j + i))) (sym count)
+    ∙ columns_read image.bytes out places first image.size.w i j columns (omega arith) eight
     ∙ ap (λ (y : ℕ). read_at Rgba8Pre image.bytes (4 * (y * image.size.w + (first + j)))) (places_are i low)
     ∙ sym (pixel_is image (first + j) (across b.turn b.layer (a + i)) colours)
 
--- a part of a block that is kept, of which one column is shown
-pub block_part : (b : Bound) (image : Bitmap) (tag : Tag) (block : List ℕ) (s : Stretch) (at count place : ℕ) → IsBlock b image tag block
+-- a part of a column that is kept
+pub block_part : (b : Bound) (image : Bitmap) (tag : Tag) (block : List ℕ) (s : Stretch) (at count column : ℕ) → IsBlock b image tag block
     → is_crossed b.turn b.layer ≡ true → tag.across ≤ s.across → s.across + s.len ≤ tag.across + tag.len
-    → tag.other + place ≡ down b.turn b.layer s.down → place < 4 → at ≡ 16 * (s.across - tag.across) → count ≡ 16 * s.len
-    → (i : ℕ) → i < s.len → read_at Rgba8Pre (chunk at count block) (16 * i + 4 * place) ≡ source_colour b image (s.across + i) s.down
-block_part b image tag block s at count place is crossed start end other four at_is count_is i low =
+    → tag.other + column ≡ down b.turn b.layer s.down → column < 8 → at ≡ 4 * (tag.len * column + (s.across - tag.across))
+    → count ≡ 4 * s.len → at + count ≤ length block
+    → chunk at count block ≡ drawn_row s.len Rgba8Pre (λ i. source_colour b image (s.across + i) s.down)
+block_part b image tag block s at count column is crossed start end other eight at_is count_is room =
     let skip : ℕ = s.across - tag.across in
-    let many : count ≡ 4 * (4 * s.len) = omega arith in
-    let pixel_at : 16 * i + 4 * place ≡ 4 * (4 * i + place) = omega arith in
+    ap (λ (k : ℕ). chunk at k block) count_is
+    ∙ part_is block (tag.len * column + skip) s.len at (λ i. source_colour b image (s.across + i) s.down) at_is (omega arith)
+    (λ i low.
+    let there : tag.len * column + skip + i ≡ tag.len * column + (skip + i) = omega arith in
     let to : tag.across + (skip + i) ≡ s.across + i = omega arith in
-    (λ j. read_at Rgba8Pre (chunk at (many j) block) (pixel_at j))
-    ∙ read_chunk block at (4 * s.len) (4 * i + place) (16 * (skip + i) + 4 * place) (omega arith) (omega arith)
-    ∙ is (skip + i) place (omega arith) four
+    ap (λ (k : ℕ). read_at Rgba8Pre block (4 * k)) there
+    ∙ is (skip + i) column (omega arith) eight
     ∙ (λ j. pixel image (other j) (across b.turn b.layer (to j)))
-    ∙ crossed_colour b image (s.across + i) s.down (across b.turn b.layer (s.across + i)) crossed refl
-
--- one of four columns is a row of the target
-pub column_drawn : (src out : List ℕ) (place n : ℕ) (colour : ℕ → Rgba) → AreFourths src place out → length out ≡ 4 * n
-    → ((i : ℕ) → i < n → read_at Rgba8Pre src (16 * i + 4 * place) ≡ colour i) → out ≡ drawn_row n Rgba8Pre colour
-column_drawn src out place n colour are len same =
-    let byte : (i k : ℕ) → i < n → k < 4 → get_or out (4 * i + k) 0 ≡ get_or src (16 * i + 4 * place + k) 0 = λ i k low less.
-    are i k (omega arith) less in
-    let read : (i : ℕ) → i < n → read_at Rgba8Pre out (4 * (0 + i)) ≡ colour i = λ i low.
-    let at : 4 * (0 + i) ≡ 4 * i = omega arith in
-    let first : get_or out (4 * i) 0 ≡ get_or src (16 * i + 4 * place) 0 =
-    ap (λ (j : ℕ). get_or out j 0) (sym (add-zero (4 * i))) ∙ byte i 0 low (omega arith)
-    ∙ ap (λ (j : ℕ). get_or src j 0) (add-zero (16 * i + 4 * place)) in
-    let all : read_at Rgba8Pre out (4 * i) ≡ read_at Rgba8Pre src (16 * i + 4 * place) =
-    λ k. record { r = first k; g = byte i 1 low (omega arith) k; b = byte i 2 low (omega arith) k; a = byte i 3 low (omega arith) k } in
-    ap (λ (j : ℕ). read_at Rgba8Pre out j) at ∙ all ∙ same i low in
-    let none : 0 ≡ 4 * 0 = omega arith in
-    sym (take_all (4 * n) out (omega arith)) ∙ part_is out 0 n 0 colour none (omega arith) read
+    ∙ crossed_colour b image (s.across + i) s.down (across b.turn b.layer (s.across + i)) crossed refl)
 
 -- the part of a layer's table at the columns of a stretch
 pub places_are : (b : Bound) (table : List ℕ) (s : Stretch) (count : ℕ) → IsTable b.turn b.space b.layer table → IsStretch b s

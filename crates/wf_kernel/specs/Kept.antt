@@ -12,11 +12,11 @@ abbrev pub IsLine : Bound → Bitmap → Tag → List ℕ → Type 0
 IsLine b image tag line =
     (i d : ℕ) → i < tag.len → down b.turn b.layer d ≡ tag.other → read_at Rgba8Pre line (4 * i) ≡ source_colour b image (tag.across + i) d
 
--- four columns of the source side by side, at the source's rows that the columns of the target show
+-- eight columns of the source one after the other, at the source's rows that the columns of the target show
 abbrev pub IsBlock : Bound → Bitmap → Tag → List ℕ → Type 0
 IsBlock b image tag block =
-    (i j : ℕ) → i < tag.len → j < 4
-    → read_at Rgba8Pre block (16 * i + 4 * j) ≡ pixel image (tag.other + j) (across b.turn b.layer (tag.across + i))
+    (i j : ℕ) → i < tag.len → j < 8
+    → read_at Rgba8Pre block (4 * (tag.len * j + i)) ≡ pixel image (tag.other + j) (across b.turn b.layer (tag.across + i))
 
 -- what is kept is what its tags say
 pub record AreKept (layers : List Bound) (k : Kept) : Type 0 where

@@ -12,10 +12,10 @@ use crate::lines::fill_line;
 use crate::placing::{Walk, down};
 use crate::stretch::{Stretch, stretch_of};
 use wf_image::Image;
-use wf_row::gather_fours;
+use wf_row::gather_columns;
 
-/// How many columns of a source are kept side by side.
-pub(crate) const COLUMNS: u32 = 4;
+/// How many columns of a source are kept.
+pub(crate) const COLUMNS: u32 = 8;
 
 /// Which pixels are kept.
 #[derive(Clone, Copy, Debug, PartialEq, Eq)]
@@ -71,9 +71,9 @@ pub(crate) struct Kept {
     /// A row of a source, as a layer shows it.
     pub(crate) line_of: Tag,
     pub(crate) line: [u8; 4096],
-    /// Some columns of a source side by side, as a layer shows them.
+    /// Columns of a source, one after the other, as a layer shows them.
     pub(crate) block_of: Tag,
-    pub(crate) block: [u8; 16384],
+    pub(crate) block: [u8; 32768],
 }
 
 /// Nothing, for a target of this width.
@@ -86,7 +86,7 @@ pub(crate) fn nothing_kept(width: u32) -> Kept
         line_of: NONE,
         line: [0; 4096],
         block_of: NONE,
-        block: [0; 16384],
+        block: [0; 32768],
     }
 }
 
@@ -164,8 +164,8 @@ pub(crate) fn keep_block(
     let first = (other - other % COLUMNS).min(width - COLUMNS);
     let from = whole.x as usize;
     let places = &layer.table[from..from + whole.len as usize];
-    gather_fours(
-        &mut kept.block[..16 * whole.len as usize],
+    gather_columns(
+        &mut kept.block[..32 * whole.len as usize],
         image.bytes(),
         first,
         width,

@@ -19,7 +19,7 @@ use crate::placing::{Walk, down};
 use crate::stretch::{Stretch, stretch_of};
 use wf_image::Image;
 use wf_pixel::{Format, Rotation};
-use wf_row::{AlphaMode, blend_masked_row, blend_row, copy_reversed_row, gather_fourth};
+use wf_row::{AlphaMode, blend_masked_row, blend_row, copy_reversed_row};
 
 /// Lays a layer, by its place, over `width` pixels of row `y`, from column `first` on. The source's pixels go through what is
 /// kept, where they are not taken as they stand.
@@ -222,7 +222,7 @@ fn lay_rows(
     lay_line(part, line, layer, image, stretch);
 }
 
-/// The same, where columns of the source are shown as rows: columns that were gathered side by side serve as many rows.
+/// The same, where columns of the source are shown as rows: columns that were gathered at once serve as many rows.
 fn lay_columns(
     part: &mut [u8],
     layers: &[BoundLayer],
@@ -252,33 +252,10 @@ fn lay_columns(
         return;
     }
     kept.block_of.row = stretch.y;
-    let at = 16 * (stretch.across - kept.block_of.across) as usize;
-    let place = (other - kept.block_of.other) as usize;
-    let block = &kept.block[at..at + 16 * stretch.len as usize];
-    lay_column(part, layer, block, place, spare, image, stretch);
-}
-
-/// The same, where the source's pixels are those at one place of each four.
-fn lay_column(
-    part: &mut [u8],
-    layer: &BoundLayer,
-    block: &[u8],
-    place: usize,
-    spare: &mut [u8; 4096],
-    image: &Image,
-    stretch: Stretch,
-)
-    requires count { length part.old ≡ 4 * stretch.len }
-    requires source { layer.now.source ≡ Some image.now }
-    requires stretch { IsStretch layer.now stretch }
-    requires place { place < 4 }
-    requires len { length block.now ≡ 16 * stretch.len }
-    requires block { (i : ℕ) → i < stretch.len
-        → read_at Rgba8Pre block.now (16 * i + 4 * place) ≡ source_colour layer.now image.now (stretch.across + i) stretch.down }
-    ensures { part.new ≡ laid stretch.len (λ i. placed_texel layer.now image.now (stretch.across + i) stretch.down) part.old }
-{
-    let line = &mut spare[..4 * stretch.len as usize];
-    gather_fourth(line, block, place);
+    let column = (other - kept.block_of.other) as usize;
+    let skip = (stretch.across - kept.block_of.across) as usize;
+    let at = 4 * (kept.block_of.len as usize * column + skip);
+    let line = &kept.block[at..at + 4 * stretch.len as usize];
     lay_line(part, line, layer, image, stretch);
 }
 
@@ -319,7 +296,7 @@ fn lay_forward(part: &mut [u8], line: &[u8], layer: &BoundLayer, image: &Image, 
 
 /// Whether the pixels of a layer's source are copied: nothing makes them transparent.
 #[inline(always)]
-fn is_copied(layer: &BoundLayer, image: &Image) -> bool
+pub(crate) fn is_copied(layer: &BoundLayer, image: &Image) -> bool
     requires source { layer.now.source ≡ Some image.now }
     ensures { IsTrue result → IsCopied layer.now image.now }
 {

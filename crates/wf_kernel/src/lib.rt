@@ -11,6 +11,7 @@ mod masks;
 mod painter;
 mod painting;
 mod placing;
+mod runs;
 mod spans;
 mod splitting;
 mod stretch;

@@ -12,6 +12,7 @@ use crate::bound::{BoundLayer, bind_layers, no_layers};
 use crate::keeping::{Kept, nothing_kept};
 use crate::laying::lay_row;
 use crate::placing::Walk;
+use crate::runs::paint_run;
 use crate::strips::{Strip, no_strip, strip_for};
 use crate::tables::{count_tables, fill_tables};
 use wf_image::{Contents, Image};
@@ -166,13 +167,58 @@ fn paint_rows(
     ensures { bytes.new ≡ bound_rows width layers.now background first (length bytes.old / (4 * width)) }
 {
     let stride = 4 * width as usize;
+    let rows = (bytes.len() / stride) as u32;
     let mut strips = [no_strip(); 66];
-    for i in 0..bytes.len() / stride {
-        let at = i * stride;
-        let row = &mut bytes[at..at + stride];
-        let y = first + i as u32;
-        paint_row(row, width, layers, background, &mut strips, kept, spare, y);
+    let mut i = 0;
+    while i < rows {
+        let rest = &mut bytes[i as usize * stride..];
+        let (y, left) = (first + i, rows - i);
+        i += paint_next(
+            rest,
+            width,
+            layers,
+            background,
+            &mut strips,
+            kept,
+            spare,
+            y,
+            left,
+        );
     }
+}
+
+/// Writes the next of `rows` rows, from row `y` on, and says how many: those of a run, or one.
+#[inline(always)]
+fn paint_next(
+    bytes: &mut [u8],
+    width: u32,
+    layers: &[BoundLayer],
+    background: Rgba,
+    strips: &mut [Strip; 66],
+    kept: &mut [Kept],
+    spare: &mut [[u8; 4096]],
+    y: u32,
+    rows: u32,
+) -> u32
+    requires few { width ≤ 1024 }
+    requires some { 1 ≤ rows }
+    requires within { y + rows ≤ 1024 }
+    requires count { length bytes.old ≡ rows * (4 * width) }
+    requires strips { All (IsStrip layers.now width) strips.old }
+    requires kept { All (AreKept layers.now) kept.old }
+    ensures some { 1 ≤ result }
+    ensures few { result ≤ rows }
+    ensures rows { bytes.new ≡ bound_rows width layers.now background y result ++ drop (result * (4 * width)) bytes.old }
+    ensures strips { All (IsStrip layers.now width) strips.new }
+    ensures kept { All (AreKept layers.now) kept.new }
+{
+    let n = paint_run(bytes, width, layers, background, strips[0], y, rows);
+    if n > 0 {
+        return n;
+    }
+    let row = &mut bytes[..4 * width as usize];
+    paint_row(row, width, layers, background, strips, kept, spare, y);
+    1
 }
 
 /// Writes row `y`, piece by piece, each from the layer that hides what is below it.
@@ -269,10 +315,10 @@ fn begin_strip(
     }
 }
 
-/// Writes one colour into each pixel of a row, as many as there are of four at a time.
-fn fill(row: &mut [u8], width: u32, color: Rgba)
+/// Writes one colour into each pixel of some rows, as many as there are of four at a time.
+pub(crate) fn fill(row: &mut [u8], width: u32, color: Rgba)
     requires count { length row.old ≡ 4 * width }
-    requires few { width ≤ 1024 }
+    requires few { width ≤ 1048576 }
     ensures { row.new ≡ drawn_row width Format.Rgba8Pre (λ _. color) }
 {
     let fours = width / 4;
@@ -285,7 +331,7 @@ fn fill(row: &mut [u8], width: u32, color: Rgba)
 /// Writes one colour into the first pixels of a row, so many times four.
 fn fill_fours(row: &mut [u8], count: u32, color: Rgba)
     requires room { 16 * count ≤ length row.old }
-    requires few { count ≤ 256 }
+    requires few { count ≤ 262144 }
     ensures { row.new ≡ drawn_row (4 * count) Format.Rgba8Pre (λ _. color) ++ drop (16 * count) row.old }
 {
     let Rgba { r, g, b, a } = color;

@@ -255,26 +255,23 @@ impl Round {
 }
 
 /// Appends lines.
-fn append<const N: usize>(
-    alloc: Global,
-    lines: &mut Vec<Line>,
-    more: [Line; N],
-) -> Result<(), NoMemory>
+fn append<const N: usize>(lines: &mut Vec<Line>, more: [Line; N]) -> Result<(), NoMemory>
     ensures { OnOk result (lines.new.items ≡ lines.old.items ++ more.entry) }
 {
-    let mut more = Vec::from_array(alloc, more)?;
-    lines.append(&mut more)?;
+    for line in more {
+        lines.push(line)?;
+    }
     Ok(())
 }
 
 /// Appends a round.
-fn append_round(alloc: Global, lines: &mut Vec<Line>, one: Round) -> Result<(), NoMemory>
+fn append_round(lines: &mut Vec<Line>, one: Round) -> Result<(), NoMemory>
     ensures { OnOk result (lines.new.items ≡ lines.old.items ++ round one.number) }
 {
-    append(alloc, lines, one.made())?;
-    append(alloc, lines, one.placed())?;
-    append(alloc, lines, one.shown())?;
-    append(alloc, lines, one.destroyed())?;
+    append(lines, one.made())?;
+    append(lines, one.placed())?;
+    append(lines, one.shown())?;
+    append(lines, one.destroyed())?;
     Ok(())
 }
 
@@ -296,9 +293,10 @@ pub fn make(alloc: Global, n: u32) -> Result<Script, NoMemory>
     requires most { n ≤ 1000 }
     ensures { IfOk result (λ script. script ≡ made n) }
 {
-    let mut lines = Vec::from_array(alloc, setup())?;
+    let mut lines = Vec::with_capacity(alloc, 3 + 13 * n as usize)?;
+    append(&mut lines, setup())?;
     for number in 0..n {
-        append_round(alloc, &mut lines, Round { number })?;
+        append_round(&mut lines, Round { number })?;
     }
     Ok(Script::new(ports(), lines))
 }

@@ -68,7 +68,7 @@ pub use Rattle.wf_turn.specs.Program.{next, painted_job, place_of, plain, port_c
 pub use Rattle.wf_turn.specs.Program.{ticking, took, took_at, took_canvas, took_first, took_frame, took_job, took_phase, waiting, wanted_at}
 pub use Rattle.wf_turn.specs.Program.{unheld, worked}
 pub use Rattle.wf_calls.specs.Replies.{replied, with_canvas, with_job}
-pub use Rattle.wf_turn.specs.Quota.{all_left, left, line_quota, lines_left, most_turns, quota, quota_of}
+pub use Rattle.wf_turn.specs.Quota.{all_left, left, line_quota, lines_left, most_turns, quota, quota_of, quota_of_all}
 pub use Rattle.wf_turn.specs.Ready.{AreOf, IsAsking, IsAt, IsFit, IsWork}
 pub use Rattle.wf_turn.specs.Serial.{IsNextTurn, IsRun}
 pub use Rattle.wf_turn.specs.Turns.{Show, all_taught, answered, frames_of, inherited, is_setting_up, opening_show, program_at, shown}

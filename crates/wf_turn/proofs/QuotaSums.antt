@@ -1,22 +1,8 @@
 -- Sums of quotas.
 use Rattle.wf_turn.proofs.Common.{◌≡◌, ◌∙◌, ℕ, zero, suc, ◌+◌, ◌*◌, ◌<◌, ◌≤◌, ◌==◌, true, false, cond, List, [], ◌∷◌, length, refl}
 use Rattle.wf_turn.proofs.Common.{sym, ap, arith, sum_by, range_with_len, nat_tests, sum_by-cons, Line, Verb, line_quota, most_turns, quota}
-use Rattle.wf_turn.proofs.Common.{quota_of}
+use Rattle.wf_turn.proofs.Common.{quota_of, quota_of_all}
 use Rattle.wf_script.specs.declared.line.Verb.TheVariants as verb
-
--- one number more
-pub total_more : (f : ℕ → ℕ) (n : ℕ) → sum_by f (range_with_len 0 (n + 1)) ≡ sum_by f (range_with_len 0 n) + f n
-total_more f n = from 0 n ∙ ap (λ k. sum_by f (range_with_len 0 n) + f k) (omega arith)
-  where
-    from : (a n : ℕ) → sum_by f (range_with_len a (n + 1)) ≡ sum_by f (range_with_len a n) + f (a + n)
-    from a zero =
-        let here : a ≡ a + 0 = omega arith in
-        sum_by-cons f a [] ∙ (rw (sym here) (omega arith))
-    from a (suc n) =
-        let shift : suc n + 1 ≡ suc (n + 1) = omega arith in
-        let at : a + 1 + n ≡ a + suc n = omega arith in
-        rw shift (sum_by-cons f a (range_with_len (a + 1) (n + 1)) ∙ ap (λ k. f a + k) (from (a + 1) n)
-        ∙ rw at (omega (arith, sum_by-cons f a (range_with_len (a + 1) n))))
 
 least_40 : (v : Verb) → line_quota v ≤ 40
 least_40 (verb.Paint p) = omega arith
@@ -58,16 +44,24 @@ sum_both f g h (n ∷ ns) each =
     let rest = sum_both f g h ns each in
     omega (arith, sum_by-cons f n ns, sum_by-cons g n ns, sum_by-cons h n ns, each n, rest)
 
--- a line makes 40 events at most
-pub most_40 : (lines : List Line) → most_turns lines ≤ 40 * length lines
-most_40 [] = nothing (range_with_len 0 8)
+-- all clients make no more than all lines
+pub most_once : (lines : List Line) → most_turns lines ≤ quota_of_all lines
+most_once [] = nothing (range_with_len 0 8)
   where
     nothing : (ns : List ℕ) → sum_by (quota []) ns ≤ 0
     nothing [] = omega arith
     nothing (n ∷ ns) = (let rest = nothing ns in omega (arith, sum_by-cons (quota []) n ns, rest))
-most_40 (l ∷ lines) =
+most_once (l ∷ lines) =
     let split = sum_both (λ c. quota_of c l) (quota lines) (quota (l ∷ lines)) (range_with_len 0 8)
     (λ c. sum_by-cons (quota_of c) l lines) in
     let one = one_client l 0 8 in
-    let rest = most_40 lines in
-    omega (arith, split, one, least_40 l.verb, rest)
+    let rest = most_once lines in
+    omega (arith, split, one, rest, sum_by-cons (λ m. line_quota m.verb) l lines)
+
+-- a line makes 40 events at most
+pub most_40 : (lines : List Line) → most_turns lines ≤ 40 * length lines
+most_40 lines = omega (arith, most_once lines, each lines)
+  where
+    each : (lines : List Line) → quota_of_all lines ≤ 40 * length lines
+    each [] = omega arith
+    each (l ∷ lines) = omega (arith, least_40 l.verb, each lines, sum_by-cons (λ m. line_quota m.verb) l lines)

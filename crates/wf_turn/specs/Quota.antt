@@ -27,6 +27,10 @@ quota_of client l = if l.client == client then line_quota l.verb else 0
 abbrev pub quota : List Line → ℕ → ℕ
 quota lines client = sum_by (quota_of client) lines
 
+-- how many events these lines make at most, of whatever client
+abbrev pub quota_of_all : List Line → ℕ
+quota_of_all lines = sum_by (λ l. line_quota l.verb) lines
+
 -- how many events the lines of all clients make at most
 abbrev pub most_turns : List Line → ℕ
 most_turns lines = sum_by (quota lines) (range_with_len 0 8)

@@ -1,20 +1,47 @@
 //! The names that some lines bind, by their places.
 
-ghost use Rattle.std.specs.Prelude.{◌≡◌, ◌++◌, ◌∷◌, ◌<◌, ◌^◌, [], length, OnOk, option_to_list};
+ghost use Rattle.std.specs.Prelude.{◌≡◌, ◌++◌, ◌∷◌, ◌<◌, ◌^◌, [], length, IfOk, IfSome, OnOk, Some, option_to_list, if◌then◌else◌};
 ghost use Rattle.std.specs.Option.{option_copied};
+ghost use Rattle.std.specs.Str.{bytes_eq};
 ghost use Rattle.wf_script.specs.declared.name.Name.{Name};
-ghost use Rattle.wf_turn.specs.Index.{IsIndex, names_of, place_in, told};
+ghost use Rattle.wf_turn.specs.Index.{IsIndex, names_of, number_of, place_in, told};
 
 use std::alloc::Global;
 use std::collections::BTreeMap;
 use wf_script::Name;
 use wf_words::NoMemory;
 
-/// Names in the order in which they are bound, and for each the place where it stands first.
+/// How many of the last names are tried one by one. Most names are looked up soon after they are bound.
+const NEAR: usize = 4;
+
+/// Names in the order in which they are bound, with the place where each stands first. The map has the same places by the names, each
+/// behind its number: most names are told apart by their numbers, and letters are compared only where two numbers are the same.
 #[derive(Drop)]
 pub(crate) struct Index<'a> {
     pub names: Vec<&'a Name>,
-    pub places: BTreeMap<&'a str, u32>,
+    pub firsts: Vec<u32>,
+    pub places: BTreeMap<(u64, &'a [u8]), u32>,
+}
+
+/// The number that the last eight letters of a name write in base 256. Only speed rests on it.
+#[tactic(auto, using(std::proofs::lemmas::List::Sums::fold_more), unfolding(crate::specs::Index::number_of))]
+fn number_of(letters: &[u8]) -> u64
+    ensures { result ≡ number_of letters.now }
+{
+    let mut number: u64 = 0;
+    for letter in letters {
+        number = number.wrapping_shl(8).wrapping_add(u64::from(*letter));
+    }
+    number
+}
+
+/// The key of a name: its number and its letters.
+fn key_of(name: &Name) -> (u64, &[u8])
+    ensures number { result.0 ≡ number_of name.now }
+    ensures letters { result.1.now ≡ name.now }
+{
+    let letters = name.as_str().as_bytes();
+    (number_of(letters), letters)
 }
 
 impl<'a> Index<'a> {
@@ -25,6 +52,7 @@ impl<'a> Index<'a> {
     {
         Index {
             names: Vec::new(alloc),
+            firsts: Vec::new(alloc),
             places: BTreeMap::new(alloc),
         }
     }
@@ -49,24 +77,40 @@ impl<'a> Index<'a> {
         ensures names { OnOk result (names_of self.new ≡ names_of self.old ++ name.now ∷ []) }
         ensures index { OnOk result (IsIndex self.new) }
     {
-        self.note(name)?;
+        let first = self.note(name)?;
         self.names.push(name)?;
+        self.firsts.push(first)?;
         Ok(())
     }
 
-    /// Notes where a name stands that comes behind all others: it may stand before them already.
-    fn note(&mut self, name: &'a Name) -> Result<(), NoMemory>
+    /// Notes where a name stands that comes behind all others: it may stand before them already. Says where it stands first.
+    fn note(&mut self, name: &'a Name) -> Result<u32, NoMemory>
         requires index { IsIndex self.old }
         requires few { length (names_of self.old) < 2 ^ 32 }
+        ensures first { IfOk result (λ first. place_in name.now (names_of self.old ++ name.now ∷ []) ≡ Some first) }
         ensures places { OnOk result ((q : Name) → told self.new q ≡ place_in q (names_of self.old ++ name.now ∷ [])) }
         ensures names { OnOk result (self.new.names ≡ self.old.names) }
+        ensures firsts { OnOk result (self.new.firsts ≡ self.old.firsts) }
     {
-        let text = name.as_str();
-        if self.places.get(&text).is_some() {
-            return Ok(());
+        let place = self.names.len() as u32;
+        match self.put(name, place)? {
+            None => Ok(place),
+            Some(first) => {
+                self.put(name, first)?;
+                Ok(first)
+            }
         }
-        self.places.insert(text, self.names.len() as u32)?;
-        Ok(())
+    }
+
+    /// Tells a place for a name from now on. Says which one was told before.
+    fn put(&mut self, name: &'a Name, place: u32) -> Result<Option<u32>, NoMemory>
+        ensures before { IfOk result (λ before. before ≡ told self.old name.now) }
+        ensures places { OnOk result ((q : Name) → told self.new q ≡ (if bytes_eq name.now q then Some place else told self.old q)) }
+        ensures names { OnOk result (self.new.names ≡ self.old.names) }
+        ensures firsts { OnOk result (self.new.firsts ≡ self.old.firsts) }
+    {
+        let before = self.places.insert(key_of(name), place)?;
+        Ok(before)
     }
 
     /// The place where a name stands first.
@@ -74,6 +118,33 @@ impl<'a> Index<'a> {
         requires { IsIndex self.now }
         ensures { result ≡ place_in name.now (names_of self.now) }
     {
-        self.places.get(&name.as_str()).copied()
+        self.places.get(&key_of(name)).copied()
+    }
+
+    /// The place where a name stands first, if it is one of the last names before a place.
+    fn place_near(&self, name: &Name, end: usize) -> Option<u32>
+        requires { IsIndex self.now }
+        ensures { IfSome result (λ place. place_in name.now (names_of self.now) ≡ Some place) }
+    {
+        let end = end.min(self.names.len());
+        let most = end.min(NEAR);
+        for back in 0..most {
+            let at = end - 1 - back;
+            if self.names[at].as_str() == name.as_str() {
+                return Some(self.firsts[at]);
+            }
+        }
+        None
+    }
+
+    /// The place where a name stands first. It is looked for among the last names before `end`, and only then among all.
+    pub(crate) fn place_from(&self, name: &'a Name, end: usize) -> Option<u32>
+        requires { IsIndex self.now }
+        ensures { result ≡ place_in name.now (names_of self.now) }
+    {
+        match self.place_near(name, end) {
+            Some(place) => Some(place),
+            None => self.place(name),
+        }
     }
 }

@@ -77,7 +77,7 @@ impl<'a> Names<'a> {
     pub(crate) fn value(&self, name: &'a Name) -> Option<u32>
         ensures { result ≡ value_of name.now (known self.now) }
     {
-        match self.index.place(name) {
+        match self.index.place_from(name, self.values.len()) {
             Some(place) => value_at(&self.values, place),
             None => None,
         }

@@ -13,7 +13,7 @@ ghost use Rattle.wf_turn.specs.Quota.{all_left, most_turns};
 ghost use Rattle.wf_turn.specs.Serial.{IsFirst, IsInFileOrder};
 ghost use Rattle.wf_turn.specs.Turns.{opening_show};
 
-use crate::quotas::most_turns;
+use crate::quotas::quota_of_all;
 use crate::show::Show;
 use std::alloc::Global;
 use wf_calls::{Order, Turn};
@@ -96,7 +96,7 @@ fn write_opened<K: Sink, P: Painter>(
     ensures file_order { IsInFileOrder script.now result }
     ensures caused { IsCaused (K.faults k.old) (K.faults k.new) result }
 {
-    let most = most_turns(script.lines());
+    let most = quota_of_all(script.lines());
     match opened {
         Ok(show) => match Vec::with_capacity(alloc, most) {
             Ok(played) => write_film(show, form, k, painter, played),

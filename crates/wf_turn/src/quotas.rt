@@ -1,7 +1,7 @@
 //! How many events a script makes at most.
 
 ghost use Rattle.std.specs.Prelude.{◌≡◌, ◌*◌, ◌≤◌, length};
-ghost use Rattle.wf_turn.specs.Quota.{line_quota, most_turns, quota, quota_of};
+ghost use Rattle.wf_turn.specs.Quota.{line_quota, quota, quota_of, quota_of_all};
 
 use wf_script::{Line, Script, Verb};
 
@@ -52,14 +52,14 @@ pub fn quota(script: &Script, client: u8) -> u32
     quota_in(script.lines(), client)
 }
 
-/// How many events these lines make at most.
-pub(crate) fn most_turns(lines: &[Line]) -> usize
+/// How many events these lines make at most, of whatever client. They are gone through once.
+pub(crate) fn quota_of_all(lines: &[Line]) -> usize
     requires few { length lines.now ≤ 16384 }
-    ensures { result ≡ most_turns lines.now }
+    ensures { result ≡ quota_of_all lines.now }
 {
     let mut sum = 0;
-    for client in 0..8u8 {
-        sum += quota_in(lines, client) as usize;
+    for line in lines {
+        sum += line_quota(&line.verb) as usize;
     }
     sum
 }

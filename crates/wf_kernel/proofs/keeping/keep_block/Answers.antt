@@ -4,7 +4,7 @@ use Rattle.std.specs.Simd.Lanes.{chunk}
 use Rattle.std.proofs.lemmas.Simd.{length-chunk}
 use Rattle.std.proofs.lemmas.List.{get_or_default}
 use Rattle.wf_pixel.specs.declared.Size.{Size}
-use Rattle.wf_row.specs.Gather.{AreFours}
+use Rattle.wf_row.specs.Gather.{AreColumns}
 use Rattle.wf_image.specs.Bitmap.{Bitmap, pixel}
 use Rattle.wf_kernel.specs.Bound.{Bound, layer_at}
 use Rattle.wf_kernel.specs.Placed.{across, is_crossed}
@@ -14,8 +14,8 @@ use Rattle.wf_kernel.proofs.Shown.{has_colours}
 use Rattle.wf_kernel.proofs.Kept.{layer_is, block_kept, places_are}
 use Rattle.wf_kernel.proofs.keeping.keep_block.Goals as goal
 
-pub gather_fours-requires-clause-within : goal.gather_fours-requires-clause-within
-gather_fours-requires-clause-within c = λ k d less.
+pub gather_columns-requires-clause-within : goal.gather_columns-requires-clause-within
+gather_columns-requires-clause-within c = λ k d less.
     let layers = c.args.layers.now in
     let image = c.args.image.now in
     let r = c.index-layers-i.result in
@@ -39,7 +39,7 @@ gather_fours-requires-clause-within c = λ k d less.
     let inner = crossed_low r image (whole.across + k) whole.down prepared.showable source (omega arith) stretch.below crossed in
     let width : c.size-width.result.w ≡ image.size.w = ap (λ (size : Size). size.w) c.size-width.ensures.size in
     let bytes = ap (λ (l : List ℕ). length l) c.bytes.ensures.value in
-    let room = room_for image c.min-first.result (across r.turn r.layer (whole.across + k)) 4 (has_colours r image prepared.showable source)
+    let room = room_for image c.min-first.result (across r.turn r.layer (whole.across + k)) 8 (has_colours r image prepared.showable source)
     (sym bytes ∙ c.bytes.ensures.len) (omega arith) inner.1 in
     let same_place : 4 * (c.min-first.result + get_or places k d * c.size-width.result.w)
     ≡ 4 * (c.min-first.result + across r.turn r.layer (whole.across + k) * image.size.w) =
@@ -64,11 +64,11 @@ returns c =
     let len : length places ≡ whole.len =
     length-chunk whole.x (whole.x + whole.len - whole.x) c.layer.inside.table.now (omega arith) ∙ count in
     let width : c.size-width.result.w ≡ c.args.image.now.size.w = ap (λ (size : Size). size.w) c.size-width.ensures.size in
-    let fours = subst (λ (n : ℕ). AreFours c.args.image.now.bytes c.min-first.result n places c.gather_fours.new.out) width
-    (subst (λ (l : List ℕ). AreFours l c.min-first.result c.size-width.result.w places c.gather_fours.new.out) c.bytes.ensures.value
-    c.gather_fours.ensures) in
-    let bytes = block_kept b c.args.image.now whole.len whole.across c.min-first.result _ c.gather_fours.new.out _ places
-    (has_colours r c.args.image.now prepared.showable source_r) fours refl len (omega arith)
+    let columns = subst (λ (n : ℕ). AreColumns c.args.image.now.bytes c.min-first.result n places c.gather_columns.new.out) width
+    (subst (λ (l : List ℕ). AreColumns l c.min-first.result c.size-width.result.w places c.gather_columns.new.out) c.bytes.ensures.value
+    c.gather_columns.ensures) in
+    let bytes = block_kept b c.args.image.now whole.len whole.across c.min-first.result _ c.gather_columns.new.out _ places
+    (has_colours r c.args.image.now prepared.showable source_r) columns refl len (omega arith)
     (λ i low. places_are r c.layer.inside.table.now whole (whole.x + whole.len - whole.x) table stretch count i low
     ∙ ap (λ (b : Bound). across b.turn b.layer (whole.across + i)) same) in
     record {
@@ -76,8 +76,8 @@ returns c =
       line_len = c.requires.kept.line_len;
       line = c.requires.kept.line;
       block_len = omega arith;
-      block = λ image source i j low place.
+      block = λ image source i j low eight.
           let image_is : c.args.image.now ≡ image = let both : Some c.args.image.now ≡ Some image = sym c.requires.source ∙ source in cc in
-          bytes i j low place
+          bytes i j low eight
           ∙ ap (λ (m : Bitmap). pixel m (c.min-first.result + j) (across b.turn b.layer (whole.across + i))) image_is;
     }

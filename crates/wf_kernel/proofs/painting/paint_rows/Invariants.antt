@@ -1,4 +1,4 @@
-use Rattle.std.proofs.Common.{◌≡◌, ◌+◌, ◌*◌, ◌++◌, drop}
+use Rattle.std.proofs.Common.{◌≡◌, ◌+◌, ◌-◌, ◌*◌, ◌≤◌, ◌++◌, drop}
 use Rattle.std.specs.Prelude.{flat_map, All}
 use Rattle.std.specs.List.{range_with_len}
 use Rattle.wf_kernel.specs.Bound.{bound_row}
@@ -10,6 +10,7 @@ use Rattle.wf_kernel.proofs.painting.paint_rows.Given as goal
 abbrev pub invariant-loop-i : goal.invariant-loop-i
 invariant-loop-i l =
     record {
+      few : l.i ≤ l.rows;
       written :
           l.bytes
           ≡ flat_map (λ i. bound_row l.width l.layers l.background (l.first + i)) (range_with_len 0 l.i)
@@ -17,3 +18,6 @@ invariant-loop-i l =
       kept : All (AreKept l.layers) l.kept;
       strips : All (IsStrip l.layers l.width) l.strips;
     }
+
+abbrev pub decreases-loop-i : goal.decreases-loop-i
+decreases-loop-i l = l.rows - l.i

@@ -1,29 +1,39 @@
-use Rattle.wf_turn.proofs.Common.{◌≡◌, ◌∙◌, ◌++◌, ◌∷◌, [], true, false, Some, length, cond, sym, ap, subst, arith, length-map}
-use Rattle.wf_turn.proofs.Common.{is_some, bytes_eq, Name, names_of, place_in}
-use Rattle.std.proofs.lemmas.Map.Text.{btree_map_updates_str}
+use Rattle.wf_turn.proofs.Common.{◌≡◌, ◌∙◌, ◌++◌, ◌∷◌, [], Some, ap, arith, bytes_eq, cond, is_some, false, true, length, length-map}
+use Rattle.wf_turn.proofs.Common.{names_of, sym}
 use Rattle.wf_turn.specs.Index.{told}
-use Rattle.wf_turn.proofs.Places.{copied_some, told_again, told_new}
+use Rattle.wf_turn.proofs.Places.{put_back, put_first, told_again, told_new}
 use Rattle.wf_turn.proofs.index.Index.note.Goals as goal
 
-pub returns-then-is_some-clause-places : goal.returns-then-is_some-clause-places
-returns-then-is_some-clause-places c =
+pub returns-in-None-clause-places : goal.returns-in-None-clause-places
+returns-in-None-clause-places c =
     let self = c.args.self.now in
-    let text = c.as_str-text.result.now in
-    let is : is_some (told self text) ≡ true = sym (ap is_some c.get.ensures.value) ∙ sym (copied_some _) ∙ sym c.is_some.ensures
-    ∙ c.if-is_some.true in
-    subst (λ n. (q : Name) → told self q ≡ place_in q (names_of self ++ n ∷ [])) c.as_str-text.ensures
-    (told_again (told self) text (names_of self) c.requires.index is)
+    let name = c.args.name.now in
+    let is : is_some (told self name) ≡ false = ap is_some (sym c.in_ok-put.ensures.before ∙ c.in-None.is) in
+    let place : c.len-place.result ≡ length (names_of self) =
+    omega (arith, c.len-place.ensures, length-map self.names.items (λ n. n.now)) in
+    told_new (told self) (told c.put.new.self) name (names_of self) c.requires.index.places is
+    (λ q. c.in_ok-put.ensures.places q ∙ ap (λ k. cond (bytes_eq name q) (Some k) (told self q)) place)
 
-pub returns-clause-places : goal.returns-clause-places
-returns-clause-places c =
+pub returns-in-None-clause-first : goal.returns-in-None-clause-first
+returns-in-None-clause-first c =
     let self = c.args.self.now in
-    let text = c.as_str-text.result.now in
-    let is : is_some (told self text) ≡ false = sym (ap is_some c.get.ensures.value) ∙ sym (copied_some _)
-    ∙ sym c.is_some.ensures ∙ c.if-is_some.false in
-    let place : c.len.result ≡ length (names_of self) =
-    omega (arith, c.len.ensures, length-map self.names.items (λ n. n.now)) in
-    subst (λ n. (q : Name) → told (record self { places = c.insert.new.self }) q ≡ place_in q (names_of self ++ n ∷ []))
-    c.as_str-text.ensures
-    (told_new (told self) (told (record self { places = c.insert.new.self })) text (names_of self) c.requires.index is
-    (λ q. btree_map_updates_str text self.places c.insert.new.self (Some _) c.in_ok-insert.ensures.updates q
-    ∙ ap (λ k. cond (bytes_eq text q) (Some k) (told self q)) place))
+    let name = c.args.name.now in
+    put_first (told c.put.new.self) name (names_of self ++ name ∷ []) c.len-place.result (told self name) (returns-in-None-clause-places c)
+    (c.in_ok-put.ensures.places name)
+
+pub returns-in_ok-put-in-Some-clause-places : goal.returns-in_ok-put-in-Some-clause-places
+returns-in_ok-put-in-Some-clause-places c = λ q.
+    let self = c.args.self.now in
+    let name = c.args.name.now in
+    let stood = sym c.in-Some.is ∙ c.in_ok-put.ensures.before in
+    let is : is_some (told self name) ≡ true = ap is_some (sym stood) in
+    put_back (told self) (told c.put.new.self) (told c.put-in-Some.new.self) name c.len-place.result c.in-Some.first stood
+    c.in_ok-put.ensures.places c.in_ok-put-in-Some.ensures.places q
+    ∙ told_again (told self) name (names_of self) c.requires.index.places is q
+
+pub returns-in_ok-put-in-Some-clause-first : goal.returns-in_ok-put-in-Some-clause-first
+returns-in_ok-put-in-Some-clause-first c =
+    let self = c.args.self.now in
+    let name = c.args.name.now in
+    put_first (told c.put-in-Some.new.self) name (names_of self ++ name ∷ []) c.in-Some.first (told c.put.new.self name)
+    (returns-in_ok-put-in-Some-clause-places c) (c.in_ok-put-in-Some.ensures.places name)

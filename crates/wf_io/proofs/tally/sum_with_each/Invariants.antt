@@ -1,5 +1,5 @@
 use Rattle.std.proofs.Common.{◌≡◌, ◌+◌, ◌%◌, ◌^◌, sum, take}
-use Rattle.wf_io.proofs.tally.sum_with.Given as goal
+use Rattle.wf_io.proofs.tally.sum_with_each.Given as goal
 
 abbrev pub invariant-loop-byte : goal.invariant-loop-byte
 invariant-loop-byte l = l.sum ≡ (l.total + sum (take l.byte-index l.bytes)) % 2 ^ 32
