@@ -6,12 +6,12 @@ use Rattle.wf_machine.proofs.Stepping.{ran}
 use Rattle.wf_machine.proofs.machine.Machine.run_begin.Goals as goal
 
 -- the step that was made
-made : (c : goal.After-act_begin) → IsStep c.args.self.now c.args.client (call_of c.args.call.now) c.act_begin.new.self
-    (with_job c.act_begin.result (job_in c.act_begin.new.place))
-made c = ran _ _ c.self.inside.parts _ _ _ _ c.self.view_is c.self.invariant c.act_begin.ensures
+made : (c : goal.After-with_job) → IsStep c.args.self.now c.args.client (call_of c.args.call.now) c.act_begin-answer.new.self
+    (with_job c.act_begin-answer.result (job_in c.act_begin-answer.new.place))
+made c = ran _ _ c.self.inside.parts _ _ _ _ c.self.view_is c.self.invariant c.act_begin-answer.ensures
 
 pub invariant_of-self : goal.invariant_of-self
 invariant_of-self c = (made c).settled
 
 pub returns : goal.returns
-returns c = rw (c.with_job.ensures, c.take.ensures.job) (made c)
+returns c = record { step = rw (c.with_job.ensures, c.take.ensures.job) (made c) }

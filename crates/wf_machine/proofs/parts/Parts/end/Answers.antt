@@ -53,6 +53,14 @@ unreachable-requires-in_default-end c =
         → None ≡ option_map (λ (j : Job). j.image) (if there then Some job else None) → ⊥
     none_held there job is_there is = none-some job.image (rw is_there at is)
 
+-- the streams once the images of a Job, and then the one that it drew into, came home
+came_home : (m : Inside) (job : Job) (image : Bitmap) (home now : StoreView) → image ≡ job.image
+    → home ≡ record m.store { streams = brought_home job.contents m.store.streams }
+    → now ≡ record home { streams = delivered job.kind image home.streams }
+    → now ≡ record m.store { streams = delivered job.kind job.image (brought_home job.contents m.store.streams) }
+came_home m job image home now own home_is now_is =
+    now_is ∙ (λ i. record (home_is i) { streams = delivered job.kind (own i) (home_is i).streams })
+
 pub deliver-requires : goal.deliver-requires
 deliver-requires c =
     let m = c.self.inside in
@@ -64,7 +72,23 @@ deliver-requires c =
     (ending_due m job (was_running m job c.args.self.now c.self.view_is (sym c.is_of_running.ensures ∙ c.if-not-is_of_running.false))
     c.self.invariant.holds c.in-Some.frame (sym c.take.ensures.value ∙ c.in-Some.is)))
 
-module _ (c : goal.After-deliver) where
+pub end_names-requires : goal.end_names-requires
+end_names-requires c =
+    let m = c.self.inside in
+    let job = c.args.place.now.job in
+    let f = c.in-Some.frame in
+    let is = was_running m job c.args.self.now c.self.view_is (sym c.is_of_running.ensures ∙ c.if-not-is_of_running.false) in
+    let ran = sym c.take.ensures.value ∙ c.in-Some.is in
+    let own = image_is_own c.in-Some-end.image (is_some c.args.place.now.aside) _ (is_aside c.args.place.now c.requires)
+    (sym c.in-Some-end.is ∙ c.end.ensures.image) in
+    let now : Inside = record m { store = c.deliver.new.store; ports = c.deliver.new.ports; frame = c.take.new.self } in
+    subst (λ cs. NamesFit (held_names cs job.kind) c.deliver.new.store) (sym c.as_slice.ensures.value)
+    (ended_fit m now job f c.self.invariant ran (ran_kind m job is c.self.invariant.holds f ran)
+    (ran_fits m job is c.self.invariant.holds f ran)
+    (came_home m job c.in-Some-end.image c.bring_home.new.store c.deliver.new.store own c.bring_home.ensures c.deliver.ensures.store)
+    refl refl c.take.ensures.after)
+
+module _ (c : goal.After-done) where
   abbrev m : Inside
   m = c.self.inside
 
@@ -86,39 +110,29 @@ module _ (c : goal.After-deliver) where
   now = record m { store = c.deliver.new.store; ports = c.deliver.new.ports; frame = c.take.new.self }
 
   store_is : now.store ≡ record m.store { streams = delivered job.kind job.image (brought_home job.contents m.store.streams) }
-  store_is =
+  store_is = came_home m job c.in-Some-end.image c.bring_home.new.store c.deliver.new.store own c.bring_home.ensures
       c.deliver.ensures.store
-      ∙ ap (λ (v : StoreView). record v { streams = delivered job.kind c.in-Some-end.image v.streams }) c.bring_home.ensures
-      ∙ ap (λ image. record m.store { streams = delivered job.kind image (brought_home job.contents m.store.streams) }) own
 
-pub end_names-requires : goal.end_names-requires
-end_names-requires c =
-    subst (λ cs. NamesFit (held_names cs (job c).kind) c.deliver.new.store) (sym c.as_slice.ensures.value)
-    (ended_fit (m c) (now c) (job c) c.in-Some.frame c.self.invariant (ran c) (ran_kind (m c) (job c) (is c) c.self.invariant.holds
-    c.in-Some.frame (ran c)) (ran_fits (m c) (job c) (is c) c.self.invariant.holds c.in-Some.frame (ran c)) (store_is c) refl refl
-    c.take.ensures.after)
-
-module _ (c : goal.After-done) where
   -- what is answered, and nothing is left in the place
   abbrev reply : Reply
   reply = with_job c.done.result (job_in c.end.new.self)
 
-  ended : HasEnded (m c) (job c) (is c) c.self.invariant.holds c.deliver.new.store c.deliver.new.ports.items reply
+  ended : HasEnded m job is c.self.invariant.holds c.deliver.new.store c.deliver.new.ports.items reply
   ended =
       record {
-        store = store_is c;
+        store = store_is;
         modes = c.deliver.ensures.modes;
         fit = c.deliver.ensures.there;
         reply_is = ap (with_job c.done.result) c.end.ensures.none ∙ ap bare c.done.ensures;
       }
 
-  holds : Holds (now c)
-  holds = sound_ended (m c) (job c) (is c) c.self.invariant.holds _ c.deliver.new.ports.items reply (now c) refl refl refl refl refl
+  holds : Holds now
+  holds = sound_ended m job is c.self.invariant.holds _ c.deliver.new.ports.items reply now refl refl refl refl refl
       c.take.ensures.after ended
 
-  told : Renames (held_names c.in-Some.frame.contents.items (job c).kind) [] (now c).store c.end_names.new.store
+  told : Renames (held_names c.in-Some.frame.contents.items job.kind) [] now.store c.end_names.new.store
   told =
-      subst (λ cs. Renames (held_names cs (job c).kind) [] (now c).store c.end_names.new.store) c.as_slice.ensures.value
+      subst (λ cs. Renames (held_names cs job.kind) [] now.store c.end_names.new.store) c.as_slice.ensures.value
       c.end_names.ensures
 
 pub invariant_of-self : goal.invariant_of-self
