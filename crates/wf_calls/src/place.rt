@@ -23,8 +23,7 @@ pub struct JobPlace {
 }
 
 /// A Job that shows nothing, with this image.
-fn empty_job(image: Image) -> Job
-{
+fn empty_job(image: Image) -> Job {
     Job {
         number: 0,
         kind: JobKind::Port { port: 0 },

@@ -87,9 +87,7 @@ fn write_run(
     ensures not_done { result ≡ false → part.new ≡ part.old }
 {
     match strip.base {
-        Some(base) => {
-            strip.top == base + 1 && copy_rows(part, &layers[base], width, y, n)
-        }
+        Some(base) => { strip.top == base + 1 && copy_rows(part, &layers[base], width, y, n) }
         None => {
             if strip.top > 0 {
                 return false;

@@ -254,13 +254,7 @@ impl Parts {
         let Some(image) = place.end() else {
             unreachable!()
         };
-        deliver(
-            &mut self.store,
-            &mut self.ports,
-            kind,
-            frame.mode,
-            image,
-        );
+        deliver(&mut self.store, &mut self.ports, kind, frame.mode, image);
         end_names(&mut self.store, frame.contents.as_slice(), kind);
         Answer::done(0)
     }

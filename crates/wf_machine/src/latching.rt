@@ -22,12 +22,7 @@ pub(crate) fn empty(contents: &mut Contents)
 }
 
 /// Puts the image of a stream, which has none here yet, behind the others, and its size and format behind theirs.
-fn put(
-    contents: &mut Contents,
-    shapes: &mut ArrayVec<Content, 64>,
-    stream: u32,
-    image: Image,
-)
+fn put(contents: &mut Contents, shapes: &mut ArrayVec<Content, 64>, stream: u32, image: Image)
     requires room { length contents.old < 64 }
     requires apart { image_of stream contents.old ≡ None }
     requires shapes { shapes.old.items ≡ map content_shape contents.old }
@@ -43,12 +38,7 @@ fn put(
 }
 
 /// Takes the newest image of a stream, unless it is there already or the stream has none.
-fn take(
-    store: &mut Store,
-    contents: &mut Contents,
-    shapes: &mut ArrayVec<Content, 64>,
-    number: u32,
-)
+fn take(store: &mut Store, contents: &mut Contents, shapes: &mut ArrayVec<Content, 64>, number: u32)
     requires home { image_of number contents.old ≡ None → IsAtHome number store.old.streams }
     requires room { length contents.old < 64 }
     requires shapes { shapes.old.items ≡ map content_shape contents.old }
