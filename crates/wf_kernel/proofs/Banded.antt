@@ -9,28 +9,28 @@ use Rattle.std.proofs.lemmas.List.{drop_all, take_all, length-drop, drop-drop, a
 use Rattle.wf_pixel.specs.declared.Rgba.{Rgba}
 use Rattle.wf_pixel.specs.Choice.{is_side}
 use Rattle.wf_kernel.specs.declared.splitting.Band.{Band}
-use Rattle.wf_kernel.specs.Bands.{AreHalves}
+use Rattle.wf_kernel.specs.Bands.{AreShares}
 use Rattle.wf_kernel.specs.Bound.{Bound, bound_row, bound_rows}
 use borrow.Rule.Slice.PartMut.{put_mid}
 use Rattle.wf_kernel.proofs.Pieces.{length-pieces, step}
 use Rattle.wf_kernel.proofs.Pixels.{pieces_split, pieces_shift}
 
--- ---- two halves of a band
--- the bytes of both halves are as many as those of the band
-pub halves_bytes : (upper lower all s : ℕ) → upper + lower ≡ all → upper * s + lower * s ≡ all * s
-halves_bytes upper lower all s sum =
+-- ---- the two shares of a band
+-- the bytes of both shares are as many as those of the band
+pub shares_bytes : (upper lower all s : ℕ) → upper + lower ≡ all → upper * s + lower * s ≡ all * s
+shares_bytes upper lower all s sum =
     let both : upper * s + lower * s ≡ (upper + lower) * s = grind arith in
     both ∙ ap (λ (n : ℕ). n * s) sum
 
--- the rows of a band are those of its upper half, and behind them those of its lower half
-pub halves_joined : (w : ℕ) (layers : List Bound) (background : Rgba) (band upper lower : Band) → AreHalves band upper lower
+-- the rows of a band are those of its upper share, and behind them those of its lower one
+pub shares_joined : (w : ℕ) (layers : List Bound) (background : Rgba) (band upper lower : Band) → AreShares band upper lower
     → bound_rows w layers background upper.first upper.rows ++ bound_rows w layers background lower.first lower.rows
     ≡ bound_rows w layers background band.first band.rows
-halves_joined w layers background band upper lower halves =
-    (λ i. bound_rows w layers background (halves.upper_first i) upper.rows
-    ++ bound_rows w layers background (halves.lower_first i) lower.rows)
+shares_joined w layers background band upper lower shares =
+    (λ i. bound_rows w layers background (shares.upper_first i) upper.rows
+    ++ bound_rows w layers background (shares.lower_first i) lower.rows)
     ∙ sym (pieces_split (bound_row w layers background) band.first upper.rows lower.rows)
-    ∙ ap (bound_rows w layers background band.first) halves.rows
+    ∙ ap (bound_rows w layers background band.first) shares.rows
 
 -- ---- how many rows there are
 turned_end : (w h : ℕ) → w * h * 4 ≡ h * (4 * w)

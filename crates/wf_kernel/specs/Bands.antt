@@ -10,7 +10,7 @@ pub record IsBand (band : Band) : Type 0 where
   pub few_workers : band.workers ≤ 16
 
 -- two bands, one below the other, have the rows and the workers of a band
-pub record AreHalves (band upper lower : Band) : Type 0 where
+pub record AreShares (band upper lower : Band) : Type 0 where
   pub upper_first : upper.first ≡ band.first
   pub lower_first : lower.first ≡ band.first + upper.rows
   pub rows : upper.rows + lower.rows ≡ band.rows

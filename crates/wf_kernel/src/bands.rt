@@ -161,8 +161,8 @@ fn workers_for(most: u32, size: Size) -> u32
     most.min(size.w * size.h / FEWEST).max(1)
 }
 
-/// Writes the rows of a band: alone, or in two halves beside each other.
-#[cycle(halves)]
+/// Writes the rows of a band: alone, or in two shares beside each other, the first of one worker.
+#[cycle(shares)]
 fn paint_band<R: Threads + Sync>(
     rt: &R,
     band: Band,
@@ -183,12 +183,12 @@ fn paint_band<R: Threads + Sync>(
     }
     let (upper, lower) = split_band(band, width, layers);
     let (a, b) = bytes.split_at_mut(upper.rows as usize * (4 * width as usize));
-    paint_halves(rt, width, layers, background, upper, a, lower, b);
+    paint_shares(rt, width, layers, background, upper, a, lower, b);
 }
 
 /// Writes the rows of two bands, one of them in a thread of its own where one can be made.
-#[cycle(halves)]
-fn paint_halves<R: Threads + Sync>(
+#[cycle(shares)]
+fn paint_shares<R: Threads + Sync>(
     rt: &R,
     width: u32,
     layers: &[BoundLayer],

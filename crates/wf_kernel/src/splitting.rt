@@ -1,7 +1,7 @@
 //! Rows that are split among workers where each has as much to paint.
 
 ghost use Rattle.std.specs.Prelude.{◌≡◌, ◌+◌, ◌-◌, ◌<◌, ◌≤◌};
-ghost use Rattle.wf_kernel.specs.Bands.{IsBand, AreHalves};
+ghost use Rattle.wf_kernel.specs.Bands.{IsBand, AreShares};
 
 use crate::bound::BoundLayer;
 
@@ -13,7 +13,9 @@ pub(crate) struct Band {
     pub(crate) workers: u32,
 }
 
-/// Splits a band in two, so that both have workers in the ratio of what there is to paint.
+/// Splits a band in two: the share of one worker above, and the share of the others below, in the ratio of what there is to paint.
+/// So the thread that was asked for the picture makes all others, one after the other. Where threads made threads at the same time, two
+/// began on one processor more often, and a picture took longer.
 pub(crate) fn split_band(band: Band, width: u32, layers: &[BoundLayer]) -> (Band, Band)
     requires few { width ≤ 1024 }
     requires band { IsBand band }
@@ -21,35 +23,33 @@ pub(crate) fn split_band(band: Band, width: u32, layers: &[BoundLayer]) -> (Band
     requires workers { 2 ≤ band.workers }
     ensures upper { IsBand result.0 }
     ensures lower { IsBand result.1 }
-    ensures halves { AreHalves band result.0 result.1 }
+    ensures shares { AreShares band result.0 result.1 }
 {
-    let workers = band.workers / 2;
-    let goal = cost_goal(band, width, layers, workers);
+    let goal = cost_goal(band, width, layers);
     let rows = rows_to(band, width, layers, goal);
     (
         Band {
             first: band.first,
             rows,
-            workers,
+            workers: 1,
         },
         Band {
             first: band.first + rows,
             rows: band.rows - rows,
-            workers: band.workers - workers,
+            workers: band.workers - 1,
         },
     )
 }
 
-/// What the rows above a band and those of so many of its workers cost together.
-fn cost_goal(band: Band, width: u32, layers: &[BoundLayer], workers: u32) -> u64
+/// What the rows above a band and those of one of its workers cost together.
+fn cost_goal(band: Band, width: u32, layers: &[BoundLayer]) -> u64
     requires few { width ≤ 1024 }
     requires band { IsBand band }
-    requires workers { workers ≤ band.workers }
 {
     let above = u64::from(cost_above(width, layers, band.first));
     let all = u64::from(cost_above(width, layers, band.first + band.rows));
-    let others = band.workers - workers;
-    (above * u64::from(others) + all * u64::from(workers)) / u64::from(band.workers)
+    let others = band.workers - 1;
+    (above * u64::from(others) + all) / u64::from(band.workers)
 }
 
 /// How many rows of a band it takes to come to this cost, but at least one, and not all.
