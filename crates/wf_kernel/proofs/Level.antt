@@ -1,6 +1,6 @@
 -- Rows that are written at once.
-use Rattle.std.proofs.Common.{◌≡◌, ℕ, zero, suc, ◌+◌, ◌-◌, ◌*◌, ◌<◌, ◌≤◌, List, ◌++◌, length, take, drop, get_or, pos, ℤ, refl, sym, ap, subst}
-use Rattle.std.proofs.Common.{◌∙◌, arith, false, zero-add, add-zero}
+use Rattle.std.proofs.Common.{◌≡◌, ℕ, zero, suc, ◌+◌, ◌-◌, ◌*◌, ◌<◌, ◌≤◌, List, ◌++◌, length, take, drop, get_or, pos, ℤ, refl, sym}
+use Rattle.std.proofs.Common.{ap, subst, ◌∙◌, arith, false, zero-add, add-zero}
 use Rattle.std.specs.Prelude.{◌≢◌, Option, None, Some, IfSome, flat_map, nat_abs}
 use Rattle.std.specs.List.{range_with_len}
 use Rattle.std.specs.Simd.Lanes.{chunk}
@@ -24,7 +24,7 @@ use Rattle.wf_kernel.specs.declared.stretch.Stretch.{Stretch}
 use Rattle.wf_kernel.specs.declared.strips.Strip.{Strip}
 use Rattle.wf_kernel.specs.Bound.{Bound, IsShowable, bound_colour, bound_row, bound_rows, bound_texel, layer_at, no_bound}
 use Rattle.wf_kernel.specs.Hiding.{IsCover}
-use Rattle.wf_kernel.specs.Laid.{IsStretch, IsStretchIn, laid, lifted_pixel, placed_texel}
+use Rattle.wf_kernel.specs.Laid.{IsStretch, IsStretchIn, laid, lifted_pixel}
 use Rattle.wf_kernel.specs.Placed.{placed, across, down, from_left, from_top, is_crossed, is_quarter, source_colour}
 use Rattle.wf_kernel.specs.Level.{IsLevel}
 use Rattle.wf_kernel.specs.Strips.{IsStrip}
@@ -138,7 +138,8 @@ blended_rows : (mode : AlphaMode) (fade : Option ℕ) (w n : ℕ) (src old : Lis
     → blended mode fade src old
     ≡ flat_map (λ k. blended mode fade (chunk (k * (4 * w)) (4 * w) src) (chunk (k * (4 * w)) (4 * w) old)) (range_with_len 0 n)
 blended_rows mode fade w n src old src_len old_len =
-    let f : ℕ → List ℕ = λ i. stored Rgba8Pre (over (lifted_pixel mode fade (read_at Rgba8Pre src (4 * i))) (read_at Rgba8Pre old (4 * i))) in
+    let f : ℕ → List ℕ = λ i. stored Rgba8Pre
+    (over (lifted_pixel mode fade (read_at Rgba8Pre src (4 * i))) (read_at Rgba8Pre old (4 * i))) in
     let part : ℕ → List ℕ → List ℕ = λ k l. chunk (k * (4 * w)) (4 * w) l in
     let row : ℕ → ℕ → List ℕ = λ k x. stored Rgba8Pre
     (over (lifted_pixel mode fade (read_at Rgba8Pre (part k src) (4 * x))) (read_at Rgba8Pre (part k old) (4 * x))) in
@@ -194,8 +195,8 @@ level_low b image w n s showable source level is some within =
     let high = level_high b image w level in
     let first = level_down b image w s.down showable level in
     let last = level_down b image w (s.down + (n - 1)) showable level in
-    let low = straight_low b image s.across (s.down + (n - 1)) showable source (omega arith) (omega arith) (level_straight b image w level) in
-    let below = low.1 in
+    let straight = level_straight b image w level in
+    let below = (straight_low b image s.across (s.down + (n - 1)) showable source (omega arith) (omega arith) straight).1 in
     omega arith
 
 -- a row of the source is shown as it stands

@@ -1,13 +1,13 @@
 //! Rows of a target that are alike, and are written at once.
 
-ghost use Rattle.std.specs.Prelude.{◌≡◌, ◌≢◌, ℕ, ◌+◌, ◌*◌, ◌<◌, ◌≤◌, ◌++◌, IsTrue, Some, drop, false, flat_map, length};
+ghost use Rattle.std.specs.Prelude.{◌≡◌, ◌≢◌, ℕ, ◌+◌, ◌*◌, ◌<◌, ◌≤◌, ◌++◌, IfSome, IsTrue, Some, drop, false, flat_map, length};
 ghost use Rattle.std.specs.List.{range_with_len};
 ghost use Rattle.std.specs.Simd.Lanes.{chunk};
 ghost use Rattle.wf_pixel.specs.declared.Format.TheVariants.{Rgba8Pre};
 ghost use Rattle.wf_image.specs.Bitmap.{drawn_row, pixel};
 ghost use Rattle.wf_kernel.specs.Bound.{bound_rows, bound_texel};
 ghost use Rattle.wf_kernel.specs.Laid.{laid};
-ghost use Rattle.wf_kernel.specs.Level.{IsLevel};
+ghost use Rattle.wf_kernel.specs.Level.{IsLevel, lowest_top};
 ghost use Rattle.wf_kernel.specs.Strips.{IsStrip};
 
 use crate::bound::BoundLayer;
@@ -20,8 +20,8 @@ use wf_image::Image;
 use wf_pixel::{Format, Rgba, Rotation};
 use wf_row::{AlphaMode, blend_row};
 
-/// Writes rows of the target from row `y` on, of which there are `rows`, where a strip has the background alone in them, or one
-/// layer that shows rows of its source as they stand there. It says how many it wrote: none where the strip is no such one.
+/// Writes rows of the target from row `y` on, `rows` at most, where a strip shows the background alone in them, or one layer that
+/// shows whole rows of its source as they stand there. It says how many it wrote: none where the strip shows anything else.
 #[inline(always)]
 pub(crate) fn paint_run(
     bytes: &mut [u8],
@@ -51,18 +51,36 @@ pub(crate) fn paint_run(
     }
 }
 
-/// How many rows from row `y` on a strip has, of at most so many: none where it is not as wide as the target.
+/// How many rows from row `y` on a strip has, of at most so many: none where it is not as wide as the target, or shows more than
+/// the background alone or one layer.
 #[inline(always)]
 fn rows_in(strip: Strip, width: u32, y: u32, most: u32) -> u32
+    requires base { IfSome strip.base (λ j. j < strip.top) }
     ensures few { result ≤ most }
     ensures whole { 0 < result → strip.width ≡ width }
+    ensures one { 0 < result → strip.top ≡ lowest_top strip.base }
     ensures from { 0 < result → strip.from ≤ y }
     ensures bottom { 0 < result → y + result ≤ strip.bottom }
 {
-    if strip.width != width || y < strip.from || strip.bottom <= y {
+    if strip.width != width || !shows_one(strip) {
+        return 0;
+    }
+    if y < strip.from || strip.bottom <= y {
         return 0;
     }
     most.min(strip.bottom - y)
+}
+
+/// Whether a strip shows the background alone, or one layer that hides it.
+#[inline(always)]
+fn shows_one(strip: Strip) -> bool
+    requires base { IfSome strip.base (λ j. j < strip.top) }
+    ensures { IsTrue result → strip.top ≡ lowest_top strip.base }
+{
+    match strip.base {
+        Some(base) => strip.top == base + 1,
+        None => strip.top == 0,
+    }
 }
 
 /// Writes `n` rows of a strip that is as wide as the target, where they are alike, and says whether they are.
@@ -81,24 +99,22 @@ fn write_run(
     requires count { length part.old ≡ 4 * (n * width) }
     requires strip { IsStrip layers.now width strip }
     requires whole { strip.width ≡ width }
+    requires one { strip.top ≡ lowest_top strip.base }
     requires from { strip.from ≤ y }
     requires bottom { y + n ≤ strip.bottom }
     ensures done { IsTrue result → part.new ≡ bound_rows width layers.now background y n }
     ensures not_done { result ≡ false → part.new ≡ part.old }
 {
     match strip.base {
-        Some(base) => { strip.top == base + 1 && copy_rows(part, &layers[base], width, y, n) }
+        Some(base) => copy_rows(part, &layers[base], width, y, n),
         None => {
-            if strip.top > 0 {
-                return false;
-            }
             fill(part, n * width, background);
             true
         }
     }
 }
 
-/// Lays a layer over `n` rows of the target from row `y` on, where it shows rows of its source as they stand there, and says
+/// Lays a layer over `n` rows of the target from row `y` on, where it shows whole rows of its source as they stand there, and says
 /// whether it does.
 fn copy_rows(part: &mut [u8], layer: &BoundLayer, width: u32, y: u32, n: u32) -> bool
     requires few { width ≤ 1024 }
@@ -134,10 +150,10 @@ fn is_level(layer: &BoundLayer, image: &Image, width: u32) -> bool
 {
     let shown = &layer.layer;
     let (src, dest) = (shown.src, shown.dest);
-    if image.size().w != width || src.w != dest.w || src.h != dest.h || shown.flip {
+    if layer.turn != Rotation::R0 || shown.turn != Rotation::R0 || shown.flip {
         return false;
     }
-    layer.turn == Rotation::R0 && shown.turn == Rotation::R0 && is_copied(layer, image)
+    image.size().w == width && src.w == dest.w && src.h == dest.h && is_copied(layer, image)
 }
 
 /// The bytes of `n` rows of an image.

@@ -1,4 +1,4 @@
-use Rattle.std.proofs.Common.{◌≡◌, ℕ, ◌+◌, ◌-◌, ◌*◌, ◌<◌, ◌≤◌, length, refl, sym, ap, subst, ◌∙◌, arith}
+use Rattle.std.proofs.Common.{◌≡◌, ℕ, ◌+◌, ◌*◌, length, refl, sym, ap, subst, ◌∙◌, arith}
 use Rattle.std.specs.Prelude.{Some}
 use Rattle.std.specs.Option.{option_copied}
 use Rattle.std.specs.Simd.Lanes.{chunk}
@@ -40,7 +40,8 @@ returns-clause-done c _ =
     let high : c.layer.inside.layer.dest.h ≡ b.layer.dest.h = ap (λ (b : Bound). b.layer.dest.h) c.layer.view_is in
     let some = c.requires.some in
     let room = c.if-layer-stretch.false in
-    let len : length c.rows_part.result.now ≡ 4 * (c.args.n * w) = c.rows_part.ensures.len ∙ ap (λ (w : ℕ). 4 * (c.args.n * w)) level.whole in
+    let len : length c.rows_part.result.now ≡ 4 * (c.args.n * w) = c.rows_part.ensures.len
+    ∙ ap (λ (w : ℕ). 4 * (c.args.n * w)) level.whole in
     c.blend_row.ensures
     ∙ level_laid b image w c.args.n c.args.y s c.rows_part.result.now c.args.part.now prepared.showable source level
     c.in-Some-stretch_of.ensures.some c.if-stretch-width.false (omega arith) len c.requires.count
