@@ -20,12 +20,12 @@ pub(crate) fn scene_of(alloc: Global, dice: &mut Dice, most: u32) -> io::Result<
     ensures { IfOk result (λ p. IsTrue (has_sides p.0.size)) }
 {
     let mut contents = Contents::new();
-    for stream in 1..5 {
-        let size = sides(dice, most);
-        let format = dice.format();
-        add(&mut contents, stream, noise(alloc, dice, size, format)?);
-    }
     let size = sides(dice, most);
+    for stream in 1..5 {
+        let own = source_sides(dice, most, size);
+        let format = dice.format();
+        add(&mut contents, stream, noise(alloc, dice, own, format)?);
+    }
     let turn = dice.turn();
     let space = turned(turn, size);
     let count = if dice.one_in(24) { 32 } else { dice.below(7) };
@@ -60,6 +60,21 @@ fn sides(dice: &mut Dice, most: u32) -> Size
     let w = side(dice, most);
     let h = side(dice, most);
     Size { w, h }
+}
+
+/// The sides of a source, which is often as wide as the scene.
+fn source_sides(dice: &mut Dice, most: u32, scene: Size) -> Size
+    requires low { 1 ≤ most }
+    requires high { most ≤ 1024 }
+    requires scene { IsTrue (has_sides scene) }
+    ensures { IsTrue (has_sides result) }
+{
+    let Size { w, h } = sides(dice, most);
+    if dice.one_in(2) {
+        Size { w: scene.w, h }
+    } else {
+        Size { w, h }
+    }
 }
 
 fn side(dice: &mut Dice, most: u32) -> u32
@@ -106,6 +121,9 @@ fn layer_of(dice: &mut Dice, contents: &Contents, space: Size, most: u32, mask: 
     ensures h_low { 1 ≤ result.dest.h }
     ensures h_high { result.dest.h ≤ 1024 }
 {
+    if dice.one_in(12) {
+        return sheet_of(dice, contents, space, mask);
+    }
     let stream = 1 + dice.below(5);
     let size = source_size(contents, stream);
     let (x, w) = part(dice, size.w);
@@ -143,6 +161,42 @@ fn layer_of(dice: &mut Dice, contents: &Contents, space: Size, most: u32, mask: 
             alpha: dice.one_in(2),
             source: dice.one_in(2),
             mask: dice.one_in(3),
+        },
+        alpha: dice.byte(),
+    }
+}
+
+/// A layer that shows whole rows of its source, from the left side of the target on, and mostly as they stand there.
+fn sheet_of(dice: &mut Dice, contents: &Contents, space: Size, mask: u32) -> Layer
+    requires space { IsTrue (has_sides space) }
+    ensures w_low { 1 ≤ result.dest.w }
+    ensures w_high { result.dest.w ≤ 1024 }
+    ensures h_low { 1 ≤ result.dest.h }
+    ensures h_high { result.dest.h ≤ 1024 }
+{
+    let stream = 1 + dice.below(5);
+    let size = source_size(contents, stream);
+    let (y, h) = part(dice, size.h);
+    let src = Rect {
+        x: 0,
+        y: y as i32,
+        w: size.w,
+        h,
+    };
+    Layer {
+        stream,
+        mask,
+        src,
+        dest: Rect {
+            y: start(dice, h, space.h),
+            ..src
+        },
+        turn: Rotation::R0,
+        flip: dice.one_in(4),
+        transparency: Transparency {
+            alpha: dice.one_in(4),
+            source: dice.one_in(4),
+            mask: false,
         },
         alpha: dice.byte(),
     }
