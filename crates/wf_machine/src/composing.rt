@@ -38,7 +38,8 @@ impl Parts {
         requires empty { job_in place.old ≡ None }
         ensures left { self.new ≡ (started no_register self.old (begin_composed device context self.old)).0 }
         ensures settled { IsSettled self.new }
-        ensures answer { IsAnswer (started no_register self.old (begin_composed device context self.old)).1 (with_job result (job_in place.new)) }
+        ensures answer { IsAnswer (started no_register self.old (begin_composed device context self.old)).1
+            (with_job result (job_in place.new)) }
     {
         self.all_named();
         let shown = match self.core.context(device, context) {

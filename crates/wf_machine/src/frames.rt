@@ -178,7 +178,8 @@ impl Parts {
         ensures layers { IfSome (port_scene port self.old.display)
             (λ scene. AllByRecursion (LayerFits self.old.streams) scene.layers.items) }
         ensures answer { IfSome (port_scene port self.old.display)
-            (λ scene. IsAnswer (start (beginning_of (JobKind.Port port) scene port self.old) self.old).1 (with_job result (job_in place.new))) }
+            (λ scene. IsAnswer (start (beginning_of (JobKind.Port port) scene port self.old) self.old).1
+            (with_job result (job_in place.new))) }
     {
         let Some(mode) = self.display.mode(port) else {
             unreachable!()

@@ -15,5 +15,6 @@ returns c =
     c.args.program.now.job
     (subst (λ q. IfSome q.job (λ j. IsStep c.args.machine.now c.args.client (call.End j) c.end-answer.new.self reply)) c.program.view_is
     c.end-answer.ensures.step)
-    (c.took_answer.ensures ∙ took_ended p c.end-answer.result (job_in c.end-answer.new.place) reply is ∙ ap (λ q. took q reply) c.program.view_is)
+    (c.took_answer.ensures ∙ took_ended p c.end-answer.result (job_in c.end-answer.new.place) reply is
+    ∙ ap (λ q. took q reply) c.program.view_is)
     c.entry.ensures
