@@ -254,8 +254,9 @@ impl Round {
     }
 }
 
-/// Appends lines.
+/// Appends a few lines.
 fn append<const N: usize>(lines: &mut Vec<Line>, more: [Line; N]) -> Result<(), NoMemory>
+    requires few { N ≤ 4 }
     ensures { OnOk result (lines.new.items ≡ lines.old.items ++ more.entry) }
 {
     for line in more {

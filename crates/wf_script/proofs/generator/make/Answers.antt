@@ -8,7 +8,9 @@ use Rattle.wf_script.proofs.generator.make.Goals as goal
 
 pub loop-number-init : goal.loop-number-init
 unfolding rounds
-loop-number-init c = c.in_ok-lines.ensures.items ∙ c.setup.ensures ∙ sym (append-nil setup)
+loop-number-init c =
+    c.in_ok-append.ensures ∙ ap (λ (ls : List Line). ls ++ c.setup.result) c.in_ok-lines.ensures.items ∙ c.setup.ensures
+    ∙ sym (append-nil setup)
 
 pub loop-number-preserved : goal.loop-number-preserved
 loop-number-preserved c =
