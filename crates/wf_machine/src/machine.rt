@@ -27,8 +27,15 @@ use wf_words::NoMemory;
 #[derive(Drop)]
 pub struct Machine {
     parts: Parts,
-    // Where `run` has its Jobs.
-    place: JobPlace,
+    // Where `run` has its Jobs: off the stack, since a machine is moved when it is made.
+    place: Box<JobPlace>,
+}
+
+/// A place that holds no Job, off the stack.
+#[inline(never)]
+fn boxed_place(alloc: Global) -> Result<Box<JobPlace>, NoMemory> {
+    let place = JobPlace::new(alloc)?;
+    Ok(Box::new(alloc, place)?)
 }
 
 impl Model for Machine {
@@ -50,7 +57,7 @@ impl Machine {
     {
         Ok(Machine {
             parts: Parts::open(alloc, ports)?,
-            place: JobPlace::new(alloc)?,
+            place: boxed_place(alloc)?,
         })
     }
 
@@ -116,9 +123,10 @@ impl Machine {
         requires { IsTrue (is_begin (call_of call.now)) }
         ensures step { IsStep self.old client (call_of call.now) self.new result }
     {
-        self.place.clear();
-        let answer = self.parts.act_begin(call, &mut self.place);
-        Reply::with_job(answer, self.place.take())
+        let place = &mut *self.place;
+        place.clear();
+        let answer = self.parts.act_begin(call, place);
+        Reply::with_job(answer, place.take())
     }
 
     /// Runs a client's call that brings nothing, and may take a write buffer or a Job.
@@ -146,9 +154,10 @@ impl Machine {
     fn run_end(&mut self, client: u8, job: Job) -> Reply
         ensures step { IsStep self.old client (Call.End job) self.new result }
     {
-        self.place.put(job);
-        let answer = self.parts.act_end(&mut self.place);
-        Reply::with_job(answer, self.place.take())
+        let place = &mut *self.place;
+        place.put(job);
+        let answer = self.parts.act_end(place);
+        Reply::with_job(answer, place.take())
     }
 
     /// Runs a client's call that brings a write buffer or a Job.

@@ -1,6 +1,6 @@
 -- Sums of quotas.
-use Rattle.wf_turn.proofs.Common.{◌≡◌, ◌∙◌, ℕ, zero, suc, ◌+◌, ◌*◌, ◌<◌, ◌≤◌, ◌==◌, true, false, cond, List, [], ◌∷◌, length, refl}
-use Rattle.wf_turn.proofs.Common.{sym, ap, arith, sum_by, range_with_len, nat_tests, sum_by-cons, Line, Verb, line_quota, most_turns, quota}
+use Rattle.wf_turn.proofs.Common.{◌≡◌, ℕ, zero, suc, ◌+◌, ◌*◌, ◌<◌, ◌≤◌, ◌==◌, true, false, cond, List, [], ◌∷◌, length, refl}
+use Rattle.wf_turn.proofs.Common.{ap, arith, sum_by, range_with_len, nat_tests, sum_by-cons, Line, Verb, line_quota, most_turns, quota}
 use Rattle.wf_turn.proofs.Common.{quota_of, quota_of_all}
 use Rattle.wf_script.specs.declared.line.Verb.TheVariants as verb
 

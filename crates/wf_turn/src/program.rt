@@ -4,6 +4,7 @@ ghost use Rattle.std.specs.Prelude.{◌≡◌, ◌<◌, ◌≤◌, slice_get, If
 ghost use Rattle.std.specs.List.{list_all};
 ghost use Rattle.std.specs.Option.{option_copied, IfNone};
 ghost use Rattle.wf_calls.specs.Parts.{is_begin};
+ghost use Rattle.wf_calls.specs.Places.{job_in};
 ghost use Rattle.wf_script.specs.Script.{is_line};
 ghost use Rattle.wf_turn.specs.Going.{GoesOnAfter};
 ghost use Rattle.wf_turn.specs.Program.{first_line, issued, handle, in_setup, next, place_of};
@@ -59,6 +60,14 @@ pub(crate) fn unasked() -> Asked {
     }
 }
 
+/// A place that holds no Job. What it is made of is off the stack when it returns.
+#[inline(never)]
+fn empty_place(alloc: Global) -> Result<JobPlace, NoMemory>
+    ensures { IfOk result (λ place. job_in place ≡ None) }
+{
+    JobPlace::new(alloc)
+}
+
 /// The line at a place, if there is one.
 fn line_at(lines: &[Line], at: usize) -> Option<&Line>
     requires { IsTrue (list_all is_line lines.now) }
@@ -79,7 +88,7 @@ impl<'a> Program<'a> {
         let setup = setup_lines(lines);
         let own = Names::new(alloc, lines, client)?;
         let learned = Names::new(alloc, &lines[..setup], 0)?;
-        let job = JobPlace::new(alloc)?;
+        let job = empty_place(alloc)?;
         let mut canvas = None;
         let at = skip(lines, client, 0, &mut canvas);
         Ok(Program {
