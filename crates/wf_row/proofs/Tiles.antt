@@ -61,10 +61,14 @@ pixel_put n m i j a b from src out piece len within low room new old k less =
 abbrev lanes : List ℕ → List ℕ
 lanes xs = pick_l 0 xs (range_with_len 0 16)
 
+-- two steps of shuffles turn the lanes, written out
+abbrev pub TurnsLanes : List ℕ → List ℕ → ℕ → Type 0
+TurnsLanes ks ls j =
+    (a b c d : List ℕ) → pick_l 0 (pick_l 0 (lanes a ++ lanes b) ks ++ pick_l 0 (lanes c ++ lanes d) ks) ls
+    ≡ turned_lanes j (lanes a) (lanes b) (lanes c) (lanes d)
+
 -- two steps of shuffles that turn the lanes, written out, turn every vector
-pub turned_are : (ks ls : List ℕ) (j : ℕ)
-    → ((a b c d : List ℕ) → pick_l 0 (pick_l 0 (lanes a ++ lanes b) ks ++ pick_l 0 (lanes c ++ lanes d) ks) ls
-    ≡ turned_lanes j (lanes a) (lanes b) (lanes c) (lanes d))
+pub turned_are : (ks ls : List ℕ) (j : ℕ) → TurnsLanes ks ls j
     → (a b c d : List ℕ) → length a ≡ 16 → length b ≡ 16 → length c ≡ 16 → length d ≡ 16
     → pick_l 0 (pick_l 0 (a ++ b) ks ++ pick_l 0 (c ++ d) ks) ls ≡ turned_lanes j a b c d
 turned_are ks ls j same a b c d la lb lc ld =

@@ -1,5 +1,5 @@
 use Rattle.std.proofs.Common.{ℕ, List, [], ◌∷◌, refl}
-use Rattle.wf_row.proofs.Tiles.{turned_are}
+use Rattle.wf_row.proofs.Tiles.{TurnsLanes, turned_are}
 use Rattle.wf_row.proofs.columns.turn_lanes.Goals as goal
 
 abbrev left : List ℕ
@@ -14,18 +14,14 @@ lower = 0 ∷ 1 ∷ 2 ∷ 3 ∷ 4 ∷ 5 ∷ 6 ∷ 7 ∷ 16 ∷ 17 ∷ 18 ∷ 19 
 abbrev upper : List ℕ
 upper = 8 ∷ 9 ∷ 10 ∷ 11 ∷ 12 ∷ 13 ∷ 14 ∷ 15 ∷ 24 ∷ 25 ∷ 26 ∷ 27 ∷ 28 ∷ 29 ∷ 30 ∷ 31 ∷ []
 
-pub returns-clause-first : goal.returns-clause-first
-returns-clause-first c =
-    turned_are left lower 0 (λ a b c d. refl) c.args.a c.args.b c.args.c c.args.d c.requires.a c.requires.b c.requires.c c.requires.d
-
-pub returns-clause-second : goal.returns-clause-second
-returns-clause-second c =
-    turned_are left upper 1 (λ a b c d. refl) c.args.a c.args.b c.args.c c.args.d c.requires.a c.requires.b c.requires.c c.requires.d
-
-pub returns-clause-third : goal.returns-clause-third
-returns-clause-third c =
-    turned_are right lower 2 (λ a b c d. refl) c.args.a c.args.b c.args.c c.args.d c.requires.a c.requires.b c.requires.c c.requires.d
-
-pub returns-clause-fourth : goal.returns-clause-fourth
-returns-clause-fourth c =
-    turned_are right upper 3 (λ a b c d. refl) c.args.a c.args.b c.args.c c.args.d c.requires.a c.requires.b c.requires.c c.requires.d
+pub returns : goal.returns
+returns c =
+    let a = c.args in
+    let len = c.requires in
+    let by = λ (ks ls : List ℕ) (j : ℕ) (same : TurnsLanes ks ls j). turned_are ks ls j same a.a a.b a.c a.d len.a len.b len.c len.d in
+    record {
+      first = by left lower 0 (λ a b c d. refl);
+      second = by left upper 1 (λ a b c d. refl);
+      third = by right lower 2 (λ a b c d. refl);
+      fourth = by right upper 3 (λ a b c d. refl);
+    }
