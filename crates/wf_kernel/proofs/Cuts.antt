@@ -1,5 +1,5 @@
 -- Strips, and what is cut off them.
-use Rattle.std.proofs.Common.{◌≡◌, ℕ, zero, suc, ◌+◌, ◌-◌, ◌<◌, ◌≤◌, List, [], ◌∷◌, length, take, get_or, ap, sym, subst, ◌∙◌, inl, inr}
+use Rattle.std.proofs.Common.{◌≡◌, ℕ, zero, suc, ◌+◌, ◌-◌, ◌<◌, ◌≤◌, List, [], ◌∷◌, length, take, get_or, ap, sym, ◌∙◌, inl, inr}
 use Rattle.std.proofs.Common.{arith, add-zero}
 use Rattle.std.specs.Prelude.{Option, None, Some, IfSome}
 use Rattle.std.proofs.lemmas.Bool.{cases_lt}
@@ -10,7 +10,7 @@ use Rattle.wf_image.specs.Bitmap.{stored, drawn_row}
 use Rattle.wf_model.specs.Picture.{on_top}
 use Rattle.wf_kernel.specs.declared.spans.Span.{Span}
 use Rattle.wf_kernel.specs.declared.strips.Strip.{Strip}
-use Rattle.wf_kernel.specs.Bound.{Bound, bound_texel, bound_colour}
+use Rattle.wf_kernel.specs.Bound.{Bound, bound_texel, bound_colour, layer_at, no_bound}
 use Rattle.wf_kernel.specs.Placed.{placed}
 use Rattle.wf_kernel.specs.Spans.{IsReach}
 use Rattle.wf_kernel.specs.Hiding.{IsCover, IsBeside}
@@ -18,9 +18,6 @@ use Rattle.wf_kernel.specs.Strips.{IsStrip, IsCut}
 use Rattle.wf_kernel.proofs.Pixels.{pieces_same}
 use Rattle.wf_kernel.proofs.Shown.{bound_beside, bound_above}
 use Rattle.wf_kernel.proofs.Stacks.{colour_more}
-
-pub low_in : {j m n : ℕ} → j < m → m ≤ n → j < n
-low_in a b = omega arith
 
 -- ---- pieces that a layer does not reach
 pub beside_left : (b : Bound) (columns : Span) (first w y : ℕ) → IsReach (placed b).x (placed b).w columns → first + w ≤ columns.start
@@ -39,31 +36,52 @@ pub beside_below : (b : Bound) (rows : Span) (first w y : ℕ) → IsReach (plac
     → IsBeside b first w y
 beside_below b rows first w y reach high x within = bound_above b (first + x) y (reach.behind y high)
 
+-- ---- the base of a strip
+-- it is one of the layers
+pub base_low : (layers : List Bound) (w j : ℕ) (s : Strip) → IsStrip layers w s → s.base ≡ Some j → j < length layers
+base_low layers w j s strip base = let low = rw base at strip.base in let top = strip.top in omega arith
+
+-- it covers the strip's pixels in each row
+pub base_covers : (layers : List Bound) (w j y : ℕ) (s : Strip) → IsStrip layers w s → s.base ≡ Some j → s.from ≤ y → y < s.bottom
+    → IsCover (layer_at layers j) s.first s.width y
+base_covers layers w j y s strip base from bottom = let covers = rw base at strip.cover in covers no_bound y from bottom
+
 -- ---- strips cut
--- a strip of fewer pixels or rows, without a base
-pub cut_strip : (layers : List Bound) (w : ℕ) (s t : Strip) → IsStrip layers w s → IsCut s t → t.base ≡ None → t.top ≡ s.top
+-- a strip of fewer pixels or rows, with a base that covers it or none
+cut_with : (layers : List Bound) (w : ℕ) (s t : Strip) → IsStrip layers w s → IsCut s t → t.top ≡ s.top → IfSome t.base (λ j. j < t.top)
+    → IfSome t.base (λ j. (d : Bound) (y : ℕ) → t.from ≤ y → y < t.bottom → IsCover (get_or layers j d) t.first t.width y)
     → IsStrip layers w t
-cut_strip layers w s t strip cut none top =
+cut_with layers w s t strip cut top base cover =
     let first = cut.first in
     let from = cut.from in
     let width = cut.width in
     let bottom = cut.bottom in
     let within = strip.within in
     let top_in = strip.top in
-    let Base : Option ℕ → Type 0 = λ o. IfSome o (λ j. j < t.top) in
-    let Covers : Option ℕ → Type 0 = λ o. IfSome o (λ j. (d : Bound) (y : ℕ) → t.from ≤ y → y < t.bottom
-    → IsCover (get_or layers j d) t.first t.width y) in
     record {
       within = omega arith;
       some = λ y a b. cut.some;
       top = omega arith;
-      base = subst Base (sym none) tt;
-      cover = subst Covers (sym none) tt;
+      base = base;
+      cover = cover;
       beside = λ i d y a b c e x low.
-          let n : s.first + x ≡ t.first + x = omega arith in
-          ap (λ (j : ℕ). bound_texel (get_or layers i d) j y) (sym n)
+          let n : t.first + x ≡ s.first + x = omega arith in
+          ap (λ (j : ℕ). bound_texel (get_or layers i d) j y) n
           ∙ strip.beside i d y (omega arith) b (omega arith) (omega arith) x (omega arith);
     }
+
+-- without a base
+pub cut_strip : (layers : List Bound) (w : ℕ) (s t : Strip) → IsStrip layers w s → IsCut s t → t.base ≡ None → t.top ≡ s.top
+    → IsStrip layers w t
+cut_strip layers w s t strip cut none top = cut_with layers w s t strip cut top (rw none tt) (rw none tt)
+
+-- with this base
+pub based_strip : (layers : List Bound) (w j : ℕ) (s t : Strip) → IsStrip layers w s → IsCut s t → t.base ≡ Some j → t.top ≡ s.top
+    → j < s.top
+    → ((d : Bound) (y : ℕ) → t.from ≤ y → y < t.bottom → IsCover (get_or layers j d) t.first t.width y) → IsStrip layers w t
+based_strip layers w j s t strip cut base top low cover =
+    let in_top : j < t.top = omega arith in
+    cut_with layers w s t strip cut top (rw base in_top) (rw base cover)
 
 -- one layer fewer on top
 pub topped_strip : (layers : List Bound) (w n : ℕ) (s t : Strip) → IsStrip layers w s → s.top ≡ n + 1 → t.first ≡ s.first
@@ -72,15 +90,12 @@ pub topped_strip : (layers : List Bound) (w n : ℕ) (s t : Strip) → IsStrip l
 topped_strip layers w n s t strip top first width from bottom none top_is beside =
     let within = strip.within in
     let top_in = strip.top in
-    let Base : Option ℕ → Type 0 = λ o. IfSome o (λ j. j < t.top) in
-    let Covers : Option ℕ → Type 0 = λ o. IfSome o (λ j. (d : Bound) (y : ℕ) → t.from ≤ y → y < t.bottom
-    → IsCover (get_or layers j d) t.first t.width y) in
     record {
       within = omega arith;
       some = λ y a b. let some = strip.some y (omega arith) (omega arith) in omega arith;
       top = omega arith;
-      base = subst Base (sym none) tt;
-      cover = subst Covers (sym none) tt;
+      base = rw none tt;
+      cover = rw none tt;
       beside = λ i d y a b c e x low.
           let at : t.first + x ≡ s.first + x = omega arith in
           ap (λ (j : ℕ). bound_texel (get_or layers i d) j y) at
@@ -90,33 +105,6 @@ topped_strip layers w n s t strip top first width from bottom none top_is beside
                 ap (λ (j : ℕ). bound_texel (get_or layers j d) (s.first + x) y) same
                 ∙ beside d y (omega arith) (omega arith) x (omega arith))
           ];
-    }
-
--- the strip with its base
-pub based_strip : (layers : List Bound) (w j : ℕ) (s t : Strip) → IsStrip layers w s → IsCut s t → t.base ≡ Some j → t.top ≡ s.top
-    → j < s.top
-    → ((d : Bound) (y : ℕ) → t.from ≤ y → y < t.bottom → IsCover (get_or layers j d) t.first t.width y) → IsStrip layers w t
-based_strip layers w j s t strip cut base top low cover =
-    let first = cut.first in
-    let from = cut.from in
-    let width = cut.width in
-    let bottom = cut.bottom in
-    let within = strip.within in
-    let top_in = strip.top in
-    let Base : Option ℕ → Type 0 = λ o. IfSome o (λ j. j < t.top) in
-    let Covers : Option ℕ → Type 0 = λ o. IfSome o (λ j. (d : Bound) (y : ℕ) → t.from ≤ y → y < t.bottom
-    → IsCover (get_or layers j d) t.first t.width y) in
-    let in_top : j < t.top = omega arith in
-    record {
-      within = omega arith;
-      some = λ y a b. cut.some;
-      top = omega arith;
-      base = subst Base (sym base) in_top;
-      cover = subst Covers (sym base) cover;
-      beside = λ i d y a b c e x low.
-          let n : t.first + x ≡ s.first + x = omega arith in
-          ap (λ (j : ℕ). bound_texel (get_or layers i d) j y) n
-          ∙ strip.beside i d y (omega arith) b (omega arith) (omega arith) x (omega arith);
     }
 
 -- the layers above count for nothing
@@ -170,14 +158,11 @@ cut_more a s t n one two first width from bottom =
 pub no_rows : (layers : List Bound) (w : ℕ) (s : Strip) → s.first ≡ 0 → s.width ≡ 0 → s.bottom ≡ 0 → s.base ≡ None → s.top ≡ 0
     → IsStrip layers w s
 no_rows layers w s first width bottom none top =
-    let Base : Option ℕ → Type 0 = λ o. IfSome o (λ j. j < s.top) in
-    let Covers : Option ℕ → Type 0 = λ o. IfSome o (λ j. (d : Bound) (y : ℕ) → s.from ≤ y → y < s.bottom
-    → IsCover (get_or layers j d) s.first s.width y) in
     record {
       within = omega arith;
       some = λ y a b. absurd (omega arith);
       top = omega arith;
-      base = subst Base (sym none) tt;
-      cover = subst Covers (sym none) tt;
+      base = rw none tt;
+      cover = rw none tt;
       beside = λ i d y a b c e. absurd (omega arith);
     }

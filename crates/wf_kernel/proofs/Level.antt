@@ -1,7 +1,7 @@
 -- Rows that are written at once.
-use Rattle.std.proofs.Common.{◌≡◌, ℕ, zero, suc, ◌+◌, ◌-◌, ◌*◌, ◌<◌, ◌≤◌, List, ◌++◌, length, take, drop, get_or, pos, ℤ, refl, sym}
+use Rattle.std.proofs.Common.{◌≡◌, ℕ, zero, suc, ◌+◌, ◌-◌, ◌*◌, ◌<◌, ◌≤◌, List, ◌++◌, length, take, drop, pos, ℤ, refl, sym}
 use Rattle.std.proofs.Common.{ap, subst, ◌∙◌, arith, false, zero-add, add-zero}
-use Rattle.std.specs.Prelude.{◌≢◌, Option, None, Some, IfSome, flat_map, nat_abs}
+use Rattle.std.specs.Prelude.{◌≢◌, Option, None, Some, flat_map, nat_abs}
 use Rattle.std.specs.List.{range_with_len}
 use Rattle.std.specs.Simd.Lanes.{chunk}
 use Rattle.std.proofs.Math.Nat.{mul-le-mul_right}
@@ -13,7 +13,7 @@ use Rattle.wf_pixel.specs.declared.Rgba.{Rgba}
 use Rattle.wf_pixel.specs.declared.Format.TheVariants.{Rgba8Pre, A8}
 use Rattle.wf_pixel.specs.declared.Rotation.{Rotation}
 use Rattle.wf_pixel.specs.Along.{along}
-use Rattle.wf_pixel.specs.Arithmetic.{samp, over}
+use Rattle.wf_pixel.specs.Arithmetic.{over}
 use Rattle.wf_pixel.specs.Place.{turned, size_of}
 use Rattle.wf_row.specs.declared.AlphaMode.{AlphaMode}
 use Rattle.wf_row.specs.declared.AlphaMode.TheVariants.{Opaque}
@@ -30,12 +30,12 @@ use Rattle.wf_kernel.specs.Level.{IsLevel}
 use Rattle.wf_kernel.specs.Strips.{IsStrip}
 use Rattle.wf_kernel.proofs.Blended.{blended_drawn}
 use Rattle.wf_kernel.proofs.Copied.{copied_laid}
-use Rattle.wf_kernel.proofs.Cuts.{low_in, strip_drawn}
+use Rattle.wf_kernel.proofs.Cuts.{base_low, base_covers, strip_drawn}
 use Rattle.wf_kernel.proofs.Gathered.{forward_shown, four_bytes, part_drawn, straight_low}
 use Rattle.wf_kernel.proofs.Kept.{stretch_shown}
 use Rattle.wf_kernel.proofs.Pieces.{pieces-more}
 use Rattle.wf_kernel.proofs.Pixels.{pieces_same, pieces_shift, pieces_split, read_chunk}
-use Rattle.wf_kernel.proofs.Placed.{samp_same}
+use Rattle.wf_kernel.proofs.Placed.{samp_level}
 use Rattle.wf_kernel.proofs.Stacks.{laid_first}
 
 -- ---- rows one behind the other
@@ -163,21 +163,17 @@ level_across : (b : Bound) (image : Bitmap) (w a : ℕ) → IsShowable b → IsL
     → across b.turn b.layer a ≡ nat_abs b.layer.src.x + a
 level_across b image w a showable level =
     let l : Layer = b.layer in
-    let some = showable.dest.w_low in
     ap (λ (t : Rotation). across t l a) level.turn
     ∙ ap (λ (t : Rotation). from_left t l.src l.flip l.dest.w a) level.layer_turn
-    ∙ ap (λ (n : ℕ). nat_abs l.src.x + samp a l.dest.w n) level.wide
-    ∙ ap (λ (n : ℕ). nat_abs l.src.x + n) (samp_same a l.dest.w (omega arith))
+    ∙ samp_level (nat_abs l.src.x) a l.dest.w l.src.w level.wide showable.dest.w_low
 
 level_down : (b : Bound) (image : Bitmap) (w d : ℕ) → IsShowable b → IsLevel b image w
     → down b.turn b.layer d ≡ nat_abs b.layer.src.y + d
 level_down b image w d showable level =
     let l : Layer = b.layer in
-    let some = showable.dest.h_low in
     ap (λ (t : Rotation). down t l d) level.turn
     ∙ (λ i. from_top (level.layer_turn i) l.src (level.flip i) l.dest.h d)
-    ∙ ap (λ (n : ℕ). nat_abs l.src.y + samp d l.dest.h n) level.high
-    ∙ ap (λ (n : ℕ). nat_abs l.src.y + n) (samp_same d l.dest.h (omega arith))
+    ∙ samp_level (nat_abs l.src.y) d l.dest.h l.src.h level.high showable.dest.h_low
 
 level_straight : (b : Bound) (image : Bitmap) (w : ℕ) → IsLevel b image w → is_crossed b.turn b.layer ≡ false
 level_straight b image w level =
@@ -269,19 +265,15 @@ pub based_rows : (layers : List Bound) (background : Rgba) (w n y j : ℕ) (s : 
     → flat_map (λ k. laid w (λ x. bound_texel b (0 + x) (y + k)) (chunk (k * (4 * w)) (4 * w) part)) (range_with_len 0 n)
     ≡ bound_rows w layers background y n
 based_rows layers background w n y j s b part strip whole from bottom base top same =
-    let InLayers : Option ℕ → Type 0 = λ o. IfSome o (λ j. j < s.top) in
-    let Covers : Option ℕ → Type 0 = λ o. IfSome o (λ j. (d : Bound) (y : ℕ) → s.from ≤ y → y < s.bottom
-    → IsCover (get_or layers j d) s.first s.width y) in
     let within = strip.within in
     let left : 0 ≡ s.first = omega arith in
-    let in_layers : j < length layers = low_in (subst InLayers base strip.base) strip.top in
-    let covers = subst Covers base strip.cover in
     alike w n y layers background (λ k. laid w (λ x. bound_texel b (0 + x) (y + k)) (chunk (k * (4 * w)) (4 * w) part))
     (λ k low.
     let old : List ℕ = chunk (k * (4 * w)) (4 * w) part in
     let cover : IsCover (layer_at layers j) s.first w (y + k) =
-    subst (λ (n : ℕ). IsCover (layer_at layers j) s.first n (y + k)) whole (covers no_bound (y + k) (omega arith) (omega arith)) in
+    subst (λ (n : ℕ). IsCover (layer_at layers j) s.first n (y + k)) whole
+    (base_covers layers w j (y + k) s strip base (omega arith) (omega arith)) in
     (λ i. laid w (λ x. bound_texel (same i) (left i + x) (y + k)) old)
-    ∙ laid_first s.first w layers j no_bound background (y + k) old in_layers cover
+    ∙ laid_first s.first w layers j no_bound background (y + k) old (base_low layers w j s strip base) cover
     ∙ ap (λ (i : ℕ). drawn_row w Rgba8Pre (λ x. bound_colour (take i layers) background (s.first + x) (y + k))) (sym top)
     ∙ strip_row layers background w (y + k) s strip whole (omega arith) (omega arith))

@@ -25,6 +25,10 @@ samp_same i w some =
     let split : (2 * i + 1) * w ≡ i * (2 * w) + w = grind arith in
     ap (λ (n : ℕ). n / (2 * w)) split ∙ div-mul-add i (2 * w) w (omega arith)
 
+-- a coordinate of a source, where its side is as long as the one that shows it
+pub samp_level : (x i w s : ℕ) → s ≡ w → 1 ≤ w → x + samp i w s ≡ x + i
+samp_level x i w s same some = ap (λ (n : ℕ). x + samp i w n) same ∙ ap (λ (n : ℕ). x + n) (samp_same i w some)
+
 samp_below : (i w s : ℕ) → i < w → 1 ≤ s → samp i w s < s
 samp_below i w s low some =
     let more : (2 * i + 1) * s + s ≤ (2 * w) * s = mul_more (2 * i + 1) (2 * w) s (omega arith) in
