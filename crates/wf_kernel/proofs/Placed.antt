@@ -15,8 +15,8 @@ use Rattle.wf_pixel.specs.Arithmetic.{samp}
 use Rattle.wf_pixel.specs.Place.{turned, turned_back, size_of, source_pixel}
 use Rattle.wf_scene.specs.declared.Layer.{Layer}
 use Rattle.wf_scene.specs.Layers.{holds_rect}
-use Rattle.wf_kernel.specs.Bound.{point_of}
-use Rattle.wf_kernel.specs.Placed.{mirrored, left_on, top_on, source_place}
+use Rattle.wf_kernel.specs.Bound.{Bound, point_of}
+use Rattle.wf_kernel.specs.Placed.{mirrored, left_on, top_on, down, source_place}
 
 -- ---- the sampled place
 -- nothing is scaled
@@ -37,6 +37,10 @@ samp_below i w s low some =
   where
     mul_more : (a b s : ℕ) → a + 1 ≤ b → a * s + s ≤ b * s
     mul_more a b s le = let all : (a + 1) * s ≤ b * s = mul-le-mul_right s le in grind (arith, all)
+
+-- what the distance from the top determines by a layer's fields, it determines by the layer
+pub down_is : {a b : Bound} {r : ℕ} (d : ℕ) → a ≡ b → r ≡ down a.turn a.layer d → r ≡ down b.turn b.layer d
+down_is d same is = is ∙ ap (λ (b : Bound). down b.turn b.layer d) same
 
 -- ---- the pixel of the source by the distances on the target
 pub place_is : (t u : Rotation) (l : Layer) (source mask : _) (s : Size) (a d : ℕ)

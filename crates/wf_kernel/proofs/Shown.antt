@@ -161,6 +161,10 @@ texel_is b image x y a d source colours ex ey =
 abbrev Holds : Layer → Option Bitmap → Type 0
 Holds l s = IfSome s (λ i. (i.format ≢ A8) × IsTrue (holds_rect i.size l.src))
 
+-- an image that is at hand is the layer's
+pub source_is : {a b : Bound} {o : Option Bitmap} → a ≡ b → a.source ≡ o → b.source ≡ o
+source_is same is = ap (λ (b : Bound). b.source) (sym same) ∙ is
+
 -- an image of a layer's stream is no mask
 pub has_colours : (b : Bound) (image : Bitmap) → IsShowable b → b.source ≡ Some image → image.format ≢ A8
 has_colours b image showable source = (subst (Holds b.layer) source showable.has_source).0

@@ -1,5 +1,4 @@
-use Rattle.std.proofs.Common.{◌≡◌, ℕ, ◌+◌, ◌*◌, length, refl, sym, ap, subst, ◌∙◌, arith}
-use Rattle.std.specs.Prelude.{Some}
+use Rattle.std.proofs.Common.{◌≡◌, ℕ, ◌+◌, ◌*◌, ◌≤◌, length, refl, ap, subst, ◌∙◌, arith}
 use Rattle.std.specs.Option.{option_copied}
 use Rattle.std.specs.Simd.Lanes.{chunk}
 use Rattle.wf_pixel.specs.declared.Format.TheVariants.{Rgba8Pre}
@@ -8,22 +7,27 @@ use Rattle.wf_kernel.specs.Bound.{Bound}
 use Rattle.wf_kernel.specs.Placed.{down}
 use Rattle.wf_kernel.specs.Prepared.{prepared_as}
 use Rattle.wf_kernel.proofs.Level.{level_laid, level_low}
+use Rattle.wf_kernel.proofs.Placed.{down_is}
+use Rattle.wf_kernel.proofs.Shown.{source_is}
+use Rattle.wf_kernel.proofs.runs.copy_rows.Goals.{After-down-first}
 use Rattle.wf_kernel.proofs.runs.copy_rows.Goals as goal
+
+-- all n rows show the layer
+room : (c : After-down-first) → c.in-Some-stretch_of.stretch.down + c.args.n ≤ c.args.layer.now.layer.dest.h
+room c =
+    let high = ap (λ (b : Bound). b.layer.dest.h) c.layer.view_is in
+    let some = c.requires.some in
+    let rows = c.if-layer-stretch.false in
+    omega arith
 
 pub rows_part-requires-clause-rows : goal.rows_part-requires-clause-rows
 rows_part-requires-clause-rows c =
-    let b = c.args.layer.now in
-    let s = c.in-Some-stretch_of.stretch in
-    let image = c.in-Some.image.now in
     let prepared = prepared_as c.layer.view_is c.layer.invariant in
-    let source : b.source ≡ Some image = ap (λ (b : Bound). b.source) (sym c.layer.view_is) ∙ ap option_copied c.in-Some.is in
-    let first : c.down-first.result ≡ down b.turn b.layer s.down = c.down-first.ensures.value
-    ∙ ap (λ (b : Bound). down b.turn b.layer s.down) c.layer.view_is in
-    let high : c.layer.inside.layer.dest.h ≡ b.layer.dest.h = ap (λ (b : Bound). b.layer.dest.h) c.layer.view_is in
-    let some = c.requires.some in
-    let room = c.if-layer-stretch.false in
-    let low = level_low b image c.args.width c.args.n s prepared.showable source (c.if-not-is_level.ensures refl)
-    c.in-Some-stretch_of.ensures.some.stretch some (omega arith) in
+    let source = source_is c.layer.view_is (ap option_copied c.in-Some.is) in
+    let first = down_is c.in-Some-stretch_of.stretch.down c.layer.view_is c.down-first.ensures.value in
+    let low = level_low c.args.layer.now c.in-Some.image.now c.args.width c.args.n c.in-Some-stretch_of.stretch prepared.showable source
+    (c.if-not-is_level.ensures refl) c.in-Some-stretch_of.ensures.some.stretch c.requires.some
+    (room (goal.at.rows_part-requires-clause-rows c).After-down-first) in
     omega arith
 
 pub returns-clause-done : goal.returns-clause-done
@@ -34,17 +38,13 @@ returns-clause-done c _ =
     let w : ℕ = c.args.width in
     let level = c.if-not-is_level.ensures refl in
     let prepared = prepared_as c.layer.view_is c.layer.invariant in
-    let source : b.source ≡ Some image = ap (λ (b : Bound). b.source) (sym c.layer.view_is) ∙ ap option_copied c.in-Some.is in
-    let first : c.down-first.result ≡ down b.turn b.layer s.down = c.down-first.ensures.value
-    ∙ ap (λ (b : Bound). down b.turn b.layer s.down) c.layer.view_is in
-    let high : c.layer.inside.layer.dest.h ≡ b.layer.dest.h = ap (λ (b : Bound). b.layer.dest.h) c.layer.view_is in
-    let some = c.requires.some in
-    let room = c.if-layer-stretch.false in
+    let source = source_is c.layer.view_is (ap option_copied c.in-Some.is) in
+    let first = down_is s.down c.layer.view_is c.down-first.ensures.value in
     let len : length c.rows_part.result.now ≡ 4 * (c.args.n * w) = c.rows_part.ensures.len
     ∙ ap (λ (w : ℕ). 4 * (c.args.n * w)) level.whole in
     c.blend_row.ensures
     ∙ level_laid b image w c.args.n c.args.y s c.rows_part.result.now c.args.part.now prepared.showable source level
-    c.in-Some-stretch_of.ensures.some c.if-stretch-width.false (omega arith) len c.requires.count
+    c.in-Some-stretch_of.ensures.some c.if-stretch-width.false (room (goal.at.returns-clause-done c).After-down-first) len c.requires.count
     (λ k low. subst (λ (w : ℕ). chunk (k * (4 * w)) (4 * w) c.rows_part.result.now ≡ drawn_row w Rgba8Pre
     (λ i. pixel image i (down b.turn b.layer s.down + k))) level.whole
     (c.rows_part.ensures.rows k low
