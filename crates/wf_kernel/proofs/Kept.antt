@@ -54,18 +54,27 @@ same_colours b image a d e same =
     ap (λ (v : ℕ). let p : ℕ × ℕ = if is_crossed b.turn b.layer then (v, across b.turn b.layer a) else (across b.turn b.layer a, v) in
     pixel image p.0 p.1) same
 
+-- a stretch of layer i is among what is kept: its coordinate of the source is one of n
+pub record IsPart (tag : Tag) (i : ℕ) (s : Stretch) (other n : ℕ) : Type 0 where
+  pub layer : tag.layer ≡ i
+  pub first : tag.other ≤ other
+  pub last : other < tag.other + n
+  pub start : tag.across ≤ s.across
+  pub end : s.across + s.len ≤ tag.across + tag.len
+
 -- a part of a line that is kept
-pub kept_part : (b : Bound) (image : Bitmap) (tag : Tag) (line : List ℕ) (s : Stretch) (at count : ℕ) → IsLine b image tag line
-    → tag.across ≤ s.across → s.across + s.len ≤ tag.across + tag.len → down b.turn b.layer s.down ≡ tag.other
-    → at ≡ 4 * (s.across - tag.across) → count ≡ 4 * s.len → at + count ≤ length line
-    → chunk at count line ≡ drawn_row s.len Rgba8Pre (λ i. source_colour b image (s.across + i) s.down)
-kept_part b image tag line s at count is start end other at_is count_is room =
+pub kept_part : (b : Bound) (image : Bitmap) (tag : Tag) (line : List ℕ) (i : ℕ) (s : Stretch) (other at count : ℕ)
+    → IsLine b image tag line → IsPart tag i s other 1 → other ≡ down b.turn b.layer s.down → at ≡ 4 * (s.across - tag.across)
+    → count ≡ 4 * s.len → at + count ≤ length line
+    → chunk at count line ≡ drawn_row s.len Rgba8Pre (λ j. source_colour b image (s.across + j) s.down)
+kept_part b image tag line i s other at count is part other_is at_is count_is room =
+    let first = part.first in let last = part.last in let start = part.start in let end = part.end in
     let skip : ℕ = s.across - tag.across in
     ap (λ (k : ℕ). chunk at k line) count_is
-    ∙ part_is line skip s.len at (λ i. source_colour b image (s.across + i) s.down) at_is (omega arith)
-    (λ i less.
-    let to : tag.across + (skip + i) ≡ s.across + i = omega arith in
-    is (skip + i) s.down (omega arith) other ∙ ap (λ (a : ℕ). source_colour b image a s.down) to)
+    ∙ part_is line skip s.len at (λ j. source_colour b image (s.across + j) s.down) at_is (omega arith)
+    (λ j less.
+    let to : tag.across + (skip + j) ≡ s.across + j = omega arith in
+    is (skip + j) s.down (omega arith) (sym other_is ∙ omega arith) ∙ ap (λ (a : ℕ). source_colour b image a s.down) to)
 
 -- a pixel of some bytes that others follow
 read_front : (xs ys : List ℕ) (at : ℕ) → at + 4 ≤ length xs → read_at Rgba8Pre (xs ++ ys) at ≡ read_at Rgba8Pre xs at
@@ -110,23 +119,33 @@ block_kept b image n a first bytes out rest places colours columns bytes_is coun
     ∙ ap (λ (y : ℕ). read_at Rgba8Pre image.bytes (4 * (y * image.size.w + (first + j)))) (places_are i low)
     ∙ sym (pixel_is image (first + j) (across b.turn b.layer (a + i)) colours)
 
+-- a part of a column ends in eight columns
+pub part_end : (tag : Tag) (i : ℕ) (s : Stretch) (other : ℕ) → IsPart tag i s other 8 → 1 ≤ s.len
+    → tag.len * (other - tag.other) + (s.across - tag.across) + s.len ≤ 8 * tag.len
+part_end tag i s other part some =
+    let first = part.first in let last = part.last in let start = part.start in let end = part.end in
+    let inside = eight_columns tag.len (s.across - tag.across + s.len - 1) (other - tag.other) (omega arith) (omega arith) in
+    omega arith
+
 -- a part of a column that is kept
-pub block_part : (b : Bound) (image : Bitmap) (tag : Tag) (block : List ℕ) (s : Stretch) (at count column : ℕ) → IsBlock b image tag block
-    → is_crossed b.turn b.layer ≡ true → tag.across ≤ s.across → s.across + s.len ≤ tag.across + tag.len
-    → tag.other + column ≡ down b.turn b.layer s.down → column < 8 → at ≡ 4 * (tag.len * column + (s.across - tag.across))
-    → count ≡ 4 * s.len → at + count ≤ length block
-    → chunk at count block ≡ drawn_row s.len Rgba8Pre (λ i. source_colour b image (s.across + i) s.down)
-block_part b image tag block s at count column is crossed start end other eight at_is count_is room =
+pub block_part : (b : Bound) (image : Bitmap) (tag : Tag) (block : List ℕ) (i : ℕ) (s : Stretch) (other at count : ℕ)
+    → IsBlock b image tag block → is_crossed b.turn b.layer ≡ true → IsPart tag i s other 8 → other ≡ down b.turn b.layer s.down
+    → at ≡ 4 * (tag.len * (other - tag.other) + (s.across - tag.across)) → count ≡ 4 * s.len → at + count ≤ length block
+    → chunk at count block ≡ drawn_row s.len Rgba8Pre (λ j. source_colour b image (s.across + j) s.down)
+block_part b image tag block i s other at count is crossed part other_is at_is count_is room =
+    let first = part.first in let last = part.last in let start = part.start in let end = part.end in
     let skip : ℕ = s.across - tag.across in
+    let column : ℕ = other - tag.other in
+    let back : tag.other + column ≡ other = omega arith in
     ap (λ (k : ℕ). chunk at k block) count_is
-    ∙ part_is block (tag.len * column + skip) s.len at (λ i. source_colour b image (s.across + i) s.down) at_is (omega arith)
-    (λ i low.
-    let there : tag.len * column + skip + i ≡ tag.len * column + (skip + i) = omega arith in
-    let to : tag.across + (skip + i) ≡ s.across + i = omega arith in
+    ∙ part_is block (tag.len * column + skip) s.len at (λ j. source_colour b image (s.across + j) s.down) at_is (omega arith)
+    (λ j low.
+    let there : tag.len * column + skip + j ≡ tag.len * column + (skip + j) = omega arith in
+    let to : tag.across + (skip + j) ≡ s.across + j = omega arith in
     ap (λ (k : ℕ). read_at Rgba8Pre block (4 * k)) there
-    ∙ is (skip + i) column (omega arith) eight
-    ∙ (λ j. pixel image (other j) (across b.turn b.layer (to j)))
-    ∙ crossed_colour b image (s.across + i) s.down (across b.turn b.layer (s.across + i)) crossed refl)
+    ∙ is (skip + j) column (omega arith) (omega arith)
+    ∙ (λ t. pixel image ((back ∙ other_is) t) (across b.turn b.layer (to t)))
+    ∙ crossed_colour b image (s.across + j) s.down (across b.turn b.layer (s.across + j)) crossed refl)
 
 -- the part of a layer's table at the columns of a stretch
 pub places_are : (b : Bound) (table : List ℕ) (s : Stretch) (count : ℕ) → IsTable b.turn b.space b.layer table → IsStretch b s

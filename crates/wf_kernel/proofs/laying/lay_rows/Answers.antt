@@ -1,66 +1,56 @@
-use Rattle.std.proofs.Common.{◌≡◌, ℕ, ◌+◌, ◌-◌, ◌*◌, List, refl, sym, ap, subst, ◌∙◌, arith}
-use Rattle.std.specs.Prelude.{Some}
+use Rattle.std.proofs.Common.{ℕ, ◌+◌, ◌-◌, ◌*◌, refl, sym, ap, subst, ◌∙◌, arith}
 use Rattle.wf_pixel.specs.declared.Format.TheVariants.{Rgba8Pre}
 use Rattle.wf_image.specs.Bitmap.{drawn_row}
 use Rattle.wf_kernel.specs.Bound.{Bound, layer_at}
-use Rattle.wf_kernel.specs.Placed.{down, source_colour}
-use Rattle.wf_kernel.specs.Laid.{laid, placed_texel}
-use Rattle.wf_kernel.specs.Kept.{AreKept, IsLine}
-use Rattle.wf_kernel.proofs.Kept.{layer_is, kept_part}
-use Rattle.wf_kernel.proofs.laying.lay_rows.Goals.{then-not-has, else-not-has}
+use Rattle.wf_kernel.specs.Placed.{source_colour}
+use Rattle.wf_kernel.specs.Kept.{AreKept}
+use Rattle.wf_kernel.proofs.Kept.{layer_is, IsPart, kept_part}
+use Rattle.wf_kernel.proofs.Placed.{down_is}
+use Rattle.wf_kernel.proofs.laying.lay_rows.Goals.{Joined-not-has, Else-not-has-2, then-not-has, else-not-has}
 use Rattle.wf_kernel.proofs.laying.lay_rows.Goals as goal
 
-pub returns-then-not-has-2-clause-part : goal.returns-then-not-has-2-clause-part
-returns-then-not-has-2-clause-part c =
-    let s = c.args.stretch in
-    let same = layer_is c.args.layers.now c.args.i c.index-layers-i.result c.requires.layer c.index-layers-i.is in
-    c.lay_filled.ensures
-    ∙ ap (λ (b : Bound). laid s.len (λ j. placed_texel b c.args.image.now (s.across + j) s.down) c.args.part.now) same
-
-pub returns-then-not-has-2-clause-kept : goal.returns-then-not-has-2-clause-kept
-returns-then-not-has-2-clause-kept c =
+-- what is kept then
+kept : (c : Joined-not-has) → AreKept c.args.layers.now c.if-not-has.kept
+kept c =
     elim c.if-not-has.branch [
       | then-not-has w ↦ subst (AreKept c.args.layers.now) (sym w.kept-is) w.keep_line.ensures
       | else-not-has w ↦ subst (AreKept c.args.layers.now) (sym w.kept-is) c.requires.kept
     ]
 
-pub lay_line-requires-clause-line : goal.lay_line-requires-clause-line
-lay_line-requires-clause-line c =
-    let layers = c.args.layers.now in
-    let s = c.args.stretch in
-    let b : Bound = layer_at layers c.args.i in
-    let same = layer_is layers c.args.i c.index-layers-i.result c.requires.layer c.index-layers-i.is in
-    let kept : AreKept layers c.if-not-has.kept = elim c.if-not-has.branch [
-      | then-not-has w ↦ subst (AreKept layers) (sym w.kept-is) w.keep_line.ensures
-      | else-not-has w ↦ subst (AreKept layers) (sym w.kept-is) c.requires.kept
-    ] in
-    let tag = c.if-not-has.kept.line_of in
-    let line : List ℕ = c.if-not-has.kept.line in
+-- the stretch is among it
+part : (c : Else-not-has-2) → IsPart c.if-not-has.kept.line_of c.args.i c.args.stretch c.down-other.result 1
+part c =
     let has = c.if-not-has-2.ensures in
-    let first = has.first refl in
-    let last = has.last refl in
-    let start = has.start refl in
-    let end = has.end refl in
-    let few = kept.line_len in
-    let Is : ℕ → Type 0 = λ k. (layer_at layers k).source ≡ Some c.args.image.now → IsLine (layer_at layers k) c.args.image.now tag line in
-    let is : IsLine b c.args.image.now tag line = subst Is (has.layer refl) (kept.line c.args.image.now) c.requires.source in
-    let other : down b.turn b.layer s.down ≡ tag.other =
-    sym (c.down-other.ensures.value ∙ ap (λ (b : Bound). down b.turn b.layer s.down) (c.layer.view_is ∙ same)) ∙ omega arith in
-    let at : ℕ = 4 * (s.across - tag.across) in
-    kept_part b c.args.image.now tag line s at (at + 4 * s.len - at) is start end other refl (omega arith) (omega arith)
-    ∙ ap (λ (b : Bound). drawn_row s.len Rgba8Pre (λ i. source_colour b c.args.image.now (s.across + i) s.down)) (sym same)
+    record { layer = has.layer refl; first = has.first refl; last = has.last refl; start = has.start refl; end = has.end refl }
+
+pub returns-then-not-has-2-clause-part : goal.returns-then-not-has-2-clause-part
+returns-then-not-has-2-clause-part c =
+    rw (layer_is c.args.layers.now c.args.i c.index-layers-i.result c.requires.layer c.index-layers-i.is) at c.lay_filled.ensures
+
+pub returns-then-not-has-2-clause-kept : goal.returns-then-not-has-2-clause-kept
+returns-then-not-has-2-clause-kept c = kept (goal.at.returns-then-not-has-2-clause-kept c).Joined-not-has
 
 pub returns-clause-part : goal.returns-clause-part
 returns-clause-part c =
-    let s = c.args.stretch in
-    let same = layer_is c.args.layers.now c.args.i c.index-layers-i.result c.requires.layer c.index-layers-i.is in
-    c.lay_line.ensures
-    ∙ ap (λ (b : Bound). laid s.len (λ j. placed_texel b c.args.image.now (s.across + j) s.down) c.args.part.now) same
+    rw (layer_is c.args.layers.now c.args.i c.index-layers-i.result c.requires.layer c.index-layers-i.is) at c.lay_line.ensures
 
 pub returns-clause-kept : goal.returns-clause-kept
 returns-clause-kept c =
-    let kept : AreKept c.args.layers.now c.if-not-has.kept = elim c.if-not-has.branch [
-      | then-not-has w ↦ subst (AreKept c.args.layers.now) (sym w.kept-is) w.keep_line.ensures
-      | else-not-has w ↦ subst (AreKept c.args.layers.now) (sym w.kept-is) c.requires.kept
-    ] in
+    let kept = kept (goal.at.returns-clause-kept c).Joined-not-has in
     record { width = kept.width; line_len = kept.line_len; line = kept.line; block_len = kept.block_len; block = kept.block }
+
+pub lay_line-requires-clause-line : goal.lay_line-requires-clause-line
+lay_line-requires-clause-line c =
+    let kept = kept (goal.at.lay_line-requires-clause-line c).Joined-not-has in
+    let part = part (goal.at.lay_line-requires-clause-line c).Else-not-has-2 in
+    let tag = c.if-not-has.kept.line_of in
+    let image = c.args.image.now in
+    let s = c.args.stretch in
+    let same = layer_is c.args.layers.now c.args.i c.index-layers-i.result c.requires.layer c.index-layers-i.is in
+    let is = rw part.layer at kept.line in
+    let few = kept.line_len in
+    let start = part.start in let end = part.end in
+    let at : ℕ = 4 * (s.across - tag.across) in
+    kept_part (layer_at c.args.layers.now c.args.i) image tag c.if-not-has.kept.line c.args.i s c.down-other.result at (at + 4 * s.len - at)
+    (is image c.requires.source) part (down_is s.down (c.layer.view_is ∙ same) c.down-other.ensures.value) refl (omega arith) (omega arith)
+    ∙ ap (λ (b : Bound). drawn_row s.len Rgba8Pre (λ i. source_colour b image (s.across + i) s.down)) (sym same)
