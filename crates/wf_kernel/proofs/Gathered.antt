@@ -10,7 +10,9 @@ use Rattle.wf_pixel.specs.declared.Format.{Format}
 use Rattle.wf_pixel.specs.declared.Format.TheVariants.{Rgba8, Rgba8Pre, Rgbx8, A8}
 use Rattle.wf_image.specs.Bitmap.{Bitmap, pixel, pixel_bytes, image_bytes, stored, read_at, drawn_row}
 use Rattle.wf_row.specs.Gather.{gathered_row, gathered_column, reversed}
+use Rattle.wf_kernel.specs.declared.stretch.Stretch.{Stretch}
 use Rattle.wf_kernel.specs.Bound.{Bound, IsShowable}
+use Rattle.wf_kernel.specs.Laid.{IsStretch}
 use Rattle.wf_kernel.specs.Placed.{placed, is_crossed, across, down, source_place, source_colour}
 use Rattle.wf_kernel.proofs.Shown.{place_low}
 use Rattle.wf_kernel.proofs.Pieces.{length-pieces}
@@ -69,15 +71,13 @@ part_drawn image x y n at count colours bytes within low at_is count_is =
     ap kept place ∙ ap (stored Rgba8Pre) (sym (pixel_is image (x + i) y colours)))
 
 -- ---- as the layer shows them
-straight_colour : (b : Bound) (image : Bitmap) (a d u : ℕ) → is_crossed b.turn b.layer ≡ false → across b.turn b.layer a ≡ u
-    → pixel image u (down b.turn b.layer d) ≡ source_colour b image a d
-straight_colour b image a d u straight column =
-    let u_is : pixel image u (down b.turn b.layer d) ≡ pixel image (across b.turn b.layer a) (down b.turn b.layer d) =
-    ap (λ (x : ℕ). pixel image x (down b.turn b.layer d)) (sym column) in
+straight_colour : (b : Bound) (image : Bitmap) (a d u v : ℕ) → is_crossed b.turn b.layer ≡ false → across b.turn b.layer a ≡ u
+    → v ≡ down b.turn b.layer d → pixel image u v ≡ source_colour b image a d
+straight_colour b image a d u v straight column row =
     let place : source_place b a d ≡ (across b.turn b.layer a, down b.turn b.layer d) =
     ap (λ (c : Bool). if c then (down b.turn b.layer d, across b.turn b.layer a) else (across b.turn b.layer a, down b.turn b.layer d))
     straight in
-    u_is ∙ ap (λ (p : ℕ × ℕ). pixel image p.0 p.1) (sym place)
+    (λ i. pixel image (sym column i) (row i)) ∙ ap (λ (p : ℕ × ℕ). pixel image p.0 p.1) (sym place)
 
 pub crossed_colour : (b : Bound) (image : Bitmap) (a d v : ℕ) → is_crossed b.turn b.layer ≡ true → across b.turn b.layer a ≡ v
     → pixel image (down b.turn b.layer d) v ≡ source_colour b image a d
@@ -108,34 +108,41 @@ crossed_low b image a d showable source low high crossed =
     let u : ℕ = down b.turn b.layer d in
     subst (λ (c : Bool). Within image (if c then (u, v) else (v, u))) crossed (place_low b image a d showable source low high)
 
--- a part of a row from the left to the right
-pub forward_shown : (b : Bound) (image : Bitmap) (a d n first : ℕ) → is_crossed b.turn b.layer ≡ false
+-- a row of the source that is shown as a row lies in the source
+pub row_low : (b : Bound) (image : Bitmap) (s : Stretch) (v : ℕ) → IsShowable b → b.source ≡ Some image → IsStretch b s
+    → is_crossed b.turn b.layer ≡ false → v ≡ down b.turn b.layer s.down → v < image.size.h
+row_low b image s v showable source stretch straight row =
+    let some = stretch.some in
+    let inside = stretch.inside in
+    let low = straight_low b image s.across s.down showable source (omega arith) stretch.below straight in
+    omega (arith, low.1)
+
+-- a part of such a row from the left to the right
+pub forward_shown : (b : Bound) (image : Bitmap) (a d n first v : ℕ) → is_crossed b.turn b.layer ≡ false → v ≡ down b.turn b.layer d
     → ((i : ℕ) → i < n → across b.turn b.layer (a + i) ≡ first + i)
-    → drawn_row n Rgba8Pre (λ i. pixel image (first + i) (down b.turn b.layer d))
-    ≡ drawn_row n Rgba8Pre (λ i. source_colour b image (a + i) d)
-forward_shown b image a d n first straight column =
-    pieces_same (λ i. stored Rgba8Pre (pixel image (first + i) (down b.turn b.layer d)))
-    (λ i. stored Rgba8Pre (source_colour b image (a + i) d)) 0 n
-    (λ i start less. ap (stored Rgba8Pre) (straight_colour b image (a + i) d (first + i) straight (column i (omega arith))))
+    → drawn_row n Rgba8Pre (λ i. pixel image (first + i) v) ≡ drawn_row n Rgba8Pre (λ i. source_colour b image (a + i) d)
+forward_shown b image a d n first v straight row column =
+    pieces_same (λ i. stored Rgba8Pre (pixel image (first + i) v)) (λ i. stored Rgba8Pre (source_colour b image (a + i) d)) 0 n
+    (λ i start less. ap (stored Rgba8Pre) (straight_colour b image (a + i) d (first + i) v straight (column i (omega arith)) row))
 
 -- and from the right to the left
-pub backward_shown : (b : Bound) (image : Bitmap) (a d n first : ℕ) → is_crossed b.turn b.layer ≡ false
+pub backward_shown : (b : Bound) (image : Bitmap) (a d n first v : ℕ) → is_crossed b.turn b.layer ≡ false → v ≡ down b.turn b.layer d
     → ((i : ℕ) → i < n → across b.turn b.layer (a + i) ≡ first + (n - 1 - i))
-    → reversed (drawn_row n Rgba8Pre (λ i. pixel image (first + i) (down b.turn b.layer d)))
-    ≡ drawn_row n Rgba8Pre (λ i. source_colour b image (a + i) d)
-backward_shown b image a d n first straight column =
-    reversed_drawn n (λ i. pixel image (first + i) (down b.turn b.layer d))
-    ∙ pieces_same (λ i. stored Rgba8Pre (pixel image (first + (n - 1 - i)) (down b.turn b.layer d)))
+    → reversed (drawn_row n Rgba8Pre (λ i. pixel image (first + i) v)) ≡ drawn_row n Rgba8Pre (λ i. source_colour b image (a + i) d)
+backward_shown b image a d n first v straight row column =
+    reversed_drawn n (λ i. pixel image (first + i) v)
+    ∙ pieces_same (λ i. stored Rgba8Pre (pixel image (first + (n - 1 - i)) v))
     (λ i. stored Rgba8Pre (source_colour b image (a + i) d)) 0 n
-    (λ i start less. ap (stored Rgba8Pre) (straight_colour b image (a + i) d (first + (n - 1 - i)) straight (column i (omega arith))))
+    (λ i start less. ap (stored Rgba8Pre)
+    (straight_colour b image (a + i) d (first + (n - 1 - i)) v straight (column i (omega arith)) row))
 
 -- chosen columns of a row
-pub row_shown : (b : Bound) (image : Bitmap) (a d n w : ℕ) (src places : List ℕ) → is_crossed b.turn b.layer ≡ false → length places ≡ n
-    → src ≡ drawn_row w Rgba8Pre (λ i. pixel image (0 + i) (down b.turn b.layer d))
+pub row_shown : (b : Bound) (image : Bitmap) (a d n w v : ℕ) (src places : List ℕ) → is_crossed b.turn b.layer ≡ false
+    → v ≡ down b.turn b.layer d → length places ≡ n → src ≡ drawn_row w Rgba8Pre (λ i. pixel image (0 + i) v)
     → ((i : ℕ) → i < n → get_or places i 0 ≡ across b.turn b.layer (a + i)) → ((i : ℕ) → i < n → across b.turn b.layer (a + i) < w)
     → gathered_row src places ≡ drawn_row n Rgba8Pre (λ i. source_colour b image (a + i) d)
-row_shown b image a d n w src places straight count src_is places_are low =
-    let row : ℕ → Rgba = λ i. pixel image (0 + i) (down b.turn b.layer d) in
+row_shown b image a d n w v src places straight v_is count src_is places_are low =
+    let row : ℕ → Rgba = λ i. pixel image (0 + i) v in
     let len : length src ≡ 4 * w = ap length src_is ∙ length-pieces (λ i. stored Rgba8Pre (row i)) 4 0 w (λ i. refl) in
     gathered_drawn (λ c. chunk (4 * c) 4 src) places n (λ i. source_colour b image (a + i) d) count
     (λ i less.
@@ -145,7 +152,7 @@ row_shown b image a d n w src places straight count src_is places_are low =
     ∙ cell src (4 * c) (omega arith)
     ∙ ap (stored Rgba8Pre)
     (ap (λ (bytes : List ℕ). read_at Rgba8Pre bytes (4 * c)) src_is ∙ read_drawn w row c in_row
-    ∙ ap (λ (x : ℕ). pixel image x (down b.turn b.layer d)) (zero-add c) ∙ straight_colour b image (a + i) d c straight refl))
+    ∙ ap (λ (x : ℕ). pixel image x v) (zero-add c) ∙ straight_colour b image (a + i) d c v straight refl v_is))
 
 -- chosen rows of a column
 pub column_shown : (b : Bound) (image : Bitmap) (a d n : ℕ) (places : List ℕ) → image.format ≢ A8

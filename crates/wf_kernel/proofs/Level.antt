@@ -211,8 +211,8 @@ level_line b image w k s showable source level is len low =
     let first = level_down b image w s.down showable level in
     let row_is = level_down b image w (s.down + k) showable level in
     let row : down b.turn b.layer s.down + k ≡ down b.turn b.layer (s.down + k) = omega arith in
-    (λ j. drawn_row w Rgba8Pre (λ i. pixel image (sym (zero-add i) j) (row j)))
-    ∙ forward_shown b image s.across (s.down + k) w 0 straight
+    (λ j. drawn_row w Rgba8Pre (λ i. pixel image (sym (zero-add i) j) (down b.turn b.layer s.down + k)))
+    ∙ forward_shown b image s.across (s.down + k) w 0 (down b.turn b.layer s.down + k) straight row
     (λ i less. level_across b image w (s.across + i) showable level ∙ omega arith)
 
 along_next : (x : ℤ) (h y d k : ℕ) → along x h (pos y) ≡ Some d → d + k < h → along x h (pos (y + k)) ≡ Some (d + k)

@@ -4,11 +4,11 @@ use Rattle.wf_pixel.specs.declared.Size.{Size}
 use Rattle.wf_pixel.specs.declared.Format.TheVariants.{Rgba8Pre}
 use Rattle.wf_image.specs.Bitmap.{pixel, drawn_row}
 use Rattle.wf_row.specs.Gather.{gathered_column}
-use Rattle.wf_kernel.specs.Bound.{Bound}
 use Rattle.wf_kernel.specs.Placed.{across, down, is_crossed}
 use Rattle.wf_kernel.specs.Prepared.{prepared_as}
 use Rattle.wf_kernel.proofs.Shown.{has_colours}
-use Rattle.wf_kernel.proofs.Gathered.{place_in, straight_low, crossed_low, row_shown, column_shown}
+use Rattle.wf_kernel.proofs.Gathered.{place_in, straight_low, crossed_low, row_low, row_shown, column_shown}
+use Rattle.wf_kernel.proofs.Placed.{down_is}
 use Rattle.wf_kernel.proofs.lines.fill_gathered.Goals as goal
 
 pub gather_column-requires-clause-within : goal.gather_column-requires-clause-within
@@ -18,8 +18,7 @@ gather_column-requires-clause-within c = λ k d less.
     let image = c.args.image.now in
     let prepared = prepared_as c.layer.view_is c.layer.invariant in
     let crossed : is_crossed b.turn b.layer ≡ true = sym prepared.crossed_is ∙ c.if-layer.true in
-    let column : c.down-other.result ≡ down b.turn b.layer s.down = c.down-other.ensures.value
-    ∙ ap (λ (b : Bound). down b.turn b.layer s.down) c.layer.view_is in
+    let column = down_is s.down c.layer.view_is c.down-other.ensures.value in
     let len = c.requires.len in
     let inside = c.requires.stretch.inside in
     let row : get_or c.args.places.now k d ≡ across b.turn b.layer (s.across + k) = get_or_default c.args.places.now k d 0 less
@@ -38,17 +37,9 @@ gather_column-requires-clause-within c = λ k d less.
 
 pub row_part-requires-clause-y : goal.row_part-requires-clause-y
 row_part-requires-clause-y c =
-    let b = c.args.layer.now in
-    let s = c.args.stretch in
     let prepared = prepared_as c.layer.view_is c.layer.invariant in
-    let straight : is_crossed b.turn b.layer ≡ false = sym prepared.crossed_is ∙ c.if-layer.false in
-    let row : c.down-other.result ≡ down b.turn b.layer s.down = c.down-other.ensures.value
-    ∙ ap (λ (b : Bound). down b.turn b.layer s.down) c.layer.view_is in
-    let some = c.requires.stretch.some in
-    let inside = c.requires.stretch.inside in
-    let low = straight_low b c.args.image.now s.across s.down prepared.showable c.requires.source (omega arith) c.requires.stretch.below
-    straight in
-    omega (arith, low.1)
+    row_low c.args.layer.now c.args.image.now c.args.stretch c.down-other.result prepared.showable c.requires.source c.requires.stretch
+    (sym prepared.crossed_is ∙ c.if-layer.false) (down_is c.args.stretch.down c.layer.view_is c.down-other.ensures.value)
 
 pub gather_row-requires-clause-within : goal.gather_row-requires-clause-within
 gather_row-requires-clause-within c = λ k d less.
@@ -73,8 +64,7 @@ returns-then-layer c =
     let image = c.args.image.now in
     let prepared = prepared_as c.layer.view_is c.layer.invariant in
     let crossed : is_crossed b.turn b.layer ≡ true = sym prepared.crossed_is ∙ c.if-layer.true in
-    let column : c.down-other.result ≡ down b.turn b.layer s.down = c.down-other.ensures.value
-    ∙ ap (λ (b : Bound). down b.turn b.layer s.down) c.layer.view_is in
+    let column = down_is s.down c.layer.view_is c.down-other.ensures.value in
     let some = c.requires.stretch.some in
     let inside = c.requires.stretch.inside in
     let width : c.size-width.result.w ≡ image.size.w = ap (λ (size : Size). size.w) c.size-width.ensures.size in
@@ -95,13 +85,12 @@ returns-else-layer c =
     let image = c.args.image.now in
     let prepared = prepared_as c.layer.view_is c.layer.invariant in
     let straight : is_crossed b.turn b.layer ≡ false = sym prepared.crossed_is ∙ c.if-layer.false in
-    let row : c.down-other.result ≡ down b.turn b.layer s.down = c.down-other.ensures.value
-    ∙ ap (λ (b : Bound). down b.turn b.layer s.down) c.layer.view_is in
+    let row = down_is s.down c.layer.view_is c.down-other.ensures.value in
     let inside = c.requires.stretch.inside in
     let width : c.size-width.result.w ≡ image.size.w = ap (λ (size : Size). size.w) c.size-width.ensures.size in
     let low = λ (i : ℕ) (less : i < s.len). straight_low b image (s.across + i) s.down prepared.showable c.requires.source (omega arith)
     c.requires.stretch.below straight in
     c.gather_row.ensures
-    ∙ row_shown b image s.across s.down s.len image.size.w c.row_part.result.now c.args.places.now straight c.requires.len
-    (c.row_part.ensures.value ∙ (λ i. drawn_row (width i) Rgba8Pre (λ j. pixel image (0 + j) (row i))))
+    ∙ row_shown b image s.across s.down s.len image.size.w c.down-other.result c.row_part.result.now c.args.places.now straight row
+    c.requires.len (c.row_part.ensures.value ∙ (λ i. drawn_row (width i) Rgba8Pre (λ j. pixel image (0 + j) c.down-other.result)))
     (λ i less. c.requires.places i less) (λ i less. (low i less).0)
