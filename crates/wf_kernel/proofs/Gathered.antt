@@ -108,14 +108,24 @@ crossed_low b image a d showable source low high crossed =
     let u : ℕ = down b.turn b.layer d in
     subst (λ (c : Bool). Within image (if c then (u, v) else (v, u))) crossed (place_low b image a d showable source low high)
 
+-- the pixels of a row, or of a column, that a stretch shows lie in the source
+pub in_row : (b : Bound) (image : Bitmap) (s : Stretch) (i : ℕ) → IsShowable b → b.source ≡ Some image → IsStretch b s
+    → is_crossed b.turn b.layer ≡ false → i < s.len
+    → (across b.turn b.layer (s.across + i) < image.size.w) × (down b.turn b.layer s.down < image.size.h)
+in_row b image s i showable source stretch straight low =
+    let inside = stretch.inside in straight_low b image (s.across + i) s.down showable source (omega arith) stretch.below straight
+
+pub in_column : (b : Bound) (image : Bitmap) (s : Stretch) (i : ℕ) → IsShowable b → b.source ≡ Some image → IsStretch b s
+    → is_crossed b.turn b.layer ≡ true → i < s.len
+    → (down b.turn b.layer s.down < image.size.w) × (across b.turn b.layer (s.across + i) < image.size.h)
+in_column b image s i showable source stretch crossed low =
+    let inside = stretch.inside in crossed_low b image (s.across + i) s.down showable source (omega arith) stretch.below crossed
+
 -- a row of the source that is shown as a row lies in the source
 pub row_low : (b : Bound) (image : Bitmap) (s : Stretch) (v : ℕ) → IsShowable b → b.source ≡ Some image → IsStretch b s
     → is_crossed b.turn b.layer ≡ false → v ≡ down b.turn b.layer s.down → v < image.size.h
 row_low b image s v showable source stretch straight row =
-    let some = stretch.some in
-    let inside = stretch.inside in
-    let low = straight_low b image s.across s.down showable source (omega arith) stretch.below straight in
-    omega (arith, low.1)
+    omega (arith, (in_row b image s 0 showable source stretch straight stretch.some).1)
 
 -- a part of such a row from the left to the right
 pub forward_shown : (b : Bound) (image : Bitmap) (a d n first v : ℕ) → is_crossed b.turn b.layer ≡ false → v ≡ down b.turn b.layer d

@@ -9,7 +9,7 @@ use Rattle.wf_image.specs.Bitmap.{Bitmap, pixel}
 use Rattle.wf_kernel.specs.Bound.{Bound, layer_at}
 use Rattle.wf_kernel.specs.Placed.{across, is_crossed}
 use Rattle.wf_kernel.specs.Prepared.{prepared_as}
-use Rattle.wf_kernel.proofs.Gathered.{room_for, crossed_low}
+use Rattle.wf_kernel.proofs.Gathered.{room_for, in_column}
 use Rattle.wf_kernel.proofs.Shown.{has_colours}
 use Rattle.wf_kernel.proofs.Kept.{layer_is, block_kept, places_are}
 use Rattle.wf_kernel.proofs.keeping.keep_block.Goals as goal
@@ -24,7 +24,6 @@ gather_columns-requires-clause-within c = λ k d less.
     let whole = c.in-Some.whole in
     let stretch = c.in-Some.ensures.some.stretch in
     let high = stretch.high in
-    let inside = stretch.inside in
     let source = ap (λ (b : Bound). b.source) same ∙ c.requires.source in
     let crossed = ap (λ (b : Bound). is_crossed b.turn b.layer) same ∙ c.requires.crossed in
     let table = prepared.table_is c.in-Table.is in
@@ -36,7 +35,7 @@ gather_columns-requires-clause-within c = λ k d less.
     let place : get_or places k d ≡ across r.turn r.layer (whole.across + k) =
     get_or_default places k d 0 less
     ∙ places_are r c.layer.inside.table.now whole (whole.x + whole.len - whole.x) table stretch count k low in
-    let inner = crossed_low r image (whole.across + k) whole.down prepared.showable source (omega arith) stretch.below crossed in
+    let inner = in_column r image whole k prepared.showable source stretch crossed low in
     let width : c.size-width.result.w ≡ image.size.w = ap (λ (size : Size). size.w) c.size-width.ensures.size in
     let bytes = ap (λ (l : List ℕ). length l) c.bytes.ensures.value in
     let room = room_for image c.min-first.result (across r.turn r.layer (whole.across + k)) 8 (has_colours r image prepared.showable source)

@@ -1,10 +1,11 @@
-use Rattle.std.proofs.Common.{◌≡◌, ◌+◌, refl, sym, ap, ◌∙◌, arith}
+use Rattle.std.proofs.Common.{◌≡◌, ◌+◌, refl, sym, ◌∙◌, arith}
 use Rattle.std.specs.Prelude.{Some}
 use Rattle.wf_pixel.specs.declared.Format.TheVariants.{Rgba8Pre}
 use Rattle.wf_image.specs.Bitmap.{drawn_row}
 use Rattle.wf_kernel.specs.Bound.{Bound, layer_at}
-use Rattle.wf_kernel.specs.Placed.{down, source_colour}
+use Rattle.wf_kernel.specs.Placed.{source_colour}
 use Rattle.wf_kernel.proofs.Kept.{layer_is, line_kept}
+use Rattle.wf_kernel.proofs.Placed.{down_is}
 use Rattle.wf_kernel.proofs.keeping.keep_line.Goals as goal
 
 pub returns : goal.returns
@@ -15,8 +16,7 @@ returns c =
     let whole = c.in-Some.whole in
     let stretch = c.in-Some.ensures.some.stretch in
     let high = stretch.high in
-    let other : c.down.result ≡ down b.turn b.layer whole.down = c.down.ensures.value
-    ∙ ap (λ (b : Bound). down b.turn b.layer whole.down) (c.layer.view_is ∙ same) in
+    let other = down_is whole.down (c.layer.view_is ∙ same) c.down.ensures.value in
     record {
       width = c.requires.kept.width;
       line_len = omega arith;

@@ -1,6 +1,5 @@
-use Rattle.std.proofs.Common.{◌+◌, sym, ap, ◌∙◌}
+use Rattle.std.proofs.Common.{sym, ap, ◌∙◌}
 use Rattle.wf_kernel.specs.Bound.{Bound}
-use Rattle.wf_kernel.specs.Laid.{laid, placed_texel}
 use Rattle.wf_kernel.specs.Placed.{is_crossed}
 use Rattle.wf_kernel.specs.Prepared.{prepared_as}
 use Rattle.wf_kernel.proofs.Kept.{layer_is}
@@ -14,7 +13,4 @@ lay_columns-requires-clause-crossed c =
 
 pub returns-else-eq-clause-part : goal.returns-else-eq-clause-part
 returns-else-eq-clause-part c =
-    let s = c.args.stretch in
-    let same = layer_is c.args.layers.now c.args.i c.index-layers-i.result c.requires.layer c.index-layers-i.is in
-    c.lay_filled.ensures
-    ∙ ap (λ (b : Bound). laid s.len (λ j. placed_texel b c.args.image.now (s.across + j) s.down) c.args.part.now) same
+    rw (layer_is c.args.layers.now c.args.i c.index-layers-i.result c.requires.layer c.index-layers-i.is) at c.lay_filled.ensures
