@@ -52,12 +52,8 @@ cut_with : (layers : List Bound) (w : ℕ) (s t : Strip) → IsStrip layers w s 
     → IfSome t.base (λ j. (d : Bound) (y : ℕ) → t.from ≤ y → y < t.bottom → IsCover (get_or layers j d) t.first t.width y)
     → IsStrip layers w t
 cut_with layers w s t strip cut top base cover =
-    let first = cut.first in
-    let from = cut.from in
-    let width = cut.width in
-    let bottom = cut.bottom in
-    let within = strip.within in
-    let top_in = strip.top in
+    let first = cut.first in let from = cut.from in let width = cut.width in let bottom = cut.bottom in
+    let within = strip.within in let top_in = strip.top in
     record {
       within = omega arith;
       some = λ y a b. cut.some;

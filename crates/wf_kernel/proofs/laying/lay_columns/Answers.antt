@@ -1,8 +1,5 @@
-use Rattle.std.proofs.Common.{ℕ, ◌+◌, ◌-◌, ◌*◌, refl, sym, ap, subst, ◌∙◌, arith}
-use Rattle.wf_pixel.specs.declared.Format.TheVariants.{Rgba8Pre}
-use Rattle.wf_image.specs.Bitmap.{drawn_row}
-use Rattle.wf_kernel.specs.Bound.{Bound, layer_at}
-use Rattle.wf_kernel.specs.Placed.{source_colour}
+use Rattle.std.proofs.Common.{ℕ, ◌+◌, ◌-◌, ◌*◌, refl, sym, subst, ◌∙◌, arith}
+use Rattle.wf_kernel.specs.Bound.{layer_at}
 use Rattle.wf_kernel.specs.Kept.{AreKept}
 use Rattle.wf_kernel.proofs.Kept.{layer_is, IsPart, block_part, part_end}
 use Rattle.wf_kernel.proofs.Placed.{down_is}
@@ -51,10 +48,9 @@ lay_line-requires-clause-line c =
     let few = kept.block_len in
     let end = part_end tag c.args.i s c.down-other.result part c.requires.stretch.some in
     let at : ℕ = 4 * (tag.len * (c.down-other.result - tag.other) + (s.across - tag.across)) in
-    block_part (layer_at c.args.layers.now c.args.i) image tag c.if-not-has.kept.block c.args.i s c.down-other.result at
+    rw same (block_part (layer_at c.args.layers.now c.args.i) image tag c.if-not-has.kept.block c.args.i s c.down-other.result at
     (at + 4 * s.len - at) (is image c.requires.source) c.requires.crossed part
-    (down_is s.down (c.layer.view_is ∙ same) c.down-other.ensures.value) refl (omega arith) (omega arith)
-    ∙ ap (λ (b : Bound). drawn_row s.len Rgba8Pre (λ i. source_colour b image (s.across + i) s.down)) (sym same)
+    (down_is s.down (c.layer.view_is ∙ same) c.down-other.ensures.value) refl (omega arith) (omega arith))
 
 pub slice_bounds-line-end : goal.slice_bounds-line-end
 slice_bounds-line-end c =
