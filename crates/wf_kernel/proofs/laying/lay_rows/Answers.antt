@@ -1,4 +1,4 @@
-use Rattle.std.proofs.Common.{ℕ, ◌+◌, ◌-◌, ◌*◌, refl, sym, subst, ◌∙◌, arith}
+use Rattle.std.proofs.Common.{ℕ, ◌+◌, ◌-◌, ◌*◌, refl, ◌∙◌, arith}
 use Rattle.wf_kernel.specs.Bound.{layer_at}
 use Rattle.wf_kernel.specs.Kept.{AreKept}
 use Rattle.wf_kernel.proofs.Kept.{layer_is, IsPart, kept_part}
@@ -10,8 +10,8 @@ use Rattle.wf_kernel.proofs.laying.lay_rows.Goals as goal
 kept : (c : Joined-not-has) → AreKept c.args.layers.now c.if-not-has.kept
 kept c =
     elim c.if-not-has.branch [
-      | then-not-has w ↦ subst (AreKept c.args.layers.now) (sym w.kept-is) w.keep_line.ensures
-      | else-not-has w ↦ subst (AreKept c.args.layers.now) (sym w.kept-is) c.requires.kept
+      | then-not-has w ↦ rw w.kept-is w.keep_line.ensures
+      | else-not-has w ↦ rw w.kept-is c.requires.kept
     ]
 
 -- the stretch is among it
