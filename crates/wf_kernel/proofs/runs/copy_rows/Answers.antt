@@ -1,10 +1,6 @@
-use Rattle.std.proofs.Common.{◌≡◌, ℕ, ◌+◌, ◌*◌, ◌≤◌, length, refl, ap, subst, ◌∙◌, arith}
+use Rattle.std.proofs.Common.{ℕ, ◌+◌, ◌≤◌, refl, sym, ap, ◌∙◌, arith}
 use Rattle.std.specs.Option.{option_copied}
-use Rattle.std.specs.Simd.Lanes.{chunk}
-use Rattle.wf_pixel.specs.declared.Format.TheVariants.{Rgba8Pre}
-use Rattle.wf_image.specs.Bitmap.{drawn_row, pixel}
 use Rattle.wf_kernel.specs.Bound.{Bound}
-use Rattle.wf_kernel.specs.Placed.{down}
 use Rattle.wf_kernel.specs.Prepared.{prepared_as}
 use Rattle.wf_kernel.proofs.Level.{level_laid, level_low}
 use Rattle.wf_kernel.proofs.Placed.{down_is}
@@ -40,12 +36,8 @@ returns-clause-done c _ =
     let prepared = prepared_as c.layer.view_is c.layer.invariant in
     let source = source_is c.layer.view_is (ap option_copied c.in-Some.is) in
     let first = down_is s.down c.layer.view_is c.down-first.ensures.value in
-    let len : length c.rows_part.result.now ≡ 4 * (c.args.n * w) = c.rows_part.ensures.len
-    ∙ ap (λ (w : ℕ). 4 * (c.args.n * w)) level.whole in
     c.blend_row.ensures
     ∙ level_laid b image w c.args.n c.args.y s c.rows_part.result.now c.args.part.now prepared.showable source level
-    c.in-Some-stretch_of.ensures.some c.if-stretch-width.false (room (goal.at.returns-clause-done c).After-down-first) len c.requires.count
-    (λ k low. subst (λ (w : ℕ). chunk (k * (4 * w)) (4 * w) c.rows_part.result.now ≡ drawn_row w Rgba8Pre
-    (λ i. pixel image i (down b.turn b.layer s.down + k))) level.whole
-    (c.rows_part.ensures.rows k low
-    ∙ ap (λ (v : ℕ). drawn_row image.size.w Rgba8Pre (λ i. pixel image i (v + k))) first))
+    c.in-Some-stretch_of.ensures.some c.if-stretch-width.false (room (goal.at.returns-clause-done c).After-down-first)
+    (rw (sym level.whole) c.rows_part.ensures.len) c.requires.count
+    (λ k low. rw (sym first) (rw (sym level.whole) (c.rows_part.ensures.rows k low)))
