@@ -25,7 +25,11 @@ mod machines;
 #[cfg(test)]
 mod members;
 #[cfg(test)]
+mod names;
+#[cfg(test)]
 mod objects;
+#[cfg(test)]
+mod places;
 #[cfg(test)]
 mod plays;
 #[cfg(test)]

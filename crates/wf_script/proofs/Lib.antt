@@ -15,7 +15,6 @@ pub mod Additions
 pub mod Tokens
 pub mod Clean
 pub mod Splitting
-pub mod Keys
 pub mod Numerals
 pub mod WordBack
 pub mod PaintBack

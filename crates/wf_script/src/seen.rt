@@ -5,21 +5,20 @@ ghost use Rattle.std.specs.Prelude.{OnOk, map, option_map, option_to_list};
 ghost use Rattle.std.specs.List.{list_all, list_any};
 ghost use Rattle.wf_script.specs.declared.line.Line.{Line};
 ghost use Rattle.wf_script.specs.Given.{names_among};
-ghost use Rattle.wf_script.specs.Seen.{SeesAll, clients_of, is_among, number_of, sees};
+ghost use Rattle.wf_script.specs.Seen.{SeesAll, clients_of, is_among, sees};
 ghost use Rattle.wf_script.specs.Visible.{is_name_in};
 
 use std::alloc::Global;
-use std::collections::BTreeMap;
+use wf_names::NameMap;
 use wf_words::NoMemory;
 
 /// How many clients there are.
 pub(crate) const CLIENTS: usize = 8;
 
-/// For each name, behind its number, the clients that see it, and whether only client 0 has spoken. Two names are told apart by
-/// their numbers, and letters are compared only where a name is found.
+/// For each name the clients that see it, and whether only client 0 has spoken.
 #[derive(Drop)]
 pub(crate) struct Seen<'a> {
-    pub clients: BTreeMap<(u128, &'a [u8]), [bool; 8]>,
+    pub clients: NameMap<'a, [bool; 8]>,
     pub in_setup: bool,
 }
 
@@ -42,26 +41,13 @@ fn is_among(client: u8, clients: Option<[bool; 8]>) -> bool
     }
 }
 
-/// The number that the letters of a name write in base 256, without what does not fit into 128 bits. As a name has 16 letters at
-/// most, and none is 0, no two names have the same number. Only speed rests on that.
-#[tactic(auto, using(std::proofs::lemmas::List::Sums::fold_more), unfolding(crate::specs::Seen::number_of))]
-fn number_of(name: &[u8]) -> u128
-    ensures { result ≡ number_of name.now }
-{
-    let mut number: u128 = 0;
-    for letter in name {
-        number = number.wrapping_shl(8).wrapping_add(u128::from(*letter));
-    }
-    number
-}
-
 impl<'a> Seen<'a> {
     /// No names.
     pub(crate) fn new(alloc: Global) -> Seen<'a>
         ensures { SeesAll result [] }
     {
         Seen {
-            clients: BTreeMap::new(alloc),
+            clients: NameMap::new(alloc),
             in_setup: true,
         }
     }
@@ -71,8 +57,7 @@ impl<'a> Seen<'a> {
         ensures clients { result ≡ clients_of self.now name.now }
         ensures length { IfSome result (λ clients. length clients ≡ CLIENTS) }
     {
-        let key = (number_of(name), name);
-        self.clients.get(&key).copied()
+        self.clients.get(name)
     }
 
     /// Whether a client sees a name.
@@ -132,7 +117,7 @@ impl<'a> Seen<'a> {
             return Ok(false);
         };
         let clients = self.clients_with(client, in_setup, name);
-        let before = self.clients.insert((number_of(name), name), clients)?;
+        let before = self.clients.insert(name, clients)?;
         Ok(is_among(client, before))
     }
 

@@ -1,12 +1,8 @@
 -- Where a name stands first in a list of names, and a map that tells it.
-use Rattle.std.specs.Prelude.{◌≡◌, ℕ, zero, suc, ◌+◌, ◌*◌, ◌%◌, ◌^◌, ◌<◌, List, [], ◌∷◌, length, map, fold, get_or}
+use Rattle.std.specs.Prelude.{◌≡◌, ℕ, zero, suc, ◌<◌, List, [], ◌∷◌, length, map, get_or}
 use Rattle.std.specs.Prelude.{Option, Some, None, if◌then◌else◌}
-use Rattle.std.specs.Borrow.{Bor}
 use Rattle.std.specs.Str.{bytes_eq}
-use Rattle.std.specs.BTreeMap.{get_by}
-use Rattle.std.specs.Cmp.Lexicographic.{slice_cmp}
-use Rattle.std.specs.declared.cmp.Ordering.{Ordering}
-use Rattle.std.specs.Ordering.{nat_cmp, ordering_then}
+use Rattle.wf_names.specs.Keys as names
 use Rattle.wf_script.specs.declared.name.Name.{Name}
 use Rattle.wf_turn.specs.declared.index.Index as declared
 
@@ -22,17 +18,9 @@ place_in name (n ∷ ns) = if bytes_eq n name then Some zero else next_place (pl
 abbrev pub names_of : declared.Index → List Name
 names_of index = map (λ n. n.now) index.names.items
 
--- the number that is written by the last eight letters in base 256
-unfoldable pub number_of : List ℕ → ℕ
-number_of letters = fold (λ n letter. ((n * 2 ^ 8) % 2 ^ 64 + letter) % 2 ^ 64) 0 letters
-
--- how a name stands to a key: by the number first
-abbrev pub name_cmp : Name → ℕ × Bor (List ℕ) → Ordering
-name_cmp name key = ordering_then (nat_cmp (number_of name) key.0) (slice_cmp nat_cmp name key.1.now)
-
 -- where the map tells that a name stands
 abbrev pub told : declared.Index → Name → Option ℕ
-told index name = get_by (name_cmp name) index.places
+told index name = names.told index.places name
 
 -- the map tells the place where each name stands first, and so does the list for each name in it
 pub record IsIndex (index : declared.Index) : Type 0 where

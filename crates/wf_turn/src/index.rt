@@ -4,44 +4,29 @@ ghost use Rattle.std.specs.Prelude.{◌≡◌, ◌++◌, ◌∷◌, ◌<◌, ◌
 ghost use Rattle.std.specs.Option.{option_copied};
 ghost use Rattle.std.specs.Str.{bytes_eq};
 ghost use Rattle.wf_script.specs.declared.name.Name.{Name};
-ghost use Rattle.wf_turn.specs.Index.{IsIndex, names_of, number_of, place_in, told};
+ghost use Rattle.wf_turn.specs.Index.{IsIndex, names_of, place_in, told};
 
 use std::alloc::Global;
-use std::collections::BTreeMap;
+use wf_names::NameMap;
 use wf_script::Name;
 use wf_words::NoMemory;
 
 /// How many of the last names are tried one by one. Most names are looked up soon after they are bound.
 const NEAR: usize = 4;
 
-/// Names in the order in which they are bound, with the place where each stands first. The map has the same places by the names, each
-/// behind its number: most names are told apart by their numbers, and letters are compared only where two numbers are the same.
+/// Names in the order in which they are bound, with the place where each stands first. The map has the same places by the names.
 #[derive(Drop)]
 pub(crate) struct Index<'a> {
     pub names: Vec<&'a Name>,
     pub firsts: Vec<u32>,
-    pub places: BTreeMap<(u64, &'a [u8]), u32>,
+    pub places: NameMap<'a, u32>,
 }
 
-/// The number that the last eight letters of a name write in base 256. Only speed rests on it.
-#[tactic(auto, using(std::proofs::lemmas::List::Sums::fold_more), unfolding(crate::specs::Index::number_of))]
-fn number_of(letters: &[u8]) -> u64
-    ensures { result ≡ number_of letters.now }
+/// The letters of a name.
+fn letters(name: &Name) -> &[u8]
+    ensures { result.now ≡ name.now }
 {
-    let mut number: u64 = 0;
-    for letter in letters {
-        number = number.wrapping_shl(8).wrapping_add(u64::from(*letter));
-    }
-    number
-}
-
-/// The key of a name: its number and its letters.
-fn key_of(name: &Name) -> (u64, &[u8])
-    ensures number { result.0 ≡ number_of name.now }
-    ensures letters { result.1.now ≡ name.now }
-{
-    let letters = name.as_str().as_bytes();
-    (number_of(letters), letters)
+    name.as_str().as_bytes()
 }
 
 impl<'a> Index<'a> {
@@ -53,7 +38,7 @@ impl<'a> Index<'a> {
         Index {
             names: Vec::new(alloc),
             firsts: Vec::new(alloc),
-            places: BTreeMap::new(alloc),
+            places: NameMap::new(alloc),
         }
     }
 
@@ -109,8 +94,7 @@ impl<'a> Index<'a> {
         ensures names { OnOk result (self.new.names ≡ self.old.names) }
         ensures firsts { OnOk result (self.new.firsts ≡ self.old.firsts) }
     {
-        let before = self.places.insert(key_of(name), place)?;
-        Ok(before)
+        self.places.insert(letters(name), place)
     }
 
     /// The place where a name stands first.
@@ -118,7 +102,7 @@ impl<'a> Index<'a> {
         requires { IsIndex self.now }
         ensures { result ≡ place_in name.now (names_of self.now) }
     {
-        self.places.get(&key_of(name)).copied()
+        self.places.get(letters(name))
     }
 
     /// The place where a name stands first, if it is one of the last names before a place.

@@ -1,5 +1,5 @@
--- A map whose keys are names, each behind its number.
-use Rattle.std.proofs.Common.{◌≡◌, ◌∙◌, ℕ, true, List, Bor, Option, cond, refl, sym, ap}
+-- What a map tells once a name's value has changed.
+use Rattle.std.proofs.Common.{◌≡◌, ◌∙◌, ℕ, true, List, Bor, Option, cond, refl, sym, ap, subst}
 use Rattle.std.proofs.lemmas.Cmp.{nat_cmp_total, tied_itself}
 use Rattle.std.proofs.lemmas.Map.Text.{is_eq-slice_cmp}
 use Rattle.std.proofs.lemmas.Slice.Eq.{bytes_eq-Decides}
@@ -9,7 +9,7 @@ use Rattle.std.specs.declared.cmp.Ordering.{Ordering}
 use Rattle.std.specs.declared.cmp.Ordering.TheVariants.{Less, Equal, Greater}
 use Rattle.std.specs.Ordering.{is_eq, nat_cmp, ordering_then}
 use Rattle.std.specs.Str.{bytes_eq}
-use Rattle.wf_script.specs.Seen.{name_cmp, number_of}
+use Rattle.wf_names.specs.Keys.{name_cmp, number_of}
 
 -- the second order decides where it says that both are one only if the first does
 second_decides : (first second : Ordering) → (is_eq second ≡ true → first ≡ Equal) → is_eq (ordering_then first second) ≡ is_eq second
@@ -30,10 +30,12 @@ keys_equal name word =
     ∙ tied_itself nat_cmp_total (number_of name))
     ∙ is_eq-slice_cmp name word
 
--- what the map has behind a change at a name
-pub name_updates : {X : Type 0} (name : List ℕ) (m n : BTreeMap (ℕ × Bor (List ℕ)) X) (w : Option X) →
-    UpdatesBy (λ x y. ordering_then (nat_cmp x.0 y.0) (slice_cmp nat_cmp x.1.now y.1.now)) (name_cmp name) m n w →
+-- what is found behind a change at the key of a name, of a number that is told to be the name's
+pub name_updates : {V : Type 0} (name : List ℕ) (number : ℕ) (m n : BTreeMap (ℕ × Bor (List ℕ)) V) (w : Option V) → number ≡ number_of name →
+    UpdatesBy (λ x y. ordering_then (nat_cmp x.0 y.0) (slice_cmp nat_cmp x.1.now y.1.now))
+    (λ key. ordering_then (nat_cmp number key.0) (slice_cmp nat_cmp name key.1.now)) m n w →
     (word : List ℕ) → get_by (name_cmp word) n ≡ cond (bytes_eq name word) w (get_by (name_cmp word) m)
-name_updates name m n w updates word =
+name_updates name number m n w is updates word =
     updates.0 (number_of word, record { ref_ptr = (0, 0); now = word })
-    ∙ ap (λ hit. cond hit w (get_by (name_cmp word) m)) (keys_equal name word)
+    ∙ ap (λ hit. cond hit w (get_by (name_cmp word) m))
+    (ap (λ k. is_eq (ordering_then (nat_cmp k (number_of word)) (slice_cmp nat_cmp name word))) is ∙ keys_equal name word)

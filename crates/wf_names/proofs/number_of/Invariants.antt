@@ -1,6 +1,6 @@
 use Rattle.std.proofs.Common.{◌≡◌, take}
-use Rattle.wf_script.specs.Seen.{number_of}
-use Rattle.wf_script.proofs.seen.number_of.Given as goal
+use Rattle.wf_names.specs.Keys.{number_of}
+use Rattle.wf_names.proofs.number_of.Given as goal
 
 -- the number of the letters that were passed
 abbrev pub invariant-loop-letter : goal.invariant-loop-letter

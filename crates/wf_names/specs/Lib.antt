@@ -1,0 +1,2 @@
+-- Maps by names.
+pub mod Keys
