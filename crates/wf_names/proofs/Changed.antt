@@ -1,5 +1,5 @@
 -- What a map tells once a name's value has changed.
-use Rattle.std.proofs.Common.{◌≡◌, ◌∙◌, ℕ, true, List, Bor, Option, cond, refl, sym, ap, subst}
+use Rattle.std.proofs.Common.{◌≡◌, ◌∙◌, ℕ, true, List, Bor, Option, cond, refl, sym, ap}
 use Rattle.std.proofs.lemmas.Cmp.{nat_cmp_total, tied_itself}
 use Rattle.std.proofs.lemmas.Map.Text.{is_eq-slice_cmp}
 use Rattle.std.proofs.lemmas.Slice.Eq.{bytes_eq-Decides}
