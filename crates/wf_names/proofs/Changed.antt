@@ -31,7 +31,8 @@ keys_equal name word =
     ∙ is_eq-slice_cmp name word
 
 -- what is found behind a change at the key of a name, of a number that is told to be the name's
-pub name_updates : {V : Type 0} (name : List ℕ) (number : ℕ) (m n : BTreeMap (ℕ × Bor (List ℕ)) V) (w : Option V) → number ≡ number_of name →
+pub name_updates : {V : Type 0} (name : List ℕ) (number : ℕ) (m n : BTreeMap (ℕ × Bor (List ℕ)) V) (w : Option V) →
+    number ≡ number_of name →
     UpdatesBy (λ x y. ordering_then (nat_cmp x.0 y.0) (slice_cmp nat_cmp x.1.now y.1.now))
     (λ key. ordering_then (nat_cmp number key.0) (slice_cmp nat_cmp name key.1.now)) m n w →
     (word : List ℕ) → get_by (name_cmp word) n ≡ cond (bytes_eq name word) w (get_by (name_cmp word) m)
