@@ -1,8 +1,7 @@
 //! Writes the picture of a scene by bands of rows, each in a thread of its own where one can be made.
 
-ghost use Rattle.std.specs.Prelude.{◌≡◌, ◌*◌, ◌≤◌, length, IsTrue};
+ghost use Rattle.std.specs.Prelude.{◌≡◌, ◌*◌, ◌≤◌, length};
 ghost use Rattle.std.specs.Thread.{IsSync};
-ghost use Rattle.wf_pixel.specs.Choice.{has_sides};
 ghost use Rattle.wf_image.specs.Bitmap.{pixel_bytes};
 ghost use Rattle.wf_model.specs.Picture.{picture, Fits};
 ghost use Rattle.wf_kernel.specs.Bands.{IsBand};
@@ -11,16 +10,15 @@ ghost use Rattle.wf_kernel.specs.Prepared.{AreTables, table_count};
 
 use crate::bound::{BoundLayer, bind_layers, no_layers};
 use crate::painting::paint;
-use crate::splitting::{Band, split_band};
+use crate::splitting::{Band, cost_above, split_band};
 use crate::tables::{count_tables, fill_tables};
 use std::thread::{Threads, join_mut};
 use wf_image::{Contents, Image};
-use wf_pixel::{Rgba, Size};
+use wf_pixel::Rgba;
 use wf_scene::Scene;
 
-/// How many pixels a band has at least, where there are several: to make a thread costs as much as to paint some ten
-/// thousands of pixels.
-const FEWEST: u32 = 65536;
+/// What a worker's rows cost at least, in pixels that are copied, where there are several workers: four times what it costs to start one.
+const LEAST: u32 = 262144;
 
 /// Writes the same as `picture`, by bands of rows in at most so many threads, from 1 to 16, and a small picture in fewer. It takes no
 /// memory and refuses nothing: where no thread can be made, the calling thread paints the band.
@@ -133,32 +131,26 @@ fn rows_of_layers<R: Threads + Sync, const N: usize>(
     requires tables { AreTables scene.now tables.now }
     ensures { bytes.new ≡ bound_picture scene.now contents.now }
 {
-    let mut layers = no_layers::<N>();
-    bind_layers(&mut layers, scene, contents, tables);
+    let mut list = no_layers::<N>();
+    bind_layers(&mut list, scene, contents, tables);
+    let layers = list.as_slice();
+    let cost = cost_above(scene.size.w, layers, scene.size.h);
     let whole = Band {
         first: 0,
         rows: scene.size.h,
-        workers: workers_for(workers, scene.size),
+        workers: workers_for(workers, cost),
     };
-    paint_band(
-        rt,
-        whole,
-        scene.size.w,
-        layers.as_slice(),
-        scene.background,
-        bytes,
-    );
+    paint_band(rt, whole, scene.size.w, layers, scene.background, bytes);
 }
 
-/// How many of at most so many workers a picture of this size is worth.
-fn workers_for(most: u32, size: Size) -> u32
+/// How many of at most so many workers a picture is worth that costs so much.
+fn workers_for(most: u32, cost: u32) -> u32
     requires some { 1 ≤ most }
     requires few { most ≤ 16 }
-    requires sides { IsTrue (has_sides size) }
     ensures some { 1 ≤ result }
     ensures few { result ≤ 16 }
 {
-    most.min(size.w * size.h / FEWEST).max(1)
+    most.min(cost / LEAST).max(1)
 }
 
 /// Writes the rows of a band: alone, or in two shares beside each other, the first of one worker.

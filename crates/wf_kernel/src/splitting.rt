@@ -4,6 +4,10 @@ ghost use Rattle.std.specs.Prelude.{◌≡◌, ◌+◌, ◌-◌, ◌<◌, ◌≤
 ghost use Rattle.wf_kernel.specs.Bands.{IsBand, AreShares};
 
 use crate::bound::BoundLayer;
+use crate::placing::Walk;
+
+/// What it costs to start a thread, in pixels that are copied: some 20 microseconds.
+const START: u64 = 65536;
 
 /// Some rows of a target, and how many workers paint them.
 #[derive(Clone, Copy, Debug, PartialEq, Eq)]
@@ -41,15 +45,17 @@ pub(crate) fn split_band(band: Band, width: u32, layers: &[BoundLayer]) -> (Band
     )
 }
 
-/// What the rows above a band and those of one of its workers cost together.
+/// What the rows above a band and those of one of its workers cost together. Each worker starts a little behind the one before it, so
+/// an earlier one has more to paint.
 fn cost_goal(band: Band, width: u32, layers: &[BoundLayer]) -> u64
     requires few { width ≤ 1024 }
     requires band { IsBand band }
 {
     let above = u64::from(cost_above(width, layers, band.first));
     let all = u64::from(cost_above(width, layers, band.first + band.rows));
-    let others = band.workers - 1;
-    (above * u64::from(others) + all) / u64::from(band.workers)
+    let others = u64::from(band.workers - 1);
+    let ahead = START * others.saturating_sub(1) / 2;
+    (above * others + all) / u64::from(band.workers) + ahead
 }
 
 /// How many rows of a band it takes to come to this cost, but at least one, and not all.
@@ -73,15 +79,29 @@ fn rows_to(band: Band, width: u32, layers: &[BoundLayer], goal: u64) -> u32
     low
 }
 
-/// What the rows above row `y` cost: how many pixels the background and the layers have there.
-fn cost_above(width: u32, layers: &[BoundLayer], y: u32) -> u32
+/// What the rows above row `y` cost, in pixels that are copied. Each pixel is written once, with the background or with what hides it,
+/// and then each layer that hides nothing is laid over it.
+pub(crate) fn cost_above(width: u32, layers: &[BoundLayer], y: u32) -> u32
     requires few { width ≤ 1024 }
     requires y { y ≤ 1024 }
 {
     let mut cost = width * y;
     for layer in layers {
         let pixels = layer.columns.before(width) * layer.rows.before(y);
-        cost = cost.saturating_add(pixels);
+        cost = cost.saturating_add(pixels * pixel_cost(layer));
     }
     cost
+}
+
+/// What a pixel of a layer costs beside one that is copied.
+fn pixel_cost(layer: &BoundLayer) -> u32
+    ensures { result ≤ 3 }
+{
+    if !layer.hides {
+        3
+    } else if layer.walk != Walk::Forward {
+        1
+    } else {
+        0
+    }
 }

@@ -55,7 +55,7 @@ pub(crate) fn print_times(rt: &(impl Print + Clock + AllocGlobal)) -> io::Result
 pub(crate) fn print_rows<R: Print + Clock + Threads + Sync + AllocGlobal>(
     rt: &R,
 ) -> io::Result<()> {
-    for (w, h) in [(64, 48), (320, 240), (1024, 1024)] {
+    for (w, h) in [(64, 48), (320, 240), (640, 480), (1024, 1024)] {
         for kind in [Kind::Opaque, Kind::Straight, Kind::Translucent] {
             let size = Size { w, h };
             let one = rows_time(rt, kind, size, 1)?.as_secs_f64();

@@ -26,7 +26,7 @@ use wf_pixel::{Format, Size};
 use wf_scene::Scene;
 
 /// How many scenes are painted.
-const SCENES: u32 = 6000;
+const SCENES: u32 = 7000;
 
 /// What came of all scenes.
 #[derive(Default, Drop)]
@@ -56,7 +56,7 @@ fn main(rt: HostRuntime) -> io::Result<ExitCode> {
     let kinds = kinds::count(&seen);
     println!(rt; "{SCENES} scenes of {layers} layers of {kinds} kinds, {unfit} without a picture")?;
     println!(rt; "{pixels} pixels, {wrong} differ")?;
-    println!(rt; "{by_rows} of the scenes in several threads, {wrong_by_rows} pixels differ")?;
+    println!(rt; "{by_rows} of the scenes by up to 16 workers, {wrong_by_rows} pixels differ")?;
     Ok(if unfit == 0 && wrong == 0 && wrong_by_rows == 0 {
         ExitCode::SUCCESS
     } else {
@@ -69,14 +69,15 @@ fn paint_all<R: Threads + Sync + AllocGlobal>(
     seen: &mut [bool; KINDS],
 ) -> io::Result<Found> {
     let mut dice = Dice::new();
+    let mut other = Dice::new();
     let mut found = Found::default();
     for number in 0..SCENES {
         let (scene, contents) = scenes::scene_of(rt.alloc(), &mut dice, most(number))?;
         kinds::mark(seen, &scene, &contents);
         if fits(&scene, &contents) {
             compare(rt.alloc(), &mut dice, &scene, &contents, &mut found)?;
-            if number % 7 == 0 {
-                compare_rows(rt, &mut dice, &scene, &contents, &mut found)?;
+            if number % 7 == 0 || most(number) > 40 {
+                compare_rows(rt, &mut other, &scene, &contents, &mut found)?;
             }
         } else {
             found.unfit = found.unfit.wrapping_add(1);
@@ -90,7 +91,7 @@ fn most(number: u32) -> u32
     ensures low { 1 ≤ result }
     ensures high { result ≤ 1024 }
 {
-    if number % 1000 == 999 {
+    if number % 250 == 249 {
         1024
     } else if number % 50 == 49 {
         200
@@ -123,7 +124,7 @@ fn compare(
     Ok(())
 }
 
-/// The same in up to 16 threads.
+/// The same by up to 16 workers. Only pictures that cost much have several.
 fn compare_rows<R: Threads + Sync + AllocGlobal>(
     rt: &R,
     dice: &mut Dice,
