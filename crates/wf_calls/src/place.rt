@@ -44,7 +44,7 @@ fn empty_job(image: Image) -> Job {
 }
 
 impl JobPlace {
-    /// A place without a Job. No other call of it takes memory.
+    /// A place without a Job. No other call of it can lack memory.
     pub fn new(alloc: Global) -> Result<JobPlace, NoMemory>
         ensures { IfOk result (λ place. job_in place ≡ None) }
     {

@@ -86,9 +86,9 @@ pub(crate) fn try_commit(
 }
 
 impl Core {
-    /// Makes the cached scene of a context the committed one, as a whole, or changes nothing. Inconsistency has the value
-    /// place * 16 + rule: the place of the first bad element, from 1 at the bottom, and the first rule that it breaks. It
-    /// takes no memory.
+    /// Makes the cached scene of a context the committed one, as a whole, or refuses, which only the device's register takes.
+    /// Inconsistency has the value place * 16 + rule: the place of the first bad element, from 1 at the bottom, and the first
+    /// rule that it breaks. It cannot lack memory.
     pub fn commit(&mut self, store: &mut Store, device: u32, context: u32) -> Reply
         requires fits { Fits self.old store.old }
         requires names { NamesFit (core_names self.old) store.old }

@@ -18,8 +18,8 @@ use std::snapshot::Snapshot;
 use std::sync::Wait;
 
 /// One object that many threads call. Each call is one event of one history, in which the replies are those that a
-/// single thread gets. A caller waits in line while others have the object; a call itself takes no memory beside
-/// the object's own.
+/// single thread gets. A caller waits in line while others have the object; a call itself cannot lack memory,
+/// beside the object's own.
 ///
 /// Between two callers that never told each other anything, no order in time is claimed: each sees one history that
 /// begins with what it had seen.
@@ -45,7 +45,7 @@ impl<O: Object> Model for Desk<O> {
 
 impl<O: Object> Desk<O> {
     /// A desk for the object, with one pass for each quota, the i-th for the client i. It takes the memory of the whole
-    /// journal. With want of memory the object is dropped.
+    /// journal. Where memory runs out, the object is dropped.
     pub fn open(
         alloc: Global,
         object: O,

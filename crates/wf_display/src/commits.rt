@@ -194,7 +194,7 @@ impl Display {
     }
 
     /// Commits every port and every pipeline, as a whole or not at all. Inconsistency has the value pipeline * 16 + rule: the
-    /// first pipeline that breaks a rule, and the first rule that it breaks. It takes no memory.
+    /// first pipeline that breaks a rule, and the first rule that it breaks. It cannot lack memory.
     pub fn commit_device(&mut self, store: &mut Store) -> Reply
         requires fits { Fits self.old store.old }
         requires names { NamesFit (display_names self.old) store.old }

@@ -16,7 +16,7 @@ use wf_image::Image;
 use wf_io::{Sink, WriteStop, write_all};
 
 /// Writes one film of one form into one sink. Every `written` counts from the film's start: where a call stops, just
-/// the first `written` bytes of the parts, in their order, were put. No call takes memory.
+/// the first `written` bytes of the parts, in their order, were put. No call can lack memory.
 #[derive(Drop)]
 pub struct Writer {
     form: FilmForm,

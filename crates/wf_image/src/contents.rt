@@ -7,7 +7,7 @@ use crate::image::Image;
 use arrayvec::ArrayVec;
 use std::marker::Model;
 
-/// At most 64 images, each with the number of its stream; no number stands twice. None of the calls takes memory.
+/// At most 64 images, each with the number of its stream. `put` asks for a number that has no image yet. No call can lack memory.
 #[derive(Drop)]
 pub struct Contents {
     // No pair is None: it is an Option because what stands in an ArrayVec has a Default.

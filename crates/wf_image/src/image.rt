@@ -1,4 +1,4 @@
-//! The image.
+//! An image: its size, its format and its bytes.
 
 ghost use Rattle.std.specs.Prelude.{◌≡◌, length, IfOk, IsTrue};
 ghost use Rattle.std.specs.Borrow.{sem};

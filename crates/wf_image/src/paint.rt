@@ -1,4 +1,4 @@
-//! What is painted.
+//! The five paints.
 
 ghost use Rattle.std.specs.Prelude.{◌≡◌};
 

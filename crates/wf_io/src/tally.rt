@@ -12,7 +12,7 @@ use crate::source::Failed;
 use std::marker::Model;
 
 /// Takes each piece whole, never fails, and keeps two numbers alone: how many bytes were put, modulo 2^64, and their sum,
-/// modulo 2^32. It takes no memory.
+/// modulo 2^32.
 #[derive(Drop)]
 pub struct Tally {
     bytes: u64,

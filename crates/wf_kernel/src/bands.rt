@@ -20,7 +20,7 @@ use wf_scene::Scene;
 /// What a worker's rows cost at least, in pixels that are copied, where there are several workers: four times what it costs to start one.
 const LEAST: u32 = 262144;
 
-/// Writes the same as `picture`, by bands of rows in at most so many threads, from 1 to 16, and a small picture in fewer. It takes no
+/// Writes the same as `picture`, by bands of rows in at most `workers` threads, from 1 to 16, and a small picture in fewer. It cannot lack
 /// memory and refuses nothing: where no thread can be made, the calling thread paints the band.
 pub fn picture_rows<R: Threads + Sync>(
     rt: &R,
@@ -143,7 +143,7 @@ fn rows_of_layers<R: Threads + Sync, const N: usize>(
     paint_band(rt, whole, scene.size.w, layers, scene.background, bytes);
 }
 
-/// How many of at most so many workers a picture is worth that costs so much.
+/// Returns the number of workers, at most `most`, that a picture of this `cost` is worth.
 fn workers_for(most: u32, cost: u32) -> u32
     requires some { 1 ≤ most }
     requires few { most ≤ 16 }

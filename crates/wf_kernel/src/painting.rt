@@ -19,7 +19,7 @@ use wf_image::{Contents, Image};
 use wf_pixel::{Format, Rgba};
 use wf_scene::Scene;
 
-/// Writes the picture of a scene with these images by stream. It takes no memory and refuses nothing. The target has
+/// Writes the picture of a scene with these images by stream. It cannot lack memory and refuses nothing. The target has
 /// the scene's size and 4 bytes a pixel; scene and images fit: the scene's sides are from 1 to 1024, the rectangles of
 /// each layer are in their ranges, an image of its stream is no mask and holds its source rectangle, and an image of
 /// its mask, where that applies, is a mask of its destination's size.

@@ -25,7 +25,7 @@ pub(crate) fn count_tables(scene: &Scene) -> usize
     count
 }
 
-/// The place of a table behind that of a layer, where the layer needs one.
+/// Returns the place of the next free table: one further than `place` where `layer` needs one.
 pub(crate) fn next_place(place: usize, turn: Rotation, layer: &Layer) -> usize
     requires few { place < 32 }
     ensures needed { needs_table turn layer.now ≡ true → result ≡ place + 1 }

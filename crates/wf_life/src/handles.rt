@@ -54,7 +54,7 @@ impl Model for Handles {
 }
 
 impl Handles {
-    /// No handle was given yet. It takes no memory.
+    /// No handle was given yet. It cannot lack memory.
     pub fn new(alloc: Global) -> Handles
         ensures { result ≡ record { made = 0; live = [] } }
     {

@@ -39,7 +39,7 @@ impl<T> Model for Pool<T> {
 impl<T> Pool<T> {
     ghost use Rattle.wf_life.specs.Lending.{lends_value};
 
-    /// An empty pool. It takes no memory.
+    /// An empty pool. It cannot lack memory.
     pub fn new(alloc: Global) -> Pool<T>
         ensures { result ≡ [] }
     {

@@ -26,7 +26,7 @@ impl Node {
 }
 
 /// Several ordered lists over one set of nodes, of which each is in one list at most. Nodes and lists are numbered from 0.
-/// No call but `new` takes memory, and none goes along a list.
+/// No call but `new` can lack memory, and none goes along a list.
 #[derive(Drop)]
 pub struct Links {
     nodes: Vec<Node>,

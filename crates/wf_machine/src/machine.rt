@@ -209,7 +209,7 @@ impl Machine {
     }
 
     /// Answers a client's call as `run` does, but that memory is refused to it: a creation that no other refusal meets answers
-    /// OutOfMemory, and makes nothing. So an event is played again that was refused for want of memory.
+    /// OutOfMemory, and makes nothing. So an event is played again that was refused where memory ran out.
     pub fn deny(&mut self, client: u8, call: Call) -> Reply
         ensures after { self.new ≡ denied self.old client call }
         ensures may { MayDeny self.old client call result }

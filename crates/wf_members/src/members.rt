@@ -13,7 +13,7 @@ use wf_links::Links;
 use wf_words::NoMemory;
 
 /// The members of each open owner, where a member has one owner at most. Owners and members are told by their handles, which
-/// are never 0. No call but `new` takes memory, and none refuses.
+/// are never 0. No call but `new` can lack memory, and none refuses.
 ///
 /// Each owner has a place, and each member a node. The links have a list of nodes for each place, and at last the list of the
 /// free nodes.
@@ -56,7 +56,7 @@ impl Members {
         owner != 0 && place_of(&self.owners, owner).is_some()
     }
 
-    /// Whether a handle is that of somebody's member.
+    /// Tells whether some open owner has this member.
     pub fn is_member(&self, member: u32) -> bool
         ensures somebodys { IsTrue result → (o : ℕ) × IsTrue (is_in member (members_of o self.now)) }
         ensures nobodys { IsFalse result → (o : ℕ) → IsFalse (is_in member (members_of o self.now)) }

@@ -1,4 +1,4 @@
--- How far a point lies behind the start of a side.
+-- How far a point lies from the start of a side.
 use Rattle.std.specs.Prelude.{ℕ, ◌&&◌, ℤ, ◌-ℤ◌, nat_abs, int_le, nat_lt, Option, Some, None, if◌then◌else◌}
 
 -- the distance of a point from the start of a side, or none outside the side

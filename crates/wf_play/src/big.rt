@@ -16,7 +16,7 @@ use wf_io::{Sink, Tally, write_all};
 use wf_script::make;
 use wf_turn::{PlayStop, serial};
 
-/// The line of so many rounds and events, whose film was counted.
+/// Returns the line that `wfplay big` prints: rounds, events, and the film's size and sum.
 fn line_of(size: u16, events: u64, tally: &Tally) -> Text
     requires most { size ≤ 1000 }
     ensures { result.items ≡ line_of_count size events tally.now }

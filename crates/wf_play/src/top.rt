@@ -236,9 +236,9 @@ fn play_words<R: Threads + Wait + Sync, I: Source, O: Sink, N: Sink, G: Gate>(
 /// client plays on a thread of its own, and then `--rows N`, N from 1 to 16 and by default 1, in how many bands a frame is painted at
 /// most; for its form `--film N`, N 1 or 2 and by default 2; and for `big`, which reads nothing, plays the script that `make` of
 /// `wf_script` makes and writes one line on its film, `--size N`, N from 1 to 1000 and by default 1. `check` reads a script and the film
-/// behind it, writes nothing, and answers whether that is the film of the script and of its own journal. Each status but `Done` puts its
-/// line into `notes`, and a check `same` with `Done`; a fault there changes nothing else. All memory but that of the script's own
-/// creations is taken before the first byte is put. With `--threads` it may wait, and the gate is called round each event of the
+/// after it, writes nothing, and answers whether that is the film of the script and of its own journal. Each status but `Done` puts its
+/// line into `notes`, and a check `same` with `Done`; a fault there changes nothing else. `NoMemory` comes only where nothing was
+/// put; later only a creation of the script may lack memory. With `--threads` it may wait, and the gate is called round each event of the
 /// clients 1 to 7.
 pub fn play<R: Threads + Wait + Sync, I: Source, O: Sink, N: Sink, G: Gate>(
     rt: &R,

@@ -11,7 +11,7 @@ use crate::masking::mask_pixels;
 
 /// Lays a row of pixels over another one of the same width, of which it takes the place. The source's pixels are
 /// multiplied by their own alpha as its mode says, and then by `fade`, where it is given, as parts of 255. A pixel has
-/// four bytes: red, green, blue and alpha. It takes no memory and refuses nothing.
+/// four bytes: red, green, blue and alpha. It cannot lack memory and refuses nothing.
 pub fn blend_row(row: &mut [u8], src: &[u8], mode: AlphaMode, fade: Option<u8>)
     requires whole { length src.now % 4 ≡ 0 }
     requires same { length row.old ≡ length src.now }

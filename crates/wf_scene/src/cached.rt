@@ -20,7 +20,7 @@ use wf_pixel::{Rgba, Rotation, Size};
 use wf_words::NoMemory;
 
 /// A context's cached scene: its target's size and whether that is a screen, its turn and its background, its live
-/// elements with their attributes, and which of them are inserted, from the bottom up. No call but `new` takes memory.
+/// elements with their attributes, and which of them are inserted, from the bottom up. No call but `new` can lack memory.
 #[derive(Drop)]
 pub struct Cached {
     size: Size,

@@ -59,7 +59,7 @@ pub struct Scene {
 }
 
 impl Scene {
-    /// The same scene once more. It takes no memory.
+    /// The same scene once more. It cannot lack memory.
     pub fn copy(&self) -> Scene
         ensures { result ≡ self.now }
     {

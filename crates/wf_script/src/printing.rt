@@ -21,7 +21,7 @@ use wf_io::{Sink, WriteStop};
 use wf_pixel::Size;
 
 /// Prints the canonical text of a script into a sink: words apart by one space, numbers without leading zeros, no comments and no
-/// blank lines. It takes no memory. Where the sink fails, just the text's first `written` bytes were put.
+/// blank lines. It cannot lack memory. Where the sink fails, just the text's first `written` bytes were put.
 pub fn print<K: Sink>(script: &Script, k: &mut K) -> Result<(), WriteStop>
     ensures all { OnOk result (Puts K.took k.old k.new (canonical script.now)) }
     ensures part { IfErr result (λ stop. PutsPart K.took k.old k.new 0 (canonical script.now) stop.written) }

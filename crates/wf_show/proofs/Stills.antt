@@ -26,7 +26,7 @@ use Rattle.wf_turn.specs.declared.stage.Stage.TheVariants as stage
 use Rattle.wf_turn.proofs.Begins.{nothing_shown}
 use Rattle.wf_turn.proofs.Painting.{canvas_painted, done_painted, frame_painted, on_painted}
 use Rattle.wf_show.proofs.Rests.{Rows, gone_keep, skipped_keep}
-use Rattle.wf_turn.proofs.Works.{worked_if, worked_painted}
+use Rattle.wf_turn.proofs.Keeping.{worked_if, worked_painted}
 
 abbrev pub no_ticks : Rows → Bool
 no_ticks ls = list_all (λ l. not (is_tick l.1.verb)) ls

@@ -37,7 +37,7 @@ pub(crate) fn ask<R: Wait>(
 
 /// Plays the program of a client from 1 to 7 to its end. Each call that it wants goes through the desk, between the gate's two,
 /// and a Job that comes is painted outside of the desk. The pass has made no call, and has as many left as the program. It may
-/// wait, refuses nothing, and takes no memory beside the machine's.
+/// wait, refuses nothing, and only the machine's creations can lack memory.
 pub fn run_client<R: Wait, G: Gate>(
     rt: &R,
     desk: &Desk<Machine>,

@@ -54,7 +54,7 @@ impl Model for Store {
 }
 
 impl Store {
-    /// No objects and no streams. It takes no memory.
+    /// No objects and no streams. It cannot lack memory.
     pub fn new(alloc: Global) -> Store
         ensures { result ≡ empty }
     {

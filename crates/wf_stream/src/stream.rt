@@ -32,8 +32,7 @@ enum Read {
 }
 
 /// A size, a format, and 2 to 4 buffers of them. At most one is out for writing, at most one is finished, at most one
-/// is read, and the others are free. All are taken when the stream is made: no later call takes memory or copies an
-/// image.
+/// is read, and the others are free. All are taken when the stream is made, so no later call can lack memory.
 #[derive(Drop)]
 pub struct Stream {
     size: Size,

@@ -43,7 +43,7 @@ impl Model for Streams {
 }
 
 impl Streams {
-    /// No streams. It takes no memory.
+    /// No streams. It cannot lack memory.
     pub(crate) fn new(alloc: Global) -> Streams
         ensures { result ≡ record { streams = []; counts = [] } }
     {

@@ -3,19 +3,20 @@ use Rattle.wf_turn.proofs.Common.{◌≡◌, ◌∙◌, Bool, true, false, cond,
 use Rattle.wf_turn.proofs.Common.{Answers, Call, IsStep, Job, Line, Name, Program, Reply, Stage, State, Turn, Verb, Wanted, bare, entry}
 use Rattle.wf_turn.proofs.Common.{first_call, first_line, handle, is_begin, next, plain, plain_call, replied, took, took_at, took_first}
 use Rattle.wf_turn.proofs.Common.{ℕ, ◌&&◌, IsAt, IsFit, IsSome, is_running, issued, subst, wanted_at, with_job}
+use Rattle.wf_turn.proofs.Common.{is_marked, is_out_of_memory, step, wanted_now}
 use Rattle.std.specs.Prelude.{◌≢◌}
 use Rattle.wf_calls.specs.Parts.{carries, part_of}
+use Rattle.wf_machine.specs.Object.{MayAnswer, after}
 use Rattle.wf_calls.specs.declared.call.Call.TheVariants as call
 use Rattle.wf_calls.specs.declared.reply.Answer.{Answer}
 use Rattle.wf_calls.specs.declared.reply.Payload.TheVariants as payload
 use Rattle.wf_script.specs.declared.line.Verb.TheVariants as verb
 use Rattle.wf_turn.specs.Asked.{asked, begins_frame, given, handed, is_ending, is_stuck, takes_job}
-use Rattle.wf_turn.specs.Replayed.{wanted_now}
 use Rattle.wf_turn.specs.declared.stage.Asks.{Asks}
 use Rattle.wf_turn.specs.declared.stage.Asks.TheVariants as asks
 use Rattle.wf_turn.specs.declared.stage.Stage.TheVariants as stage
 use Rattle.wf_turn.proofs.Answering.{took_issued}
-use Rattle.wf_turn.proofs.Retaken.{through_now, waits_is, waits_now}
+use Rattle.wf_turn.proofs.Turnings.{marked_is, through_now, waits_is, waits_now}
 
 -- a line that is one call carries nothing
 plain_carries : (handle : Option Name → ℕ) (v : Verb) → IfSome (plain_call handle v) (λ c. carries (part_of c) ≡ false)
@@ -195,15 +196,17 @@ module _ (p : Program) (a : Answer) where
       of_line (Some l) line = rw line (other_stage l p.stage job refl line is)
 
 -- a step of the machine whose answer is taken
-pub step_answers : (client : ℕ) (h left : State) (c : Call) (p now : Program) (t : Turn) (reply : Reply) → IsStep h client c left reply
-    → now ≡ took p reply → t ≡ entry client reply → Answers client h left c p now t
-step_answers client h left c p now t reply done now_is entry_is =
-    record { reply = reply; left_is = done.after_is; may = done.answer; now_is = now_is; entry_is = entry_is }
+pub step_answers : (client : ℕ) (h left : State) (c : Call) (p now : Program) (t : Turn) (reply : Reply) → left ≡ after h client c reply
+    → MayAnswer h client c reply → now ≡ took p reply → t ≡ entry client reply → Answers (is_marked t) client h left c p now t
+unfolding step
+step_answers client h left c p now t reply left_is may now_is entry_is =
+    let marks : is_out_of_memory reply.code ≡ is_marked t = sym (ap is_marked entry_is ∙ marked_is reply.code) in
+    record { reply = reply; left_is = rw marks at left_is; may = rw marks at may; now_is = now_is; entry_is = entry_is }
 
 -- so it is of the program that asked
-pub handed_answers : (client : ℕ) (h left : State) (c : Call) (p now : Program) (a : Asks) (t : Turn)
-    → Answers client h left c (handed p a) now t → Answers client h left c p now t
-handed_answers client h left c p now a t answers =
+pub handed_answers : (m : Bool) (client : ℕ) (h left : State) (c : Call) (p now : Program) (a : Asks) (t : Turn)
+    → Answers m client h left c (handed p a) now t → Answers m client h left c p now t
+handed_answers m client h left c p now a t answers =
     record {
       reply = answers.reply;
       left_is = answers.left_is;
@@ -214,11 +217,6 @@ handed_answers client h left c p now a t answers =
 
 -- what a program asked for
 module _ (p q : Program) (a : Asks) (w : Wanted) (is : asked p.job w a ≡ next p) (same : q ≡ handed p a) where
-  -- is something where it is not through
-  pub some_asked : IsSome (next p) → a ≢ asks.Nothing
-  some_asked some none = absurd (let no : IsSome (asked p.job w a) = rw is some in let nothing : IsSome (asked p.job w asks.Nothing) =
-      subst (λ x. IsSome (asked p.job w x)) none no in cc)
-
   -- begins a frame, if its call does, whose Job it takes
   pub begins_asked : a ≡ asks.Call → is_begin w.call ≡ true → takes_job q ≡ true
   begins_asked called begins =
@@ -248,12 +246,12 @@ module _ (p q : Program) (a : Asks) (w : Wanted) (is : asked p.job w a ≡ next 
   pub wanted_is : asked q.job w a ≡ next p
   wanted_is = asked_after ∙ is
 
-  pub asked_answers : (client : ℕ) (h left : State) (now : Program) (t : Turn) (x : Wanted) → next p ≡ Some x
-      → IfSome (asked q.job w a) (λ y. Answers client h left y.call q now t) → Answers client h left x.call p now t
-  asked_answers client h left now t x wants done =
+  pub asked_answers : (m : Bool) (client : ℕ) (h left : State) (now : Program) (t : Turn) (x : Wanted) → next p ≡ Some x
+      → IfSome (asked q.job w a) (λ y. Answers m client h left y.call q now t) → Answers m client h left x.call p now t
+  asked_answers m client h left now t x wants done =
       let at : asked q.job w a ≡ Some x = asked_after ∙ is ∙ wants in
-      let answers : Answers client h left x.call q now t = rw at at done in
-      handed_answers client h left x.call p now a t (subst (λ r. Answers client h left x.call r now t) same answers)
+      let answers : Answers m client h left x.call q now t = rw at at done in
+      handed_answers m client h left x.call p now a t (subst (λ r. Answers m client h left x.call r now t) same answers)
 
   -- where there is a turn now
   pub stuck_now : (h : State) → is_stuck h a w ≡ true → wanted_now h p ≡ None
@@ -281,8 +279,8 @@ module _ (p q : Program) (a : Asks) (w : Wanted) (is : asked p.job w a ≡ next 
       of_asks asks.End at = rw at (of_job p.job (ending_job p fit (ends at)))
       of_asks _ at = rw at refl
 
-  pub free_now : (h : State) (x : Wanted) → is_stuck h a w ≡ false → next p ≡ Some x → (x.wait && is_running h) ≡ false
-  free_now h x free wants = of_asks a refl
+  pub not_waiting : (h : State) (x : Wanted) → is_stuck h a w ≡ false → next p ≡ Some x → (x.wait && is_running h) ≡ false
+  not_waiting h x free wants = of_asks a refl
     where
       of_plain : (y : Wanted) → y.wait ≡ false → Some y ≡ Some x → (x.wait && is_running h) ≡ false
       of_plain y none at = (let here : y ≡ x = cc in rw (sym here, none) refl)
@@ -307,13 +305,13 @@ module _ (p q : Program) (a : Asks) (w : Wanted) (is : asked p.job w a ≡ next 
 
 pub end_answers : (client : ℕ) (h left : State) (p now : Program) (t : Turn) (reply : Reply) (o : Option Job)
     → IfSome o (λ j. IsStep h client (call.End j) left reply) → now ≡ took p reply → t ≡ entry client reply
-    → IfSome o (λ j. Answers client h left (call.End j) p now t)
+    → IfSome o (λ j. Answers (is_marked t) client h left (call.End j) p now t)
 end_answers client h left p now t reply None steps now_is entry_is = tt
 end_answers client h left p now t reply (Some job) steps now_is entry_is =
-    step_answers client h left (call.End job) p now t reply steps now_is entry_is
+    step_answers client h left (call.End job) p now t reply steps.after_is steps.answer now_is entry_is
 
-pub end_asked : (client : ℕ) (h left : State) (p now : Program) (t : Turn) (o : Option Job)
-    → IfSome o (λ j. Answers client h left (call.End j) p now t)
-    → IfSome (option_map (λ j. plain (call.End j)) o) (λ w. Answers client h left w.call p now t)
-end_asked client h left p now t None answers = tt
-end_asked client h left p now t (Some job) answers = answers
+pub end_asked : (m : Bool) (client : ℕ) (h left : State) (p now : Program) (t : Turn) (o : Option Job)
+    → IfSome o (λ j. Answers m client h left (call.End j) p now t)
+    → IfSome (option_map (λ j. plain (call.End j)) o) (λ w. Answers m client h left w.call p now t)
+end_asked m client h left p now t None answers = tt
+end_asked m client h left p now t (Some job) answers = answers

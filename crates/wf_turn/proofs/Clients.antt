@@ -217,13 +217,10 @@ own_passed clock ps i best p place within item own so_far =
     subst (λ n. IfSome (earlier best (n, place)) (StandsOwn (clock ∷ ps))) next
     (own_more (clock ∷ ps) (suc i) best p place (get_within ps i p within item) own so_far)
 
--- what is known of the client that is found
+-- the client that is found may have a turn
 pub found_may : (s : Show) (cast : IsCast s) (c : ℕ × ℕ) → first_client (map place_of s.programs) ≡ Some c → StandsOwn s.programs c
-    → (c.0 < 8) × (may_turn s.programs c.0 ≡ true)
-found_may s cast c is own =
-    let at = first_place (map place_of s.programs) c is in
-    let within : c.0 < length (map place_of s.programs) = slice_get_within (map place_of s.programs) c.0 (Some c.1) at in
-    (omega (arith, within, length-map s.programs place_of, cast.eight), of_programs s.programs refl (slice_get s.programs c.0) refl)
+    → may_turn s.programs c.0 ≡ true
+found_may s cast c is own = of_programs s.programs refl (slice_get s.programs c.0) refl
   where
     of_programs : (ps : List Program) → s.programs ≡ ps → (o : Option Program) → slice_get s.programs c.0 ≡ o
         → may_turn s.programs c.0 ≡ true

@@ -10,7 +10,7 @@ use Rattle.wf_turn.proofs.Common.{is_marked, before, given_canvas, is_event, lin
 use Rattle.wf_turn.proofs.Common.{skipped, taught}
 use Rattle.wf_turn.proofs.Common.{took}
 use Rattle.wf_turn.proofs.Common.{took_at, took_canvas, took_first, took_frame, took_job, waiting, worked, IsNextTurn, IsRun, Show}
-use Rattle.wf_turn.proofs.Common.{all_taught, inherited, is_setting_up, opening_show, with_frames, TurnsTo}
+use Rattle.wf_turn.proofs.Common.{all_taught, inherited, is_setting_up, opening_show, with_frames, Shows}
 use Rattle.wf_calls.specs.declared.call.Call.TheVariants as call
 use Rattle.wf_calls.specs.declared.reply.Payload.TheVariants as payload
 use Rattle.wf_script.specs.declared.line.Verb.TheVariants as verb
@@ -23,7 +23,7 @@ use Rattle.wf_turn.proofs.Holding.{AllHold, opening_hold}
 use Rattle.wf_turn.proofs.Moments.{turn_adds}
 use Rattle.wf_turn.proofs.Painting.{IsPainted}
 use Rattle.wf_turn.proofs.Replays.{own_program, turn_of}
-use Rattle.wf_turn.proofs.Works.{worked_if}
+use Rattle.wf_turn.proofs.Keeping.{worked_if}
 
 -- lines without a tick
 abbrev pub AreTickless : List (ℕ × Line) → Type 0
@@ -194,9 +194,10 @@ run_clocked show after [] run is = subst IsClocked run is
 run_clocked show after (t ∷ ts) run is = run_clocked run.0 after ts run.1.1 (still_clocked show run.0 t run.1.0 is)
 
 -- the clock's turn it is that shows a frame
-pub shows_alone : (show after : Show) (t : Turn) (f : Frame) → IsClocked show → TurnsTo show t (f ∷ []) after → t.client ≡ 0
+pub shows_alone : (show after : Show) (t : Turn) (f : Frame) → IsClocked show → Shows IsNextTurn show t (f ∷ []) after
+    → t.client ≡ 0
 shows_alone show after t f is turns =
-    let adds = turn_adds (with_frames [] show) t.client (is_marked t) (with_frames (f ∷ []) after, t) is.painted turns.taken in
+    let adds = turn_adds (with_frames [] show) t.client (is_marked t) (with_frames (f ∷ []) after, t) is.painted (turns []).taken in
     let begun : All (λ g. Begins g (with_frames [] show) t) (f ∷ []) =
     subst (All (λ g. Begins g (with_frames [] show) t)) (sym adds.behind) adds.begun in
     of_client t.client refl (begun 0 f (omega arith))

@@ -60,8 +60,9 @@ pub use Rattle.wf_turn.specs.Passing.{IsPlace, is_event_of}
 pub use Rattle.wf_turn.specs.Play.{earlier, first_client, frames_after, is_marked, replay, replay_turn, same_turn}
 unfoldable pub use Rattle.wf_turn.specs.Play.{replay_from, serial_from}
 pub use Rattle.wf_turn.specs.Play.{serial_order}
-pub use Rattle.wf_turn.specs.Playing.{Answers, ArePainted, Ends, IsCast, PlaysTurns, StandsOwn, StopsTurns, TakesTurn, Turned, TurnsTo}
-pub use Rattle.wf_turn.specs.Playing.{all_painted, frames_if, has_work, may_turn, show_of, shown_by, with_frames, with_paint}
+pub use Rattle.wf_turn.specs.Played.{Plays, PlaysTurn, Shows, StopsTurns, TurnedFirst}
+pub use Rattle.wf_turn.specs.Playing.{Answers, Ends, EndsNext, HasNoTurn, IsCast, StandsOwn, Takes, TakesNext, Turned, frames_if}
+pub use Rattle.wf_turn.specs.Playing.{may_turn, show_of, shown_by, wanted_now, with_frames}
 pub use Rattle.wf_turn.specs.Program.{Program, asked_for, asked_next, at_port, before, bound, first_call, first_line, first_of}
 pub use Rattle.wf_turn.specs.Program.{given_canvas, go_on, issued, handle, in_setup, is_event, is_work, kept_first, line_done, lines_from}
 pub use Rattle.wf_turn.specs.Program.{next, painted_job, place_of, plain, port_count, program, setup_lines, silent, skipped, taught}

@@ -2,10 +2,10 @@
 use Rattle.wf_turn.proofs.Common.{◌≡◌, ◌∙◌, ℕ, ◌+◌, ◌*◌, ◌≤◌, ◌==◌, true, false, cond, List, [], ◌∷◌, ◌++◌, map, length, None, Ok}
 use Rattle.wf_turn.proofs.Common.{inl, inr, refl, sym, ap, subst, arith, append_assoc, append-nil, flat_map, filter, sum_by, enumerate_from}
 use Rattle.wf_turn.proofs.Common.{range_with_len, length-append, sum_by-cons, Turn, Frame, frame_bytes, tail_bytes, Puts, PutsPart}
-use Rattle.wf_turn.proofs.Common.{puts_both, stops_late, Line, PlainScript, first_client, frames_after, replay, PlaysTurns, StopsTurns}
+use Rattle.wf_turn.proofs.Common.{puts_both, stops_late, Line, PlainScript, Some, first_client, frames_after, replay, Plays, StopsTurns}
 use Rattle.wf_turn.proofs.Common.{with_frames, Program, lines_from, place_of, program, all_left, left, line_quota, lines_left, most_turns}
-use Rattle.wf_turn.proofs.Common.{quota, quota_of, IsRun, PlaysFilm, Show, FilmForm, opening_show}
-use Rattle.std.proofs.Common.{Err, Result}
+use Rattle.wf_turn.proofs.Common.{quota, quota_of, IsRun, Show, FilmForm, opening_show}
+use Rattle.std.proofs.Common.{Err}
 use Rattle.std.specs.List.{list_all}
 use Rattle.wf_film.specs.declared.form.FilmForm.TheVariants as forms
 use Rattle.wf_film.specs.Film.{Writing, head_bytes, magic}
@@ -13,11 +13,11 @@ use Rattle.wf_script.specs.Script.{may_tick}
 use Rattle.wf_turn.specs.declared.player.PlayStop.{PlayStop}
 use Rattle.wf_turn.specs.declared.player.PlayStop.TheVariants as stop
 use Rattle.wf_turn.specs.declared.stage.Stage.TheVariants as stage
-use Rattle.wf_turn.proofs.Framing.{next_behind}
 use Rattle.wf_turn.proofs.Lefts.{left_before}
 use Rattle.wf_turn.proofs.QuotaSums.{most_40}
-use Rattle.wf_turn.specs.Films.{clock_turns}
-use Rattle.wf_turn.specs.Serial.{IsInFileOrder}
+use Rattle.wf_turn.specs.Films.{PlaysSerially, clock_turns}
+use Rattle.wf_turn.specs.Play.{film, head}
+use Rattle.wf_turn.specs.Played.{Replays}
 use Rattle.wf_turn.proofs.Clocks.{opening_clocked, run_clocked, shows_alone}
 use Rattle.wf_turn.proofs.Serials.{begins_serial, complete, is_serial, legal, replayed, run_more}
 
@@ -90,77 +90,93 @@ module _ {K : Type 0} (took : K → List ℕ → Type 0) (form : FilmForm) (scri
   abbrev start : Show
   start = opening_show script
 
-  -- a play of the script has put its film, and its order is that of the file
-  abbrev pub Plays : K → K → Result (List Turn) PlayStop → Type 0
-  Plays k a result = PlaysFilm took k a form script result × IsInFileOrder script result
+  -- entries that lead from the opening to a show, and whose frames are put
+  module _ (a b : K) (was written : ℕ) (now : Show) (order : List Turn)
+      (plays : Plays took a b form was written Replays start now order) where
+    pub reached : replay script order ≡ Some (with_frames plays.frames now)
+    reached = plays.run
 
-  -- the magic and the frames of a run
-  head_is : (now : Show) (order : List Turn) (frames : List Frame) → IsRun start order (with_frames frames now)
-      → length order ≤ 40 * length script.lines → frames_after (replay script order) ≡ frames
-  head_is now order frames run few = ap frames_after (replayed script (with_frames frames now) order run few)
+    frames_are : frames_after (replay script order) ≡ plays.frames
+    frames_are = ap frames_after reached
 
-  head_put : (k a b : K) (written : ℕ) (now : Show) (order : List Turn) → Puts took k a (magic form)
-      → (plays : PlaysTurns took a b form (length (magic form)) written start now order) → Puts took k b (head_bytes form plays.frames)
-  head_put k a b written now order first plays =
-      puts_both took k a b (magic form) (flat_map (frame_bytes form) plays.frames) first plays.put
+    pub head_put : (k : K) → Puts took k a (magic form) → Puts took k b (head form script order)
+    head_put k first = subst (λ fs. Puts took k b (head_bytes form fs)) (sym frames_are)
+        (puts_both took k a b (magic form) (flat_map (frame_bytes form) plays.frames) first plays.put)
 
-  pub whole : (k a b c : K) (written : ℕ) (now : Show) (order : List Turn) → Puts took k a (magic form)
-      → PlaysTurns took a b form (length (magic form)) written start now order → first_client (map place_of now.programs) ≡ None
-      → length order ≤ all_left start.programs
-      → Puts took b c (tail_bytes order) → Plays k c (Ok order)
-  whole k a b c written now order first plays over many tail =
-      let few : length order ≤ 40 * length script.lines = omega (arith, many, left_few script) in
-      let frames = head_is now order plays.frames plays.run few in
-      let last = with_frames plays.frames now in (
-        (
-          subst (λ fs. Puts took k c (head_bytes form fs ++ tail_bytes order)) (sym frames)
-              (puts_both took k b c (head_bytes form plays.frames) (tail_bytes order) (head_put k a b written now order first plays) tail),
-          complete script last order plays.run few over,
-        ),
-        is_serial script last order plays.run few over,
-      )
+    pub film_put : (k c : K) → Puts took k a (magic form) → Puts took b c (tail_bytes order) → Puts took k c (film form script order)
+    film_put k c first tail = puts_both took k b c (head form script order) (tail_bytes order) (head_put k first) tail
 
-  pub cut_magic : (k a : K) (written : ℕ) → PutsPart took k a 0 (magic form) written → Plays k a (Err (stop.WriteFault written []))
+    pub head_length : length (head form script order) ≡ length (magic form) + length (flat_map (frame_bytes form) plays.frames)
+    head_length = ap (λ fs. length (head_bytes form fs)) frames_are
+        ∙ length-append (magic form) (flat_map (frame_bytes form) plays.frames)
+
+  -- turns of serial play
+
+  module _ (a b : K) (was written : ℕ) (now : Show) (order : List Turn) (plays : Plays took a b form was written IsRun start now order)
+      (many : length order ≤ all_left start.programs) where
+    few : length order ≤ 40 * length script.lines
+    few = omega (arith, many, left_few script)
+
+    abbrev last : Show
+    last = with_frames plays.frames now
+
+    abbrev as_replay : Plays took a b form was written Replays start now order
+    as_replay = record {
+      frames = plays.frames;
+      run = replayed script last order plays.run few;
+      put = plays.put;
+      written_is = plays.written_is;
+    }
+
+    pub whole : (k c : K) → Puts took k a (magic form) → first_client (map place_of now.programs) ≡ None → Puts took b c (tail_bytes order)
+        → PlaysSerially took k c form script (Ok order)
+    whole k c first over tail = (
+      (film_put a b was written now order as_replay k c first tail, complete script last order plays.run few over),
+      is_serial script last order plays.run few over,
+    )
+
+    pub cut_journal : (k c : K) (stopped : ℕ) → was ≡ length (magic form) → Puts took k a (magic form)
+        → first_client (map place_of now.programs) ≡ None → PutsPart took b c written (tail_bytes order) stopped
+        → PlaysSerially took k c form script (Err (stop.WriteFault stopped order))
+    cut_journal k c stopped was_is first over part =
+        let at : written ≡ 0 + length (head form script order) =
+        omega (arith, plays.written_is, was_is, head_length a b was written now order as_replay) in (
+          record {
+            legal = legal script last order plays.run few;
+            cut = inr (inr (record {
+              complete = complete script last order plays.run few over;
+              put = stops_late took k b c 0 written (head form script order) (tail_bytes order) stopped
+                  (head_put a b was written now order as_replay k first) at part;
+              least = omega (arith, at, part.least);
+            }));
+          },
+          begins_serial script last order plays.run few,
+        )
+
+  pub cut_magic : (k a : K) (written : ℕ) → PutsPart took k a 0 (magic form) written
+      → PlaysSerially took k a form script (Err (stop.WriteFault written []))
   cut_magic k a written part = (
     record { legal = legal script start [] refl (omega arith); cut = inl (record { put = part; none = refl }) },
     begins_serial script start [] refl (omega arith),
   )
 
-  pub cut_journal : (k a b c : K) (middle written : ℕ) (now : Show) (order : List Turn) → Puts took k a (magic form)
-      → PlaysTurns took a b form (length (magic form)) middle start now order → first_client (map place_of now.programs) ≡ None
-      → length order ≤ all_left start.programs → PutsPart took b c middle (tail_bytes order) written
-      → Plays k c (Err (stop.WriteFault written order))
-  cut_journal k a b c middle written now order first plays over many part =
-      let few : length order ≤ 40 * length script.lines = omega (arith, many, left_few script) in
-      let frames = head_is now order plays.frames plays.run few in
-      let last = with_frames plays.frames now in
-      let at : middle ≡ 0 + length (head_bytes form plays.frames) =
-      omega (arith, plays.written_is, length-append (magic form) (flat_map (frame_bytes form) plays.frames)) in (
-        record {
-          legal = legal script last order plays.run few;
-          cut = inr (inr (record {
-            complete = complete script last order plays.run few over;
-            put = subst (λ fs. PutsPart took k c 0 (head_bytes form fs ++ tail_bytes order) written) (sym frames)
-                (stops_late took k b c 0 middle (head_bytes form plays.frames) (tail_bytes order) written
-                (head_put k a b middle now order first plays) at part);
-            least = subst (λ fs. length (head_bytes form fs) ≤ written) (sym frames) (omega (arith, at, part.least));
-          }));
-        },
-        begins_serial script last order plays.run few,
-      )
+  -- the frames of a run
+  head_is : (now : Show) (order : List Turn) (frames : List Frame) → IsRun start order (with_frames frames now)
+      → length order ≤ 40 * length script.lines → frames_after (replay script order) ≡ frames
+  head_is now order frames run few = ap frames_after (replayed script (with_frames frames now) order run few)
 
   pub cut_frame : list_all may_tick script.lines ≡ true → (k a b : K) (written : ℕ) (now : Show) (order : List Turn)
       → Puts took k a (magic form) → StopsTurns took a b form (length (magic form)) written start now order
-      → length order ≤ all_left start.programs → Plays k b (Err (stop.WriteFault written order))
+      → length order ≤ all_left start.programs → PlaysSerially took k b form script (Err (stop.WriteFault written order))
   cut_frame ticks k a b written now order first stops many =
       let few : length order ≤ 40 * length script.lines = omega (arith, many, left_few script) in
       let fs = stops.frames ++ stops.frame ∷ [] in
       let begun : IsRun start (stops.before ++ stops.begins ∷ []) (with_frames fs stops.middle) =
       run_more start (with_frames stops.frames stops.last) (with_frames fs stops.middle) stops.before stops.begins stops.run
-      (next_behind stops.frames (stops.frame ∷ []) stops.last stops.middle stops.begins stops.begun) in
+      (stops.begun stops.frames) in
       let ended : IsRun start ((stops.before ++ stops.begins ∷ []) ++ stops.ends ∷ []) (with_frames (fs ++ []) now) =
       run_more start (with_frames fs stops.middle) (with_frames (fs ++ []) now) (stops.before ++ stops.begins ∷ []) stops.ends begun
-      (next_behind fs [] stops.middle now stops.ends stops.ended) in
+      (stops.ended fs) in
       let order_is : (stops.before ++ stops.begins ∷ []) ++ stops.ends ∷ [] ≡ order =
       append_assoc stops.before (stops.begins ∷ []) (stops.ends ∷ []) ∙ sym stops.played_is in
       let run : IsRun start order (with_frames fs now) =
@@ -201,26 +217,24 @@ module _ {K : Type 0} (took : K → List ℕ → Type 0) (form : FilmForm) (scri
 
   -- the stop that is answered
   pub stop_is : (k a : K) (r : PlayStop) (written : ℕ) (given order : List Turn) → r ≡ stop.WriteFault written given → given ≡ order
-      → Plays k a (Err (stop.WriteFault written order)) → Plays k a (Err r)
-  stop_is k a r written given order is same plays = subst (λ x. Plays k a (Err x))
+      → PlaysSerially took k a form script (Err (stop.WriteFault written order)) → PlaysSerially took k a form script (Err r)
+  stop_is k a r written given order is same plays = subst (λ x. PlaysSerially took k a form script (Err x))
       (sym (is ∙ ap (λ o. stop.WriteFault written o) same)) plays
 
   -- a show that is open, and what was written before it
-  pub turns_open : (s : Show) → s ≡ start → (a b : K) (was : Writing) (written : ℕ) (now : Show) (order : List Turn)
-      → was ≡ record { form = form; written = length (magic form) }
-      → PlaysTurns took a b was.form was.written written s now order
-      → PlaysTurns took a b form (length (magic form)) written start now order
-  turns_open s opened a b was written now order begins plays =
-      subst (λ v. PlaysTurns took a b form (length (magic form)) written v now order) opened
-      (subst (λ (w : Writing). PlaysTurns took a b w.form w.written written s now order) begins plays)
+  module _ (s : Show) (opened : s ≡ start) (a b : K) (was : Writing) (written : ℕ) (now : Show) (order : List Turn)
+      (begins : was ≡ record { form = form; written = length (magic form) }) where
+    pub plays_open : Plays took a b was.form was.written written IsRun s now order
+        → Plays took a b form (length (magic form)) written IsRun start now order
+    plays_open plays =
+        subst (λ v. Plays took a b form (length (magic form)) written IsRun v now order) opened
+        (subst (λ (w : Writing). Plays took a b w.form w.written written IsRun s now order) begins plays)
 
-  pub stops_open : (s : Show) → s ≡ start → (a b : K) (was : Writing) (written : ℕ) (now : Show) (order : List Turn)
-      → was ≡ record { form = form; written = length (magic form) }
-      → StopsTurns took a b was.form was.written written s now order
-      → StopsTurns took a b form (length (magic form)) written start now order
-  stops_open s opened a b was written now order begins stops =
-      subst (λ v. StopsTurns took a b form (length (magic form)) written v now order) opened
-      (subst (λ (w : Writing). StopsTurns took a b w.form w.written written s now order) begins stops)
+    pub stops_open : StopsTurns took a b was.form was.written written s now order
+        → StopsTurns took a b form (length (magic form)) written start now order
+    stops_open stops =
+        subst (λ v. StopsTurns took a b form (length (magic form)) written v now order) opened
+        (subst (λ (w : Writing). StopsTurns took a b w.form w.written written s now order) begins stops)
 
 -- there is room for all turns of a show that is open, and few enough bytes
 pub left_open : (s : Show) (script : PlainScript) → s ≡ opening_show script → all_left s.programs ≤ most_turns script.lines

@@ -24,7 +24,7 @@ waiting_begins p w asks =
     }) asks
 
 -- a program that wants a call has a line
-asks_line : (p : Program) (w : Wanted) → next p ≡ Some w → (l : Line) × (first_line p ≡ Some l)
+pub asks_line : (p : Program) (w : Wanted) → next p ≡ Some w → (l : Line) × (first_line p ≡ Some l)
 asks_line p w asks = of_line (first_line p) refl
   where
     of_line : (o : Option Line) → first_line p ≡ o → (l : Line) × (first_line p ≡ Some l)

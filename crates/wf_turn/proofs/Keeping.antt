@@ -120,3 +120,11 @@ same_client p reply =
     λ (q : Program) (lines : List (ℕ × Line)) (own : List (Name × ℕ)) (canvas : Option Canvas) (job : Option Job)
     (unpainted : Bool) (s : Stage) (tick : ℕ) (h : q.client ≡ p.client). h in
     keeps_worked P keeps (took p reply) (keeps_took P keeps p reply refl)
+
+-- a program by whether its Job is to be painted
+abbrev pub worked_if : Bool → Program → Program
+worked_if b p = cond b (record p { job = option_map painted_job p.job; unpainted = false }) p
+
+pub worked_painted : (p : Program) → (worked p).unpainted ≡ false
+worked_painted p = elim p.unpainted as (λ b. p.unpainted ≡ b
+    → (worked_if b p).unpainted ≡ false) [ true ↦ λ was. refl | false ↦ λ was. was ] refl

@@ -15,7 +15,7 @@ use Rattle.wf_model.specs.Beginnings.{IsOfContext, composed_is}
 use Rattle.wf_model.specs.Objects.{Context}
 use Rattle.wf_turn.proofs.Cases.{turn_case, IsTick}
 use Rattle.wf_turn.proofs.Holding.{Holds, AllHold, issued_hold, opening_hold}
-use Rattle.wf_turn.proofs.Works.{worked_painted}
+use Rattle.wf_turn.proofs.Keeping.{worked_painted}
 use Rattle.wf_turn.proofs.Painting.{canvas_painted, frame_painted, IsPainted, done_painted, on_painted}
 use Rattle.wf_turn.proofs.Replays.{Step, at_step, order_keeps, taken_turn, turn_of}
 

@@ -1,12 +1,10 @@
 -- The show before the first turn.
 use Rattle.wf_turn.proofs.Common.{◌≡◌, ◌∙◌, ℕ, zero, suc, ◌+◌, ◌≤◌, true, false, ◌&&◌, [], ◌∷◌, ◌++◌, map, length, None, refl, ap}
 use Rattle.wf_turn.proofs.Common.{arith, nat_le, list_all, range_with_len, and_parts, length-map, may_declare, PlainScript, IsCast, Program}
-use Rattle.wf_turn.proofs.Common.{lines_from, program, AreOf, IsFit, opening_show, ArePainted}
+use Rattle.wf_turn.proofs.Common.{lines_from, program, AreOf, IsFit, opening_show}
 use Rattle.std.proofs.lemmas.Bool.{leb-true}
 use Rattle.wf_calls.specs.PortRules.{may_have}
 use Rattle.wf_turn.specs.declared.stage.Stage.TheVariants as stage
-use Rattle.wf_turn.proofs.Holding.{opening_hold}
-use Rattle.wf_turn.proofs.Painting.{IsPainted}
 use Rattle.wf_turn.proofs.Fitting.{fit_before}
 
 few_ports : (script : PlainScript) → may_declare script.ports ≡ true → length script.ports.modes.items ≤ 4
@@ -50,12 +48,7 @@ opening_cast script declared =
       script = script;
       programs = are_opening script (few_ports script declared) 0 8;
       eight = length-map (range_with_len 0 8) (program script);
-      alone = tt;
     }
-
--- no program has a Job
-pub opening_painted : (script : PlainScript) → ArePainted (opening_show script).programs
-opening_painted script = opening_hold IsPainted refl script 0 8
 
 -- one client more
 pub range_more : (n : ℕ) → range_with_len 1 (n + 1) ≡ range_with_len 1 n ++ (n + 1) ∷ []

@@ -2,46 +2,43 @@
 use Rattle.wf_turn.proofs.Common.{◌≡◌, ◌∙◌, ℕ, ◌+◌, ◌*◌, ◌<◌, ◌≤◌, Bool, true, false, ◌⊎◌, inl, inr, List, [], ◌∷◌, ◌++◌, length, Option}
 use Rattle.wf_turn.proofs.Common.{Some, None, refl, sym, ap, subst, arith, append_assoc, append-nil, flat_map, slice_get, IsSome}
 use Rattle.wf_turn.proofs.Common.{length-append, Turn, Job, JobKind, FilmForm, Frame, frame_bytes, frame_of, Puts, PutsPart, puts_both}
-use Rattle.wf_turn.proofs.Common.{stops_late}
-use Rattle.wf_turn.proofs.Common.{Running, ArePainted, PlaysTurns, StopsTurns, Turned, TurnsTo, frames_if, shown_by, with_frames, Program}
-use Rattle.wf_turn.proofs.Common.{all_left, IsRun, Show, shown}
+use Rattle.wf_turn.proofs.Common.{stops_late, Running, EndsNext, IsCast, Plays, PlaysTurn, Shows, StopsTurns, TurnedFirst, frames_if}
+use Rattle.wf_turn.proofs.Common.{shown_by}
+use Rattle.wf_turn.proofs.Common.{with_frames, Program, all_left, IsNextTurn, IsRun, Show, shown}
 use Rattle.std.proofs.Common.{◌^◌}
 use Rattle.std.proofs.lemmas.Grind.{flat_map-append}
 use Rattle.wf_calls.specs.declared.call.JobKind.TheVariants as kind
 use Rattle.wf_film.specs.Film.{Writing}
-use Rattle.wf_turn.specs.Playing.{PlaysTurn, StopsTurn, job_frames}
-use Rattle.wf_turn.proofs.Serials.{run_more}
-use Rattle.wf_turn.proofs.Framing.{next_behind}
+use Rattle.wf_turn.specs.Played.{StopsTurn}
+use Rattle.wf_turn.specs.Playing.{job_frames}
+
+flat_one : (form : FilmForm) (frames more : List Frame)
+    → flat_map (frame_bytes form) (frames ++ more) ≡ flat_map (frame_bytes form) frames ++ flat_map (frame_bytes form) more
+flat_one form frames more = flat_map-append (frame_bytes form) frames more
 
 module _ {K : Type 0} (took : K → List ℕ → Type 0) where
-  -- turns were played, and there is room for those that are left
-  pub record IsPlaying (old new : K) (was : Writing) (writer : Writing) (start now : Show) (played : List Turn)
-      (most room before_faults faults : ℕ) : Type 0
-    where
-      pub plays : PlaysTurns took old new was.form was.written writer.written start now played
-      pub form_is : writer.form ≡ was.form
-      pub fits : length played + all_left now.programs ≤ room
-      pub many : length played + all_left now.programs ≤ most
-      pub few : writer.written + all_left now.programs * 4194318 < 2 ^ 62
-      pub early : now.turns + all_left now.programs < 2 ^ 31
-      pub later : before_faults ≤ faults
-      pub painted : ArePainted now.programs
-
-  flat_one : (form : FilmForm) (frames more : List Frame)
-      → flat_map (frame_bytes form) (frames ++ more) ≡ flat_map (frame_bytes form) frames ++ flat_map (frame_bytes form) more
-  flat_one form frames more = flat_map-append (frame_bytes form) frames more
+  -- before the first turn
+  pub none_played : (k : K) (form : FilmForm) (was : ℕ) (Run : Show → List Turn → Show → Type 0) (start : Show)
+      → Run (with_frames [] start) [] (with_frames [] start) → Plays took k k form was was Run start start []
+  none_played k form was Run start nothing =
+      record {
+        frames = [];
+        run = nothing;
+        put = λ before taken. subst (took k) (sym (append-nil before)) taken;
+        written_is = omega arith;
+      }
 
   -- one turn more
-  pub one_played : (a b c : K) (form : FilmForm) (was middle written : ℕ) (start last now : Show) (played after : List Turn)
-      → PlaysTurns took a b form was middle start last played → PlaysTurn took b c form middle written last now played after
-      → PlaysTurns took a c form was written start now after
-  one_played a b c form was middle written start last now played after so_far one =
+  pub one_played : (Next : Show → Turn → Show → Type 0) (Run : Show → List Turn → Show → Type 0)
+      → ((s last now : Show) (ts : List Turn) (t : Turn) → Run s ts last → Next last t now → Run s (ts ++ t ∷ []) now)
+      → (a b c : K) (form : FilmForm) (was middle written : ℕ) (start last now : Show) (ts : List Turn) (t : Turn)
+      → Plays took a b form was middle Run start last ts → PlaysTurn took b c form middle written Next last now t
+      → Plays took a c form was written Run start now (ts ++ t ∷ [])
+  one_played Next Run more a b c form was middle written start last now ts t so_far one =
       record {
         frames = so_far.frames ++ one.frames;
-        run =
-            subst (λ ts. IsRun (with_frames [] start) ts (with_frames (so_far.frames ++ one.frames) now)) (sym one.after_is)
-            (run_more (with_frames [] start) (with_frames so_far.frames last) (with_frames (so_far.frames ++ one.frames) now) played
-            one.turn so_far.run (next_behind so_far.frames one.frames last now one.turn one.next));
+        run = more (with_frames [] start) (with_frames so_far.frames last) (with_frames (so_far.frames ++ one.frames) now) ts t so_far.run
+            (one.next so_far.frames);
         put = subst (λ bytes. Puts took a c bytes) (sym (flat_one form so_far.frames one.frames))
             (puts_both took a b c (flat_map (frame_bytes form) so_far.frames) (flat_map (frame_bytes form) one.frames) so_far.put one.put);
         written_is = omega (
@@ -53,9 +50,23 @@ module _ {K : Type 0} (took : K → List ℕ → Type 0) where
         );
       }
 
+  -- turns of serial play were played, and there is room for those that are left
+  pub record IsPlaying (old new : K) (was : Writing) (writer : Writing) (start now : Show) (played : List Turn)
+      (most room before_faults faults : ℕ) : Type 0
+    where
+      pub plays : Plays took old new was.form was.written writer.written IsRun start now played
+      pub form_is : writer.form ≡ was.form
+      pub fits : length played + all_left now.programs ≤ room
+      pub many : length played + all_left now.programs ≤ most
+      pub few : writer.written + all_left now.programs * 4194318 < 2 ^ 62
+      pub early : now.turns + all_left now.programs < 2 ^ 31
+      pub later : before_faults ≤ faults
+      pub cast : IsCast now
+      pub alone : EndsNext now
+
   -- a turn whose frame was not put whole
   pub one_stopped : (a b c : K) (form : FilmForm) (was middle written : ℕ) (start last now : Show) (played after : List Turn)
-      → PlaysTurns took a b form was middle start last played → StopsTurn took b c form middle written last now played after
+      → Plays took a b form was middle IsRun start last played → StopsTurn took b c form middle written last now played after
       → StopsTurns took a c form was written start now after
   one_stopped a b c form was middle written start last now played after so_far stop =
       let one : flat_map (frame_bytes form) (stop.frame ∷ []) ≡ frame_bytes form stop.frame = append-nil (frame_bytes form stop.frame) in
@@ -102,41 +113,43 @@ one_shown begin painted ps client = of_program (slice_get ps client) refl
     of_program None is = inl (rw is refl)
     of_program (Some p) is = elim (of_painted painted p) [ inl none ↦ inl (rw is none) | inr one ↦ inr (one.0, rw is one.1) ]
 
--- a frame that was not put whole, and the end of it
-pub stopped : {K : Type 0} (took : K → List ℕ → Type 0) (k a : K) (form : FilmForm) (was written : ℕ) (show middle now : Show)
-    (client : ℕ) (t u : Turn) (painted ended : Bool) (played first after : List Turn) → painted ≡ true
-    → Turned show client middle t painted → Turned middle client now u ended
-    → PutsPart took k a was (flat_map (frame_bytes form) (shown_by show.turns true middle.programs client)) written
-    → first ≡ played ++ t ∷ [] → after ≡ first ++ u ∷ [] → StopsTurn took k a form was written show now played after
-stopped took k a form was written show middle now client t u painted ended played first after paints begins ends part first_is after_is =
-    elim (one_shown show.turns true middle.programs client) [
-      | inl none ↦
-          absurd (let short = part.short in
-          let nothing : length (flat_map (frame_bytes form) (shown_by show.turns true middle.programs client)) ≡ 0 =
-          ap (λ fs. length (flat_map (frame_bytes form) fs)) none in omega (arith, part.least, short, nothing))
-      | inr one ↦ of_frame one.0 one.1
-    ]
-  where
-    of_frame : (f : Frame) → shown_by show.turns true middle.programs client ≡ f ∷ []
-        → StopsTurn took k a form was written show now played after
-    of_frame f is =
-        let shows : shown_by show.turns painted middle.programs client ≡ f ∷ [] =
-        ap (λ b. shown_by show.turns b middle.programs client) paints ∙ is in
-        let runs : IsSome middle.state.frame = of_running middle.state.frame refl shows in
-        record {
-          begins = t;
-          ends = u;
-          frame = f;
-          middle = middle;
-          begun = subst (λ fs. TurnsTo show t fs middle) shows begins.next;
-          ended = subst (λ fs. TurnsTo middle u fs now) (ends.ended runs) ends.next;
-          own = ends.client_is ∙ sym begins.client_is;
-          after_is = after_is ∙ ap (λ ts. ts ++ u ∷ []) first_is ∙ append_assoc played (t ∷ []) (u ∷ []);
-          part = subst (λ bytes. PutsPart took k a was bytes written) (ap (λ fs. flat_map (frame_bytes form) fs) is
-              ∙ append-nil (frame_bytes form f)) part;
-        }
-      where
-        of_running : (o : Option Running) → middle.state.frame ≡ o → shown_by show.turns painted middle.programs client ≡ f ∷ []
-            → IsSome middle.state.frame
-        of_running None free shows = absurd (let no : [] ≡ f ∷ [] = sym (begins.begun free) ∙ shows in cc)
-        of_running (Some r) runs shows = rw runs refl
+-- where a frame was not put whole, one was shown, and it runs
+module _ {K : Type 0} (took : K → List ℕ → Type 0) (k a : K) (form : FilmForm) (was written : ℕ)
+    (show middle : Show) (client : ℕ) (t : Turn) (painted : Bool) (begins : TurnedFirst show client middle t painted)
+    (part : PutsPart took k a was (flat_map (frame_bytes form) (shown_by show.turns painted middle.programs client)) written) where
+  pub record Cut : Type 0 where
+    pub frame : Frame
+    pub shows : shown_by show.turns painted middle.programs client ≡ frame ∷ []
+    pub runs : IsSome middle.state.frame
+
+  pub cut : Cut
+  cut =
+      elim (one_shown show.turns painted middle.programs client) [
+        | inl none ↦
+            absurd (let short = part.short in
+            let nothing : length (flat_map (frame_bytes form) (shown_by show.turns painted middle.programs client)) ≡ 0 =
+            ap (λ fs. length (flat_map (frame_bytes form) fs)) none in omega (arith, part.least, short, nothing))
+        | inr one ↦ record { frame = one.0; shows = one.1; runs = of_running one.0 middle.state.frame refl one.1 }
+      ]
+    where
+      of_running : (f : Frame) (o : Option Running) → middle.state.frame ≡ o → shown_by show.turns painted middle.programs client ≡ f ∷ []
+          → IsSome middle.state.frame
+      of_running f None free shows = absurd (let no : [] ≡ f ∷ [] = sym (begins.begun free) ∙ shows in cc)
+      of_running f (Some r) runs shows = rw runs refl
+
+  -- its end is the next turn
+  pub stopped : (now : Show) (u : Turn) (ended : Bool) (played first after : List Turn) → TurnedFirst middle client now u ended
+      → first ≡ played ++ t ∷ [] → after ≡ first ++ u ∷ [] → StopsTurn took k a form was written show now played after
+  stopped now u ended played first after ends first_is after_is =
+      record {
+        begins = t;
+        ends = u;
+        frame = cut.frame;
+        middle = middle;
+        begun = subst (λ fs. Shows IsNextTurn show t fs middle) cut.shows begins.next;
+        ended = subst (λ fs. Shows IsNextTurn middle u fs now) (ends.ended cut.runs) ends.next;
+        own = ends.client_is ∙ sym begins.client_is;
+        after_is = after_is ∙ ap (λ ts. ts ++ u ∷ []) first_is ∙ append_assoc played (t ∷ []) (u ∷ []);
+        part = subst (λ bytes. PutsPart took k a was bytes written) (ap (λ fs. flat_map (frame_bytes form) fs) cut.shows
+            ∙ append-nil (frame_bytes form cut.frame)) part;
+      }

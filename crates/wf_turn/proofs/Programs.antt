@@ -1,6 +1,6 @@
 -- The eight programs of a show: one of them changed, and names handed on.
-use Rattle.wf_turn.proofs.Common.{◌≡◌, ◌∙◌, ℕ, zero, suc, ◌+◌, ◌-◌, Bool, true, false, not, cond, ◌&&◌, List, [], ◌∷◌, map, Option, Some}
-use Rattle.wf_turn.proofs.Common.{None, refl, sym, ap, subst, arith, set, get_or, slice_get, sum_by, IfSome, sum_by-cons, PlainScript}
+use Rattle.wf_turn.proofs.Common.{◌≡◌, ◌∙◌, ℕ, zero, suc, ◌+◌, Bool, true, false, not, cond, ◌&&◌, List, [], ◌∷◌, map, Some}
+use Rattle.wf_turn.proofs.Common.{refl, sym, ap, subst, arith, set, slice_get, sum_by, IfSome, sum_by-cons, PlainScript}
 use Rattle.wf_turn.proofs.Common.{frames_if, shown_by, Program, in_setup, taught, all_left, left, AreOf, IsFit, all_taught, inherited}
 use Rattle.wf_turn.proofs.Common.{is_setting_up, get_map}
 use Rattle.wf_turn.proofs.Fitting.{fit_taught}
@@ -119,22 +119,3 @@ shown_inherited begin painted before now i q found =
     taught_shown [] j r found = absurd cc
     taught_shown (clock ∷ others) zero r found = (let same : clock ≡ r = cc in ap (frames_if begin painted) same)
     taught_shown (clock ∷ others) (suc j) r found = rw (get_map (taught clock) others j r found) refl
-
--- the program of another client than the clock's
-pub other_is : (clock : Program) (others : List Program) (client : ℕ) (d : Program) → (client ≡ 0 → ⊥) → d ≡ get_or others (client - 1) d
-    → (o : Option Program) → slice_get (clock ∷ others) client ≡ o → IfSome o (λ p. p ≡ d)
-other_is clock others zero d apart is o found = absurd (apart refl)
-other_is clock others (suc k) d apart is None found = tt
-other_is clock others (suc k) d apart is (Some p) found =
-    let at : suc k - 1 ≡ k = omega arith in
-    sym (is ∙ ap (λ n. get_or others n d) at ∙ there others k found)
-  where
-    there : (ps : List Program) (i : ℕ) → slice_get ps i ≡ Some p → get_or ps i d ≡ p
-    there [] i some = absurd cc
-    there (q ∷ ps) zero some = cc
-    there (q ∷ ps) (suc i) some = there ps i some
-
-pub other_set : (clock : Program) (others : List Program) (client : ℕ) (q : Program) → (client ≡ 0 → ⊥)
-    → clock ∷ set others (client - 1) q ≡ set (clock ∷ others) client q
-other_set clock others zero q apart = absurd (apart refl)
-other_set clock others (suc k) q apart = (let at : suc k - 1 ≡ k = omega arith in ap (λ n. clock ∷ set others n q) at)

@@ -1,14 +1,15 @@
--- One turn of a program.
-use Rattle.wf_turn.proofs.Common.{◌≡◌, ◌∙◌, ℕ, Bool, true, false, ◌==◌, ◌&&◌, List, [], ◌∷◌, Option, Some, None, refl, sym, ap, subst}
-use Rattle.wf_turn.proofs.Common.{IsTrue, is_some, IfSome, IsSome, IsSomeAnd, drawn, Job, Turn, Reply, Code, entry, is_out_of_memory}
-use Rattle.wf_turn.proofs.Common.{IsPaintable, is_running, Running, State, step, Line, Wanted, is_marked, Answers, Ends, TakesTurn}
-use Rattle.wf_turn.proofs.Common.{frames_if, Program, first_line, is_work, next, painted_job, place_of, took, worked, IsFit, IsWork}
-use Rattle.wf_turn.proofs.Common.{frames_of}
+-- One turn of a program: the machine answers its next call, and the Job that comes is painted.
+use Rattle.wf_turn.proofs.Common.{◌≡◌, ◌∙◌, ℕ, Bool, true, false, not, ◌==◌, ◌&&◌, List, [], ◌∷◌, Option, Some, None, refl, sym, ap}
+use Rattle.wf_turn.proofs.Common.{subst, IsTrue, IsSome, IsSomeAnd, drawn, Job, Turn, Reply, Code}
+use Rattle.wf_turn.proofs.Common.{is_out_of_memory, IsPaintable, is_running, State, step, Line, Wanted, frames_if}
+use Rattle.wf_turn.proofs.Common.{Program, first_line, is_work, next, painted_job, place_of, took, worked, IsFit, IsWork, frames_of}
+use Rattle.wf_turn.proofs.Common.{Takes, TakesNext, wanted_now}
 use Rattle.wf_calls.specs.declared.code.Code.TheVariants as code
 use Rattle.wf_calls.specs.Codes.{code_number}
+use Rattle.wf_machine.specs.Object.{is_ready}
 use Rattle.wf_turn.proofs.Answering.{IsSame, same_outcome}
-use Rattle.wf_turn.proofs.Begins.{ended}
-use Rattle.wf_turn.proofs.Painting.{took_work}
+use Rattle.wf_turn.proofs.Going.{waiting_begins}
+use Rattle.wf_turn.proofs.Painting.{took_marked_work}
 
 -- an entry marks what the answer tells
 pub marked_is : (c : Code) → (code_number c == 1) ≡ is_out_of_memory c
@@ -51,10 +52,6 @@ still_paintable p work is = by_parts p.unpainted p.job work is
     by_parts true (Some job) work is = painted_one job (work refl)
     by_parts false o work is = absurd cc
 
-and_false : (b : Bool) → (b && false) ≡ false
-and_false true = refl
-and_false false = refl
-
 -- a program that is not through wants a call
 pub has_line : (p : Program) → IsSome (place_of p) → (l : Line) × (first_line p ≡ Some l)
 has_line p more = of_lines p.lines refl more
@@ -63,54 +60,75 @@ has_line p more = of_lines p.lines refl more
     of_lines [] is more = absurd cc
     of_lines (l ∷ ls) is more = (l.1, rw is refl)
 
-pub turn_taken : (client : ℕ) (h left : State) (p now : Program) (w : Wanted) (t : Turn) → IsFit p → IfSome h.frame (λ f. Ends f p)
-    → next p ≡ Some w → Answers client h left w.call p now t
-    → TakesTurn client h left p (worked now) t (is_work now) × IsWork now
-turn_taken client h left p now w t fit alone asks answers = (takes, subst IsWork (sym now_q) work)
+-- a call waits exactly where a frame runs
+pub waits_is : (h : State) (p : Program) (w : Wanted) → next p ≡ Some w → (w.wait && not (is_ready h w.call)) ≡ (w.wait && is_running h)
+waits_is h p w asks = of_wait w.wait refl
   where
-    reply : Reply
-    reply = answers.reply
+    twice : (b : Bool) → not (not b) ≡ b
+    twice true = refl
+    twice false = refl
 
-    q : Program
-    q = took p reply
+    of_wait : (b : Bool) → w.wait ≡ b → (b && not (is_ready h w.call)) ≡ (b && is_running h)
+    of_wait false waits = refl
+    of_wait true waits = ap (λ x. not (not (x && is_running h))) (waiting_begins p w asks waits) ∙ twice (is_running h)
 
-    now_q : now ≡ q
-    now_q = answers.now_is
+-- what a program wants now is nothing where it is through, and where its call waits; else it is its next call
+pub through_now : (h : State) (p : Program) → next p ≡ None → wanted_now h p ≡ None
+through_now h p none = rw none refl
 
-    work : IsWork q
-    work = took_work p h client w reply fit.painted answers.may asks
+pub waits_now : (h : State) (p : Program) (w : Wanted) → next p ≡ Some w → (w.wait && is_running h) ≡ true → wanted_now h p ≡ None
+waits_now h p w asks waits = rw (asks, waits) refl
 
-    is_ready : (o : Option Running) → h.frame ≡ o → (w.wait && is_running h) ≡ false
-    is_ready None free = ap (λ o. w.wait && is_some o) free ∙ and_false w.wait
-    is_ready (Some f) runs =
-        let e = ended p h client false w f runs (rw runs at alone) asks in
-        ap (λ b. b && is_running h) e.plain_is
+pub free_now : (h : State) (p : Program) (w : Wanted) → next p ≡ Some w → (w.wait && is_running h) ≡ false → wanted_now h p ≡ Some w
+free_now h p w asks free = rw (asks, free) refl
 
-    takes : TakesTurn client h left p (worked now) t (is_work now)
-    takes =
-        let marks : is_marked t ≡ is_out_of_memory reply.code = ap is_marked answers.entry_is ∙ marked_is reply.code in
-        let W : Bool → State × Reply = λ m. step h client w.call m in
-        let wanted = (W (is_out_of_memory reply.code)).1 in
-        let same : IsSame reply wanted = record { value = answers.may.value; payload = answers.may.payload } in
-        let both = same_outcome p reply wanted same in
-        let now_w : worked now ≡ worked q = ap worked now_q in
-        let work_is : is_work now ≡ is_work q = ap is_work now_q in
-        record {
-          wanted = w;
-          asks = asks;
-          ready = is_ready h.frame refl;
-          state = answers.left_is ∙ ap (λ m. (W m).0) (sym marks);
-          program = now_w ∙ ap (λ x. x.0) both ∙ ap (λ m. worked (took p (W m).1)) (sym marks);
-          entry_is =
-              answers.entry_is
-              ∙ ap (λ c. record { client = client; code = code_number c; value = reply.value }) answers.may.code
-              ∙ ap (λ v. record { client = client; code = code_number wanted.code; value = v }) answers.may.value
-              ∙ ap (λ m. entry client (W m).1) (sym marks);
-          frames = λ begin.
-              ap (λ m. frames_of begin (took p (W m).1)) marks
-              ∙ sym (ap (λ x. x.1 begin) both)
-              ∙ work_frames begin q
-              ∙ ap (λ b. frames_if begin b (worked q)) (sym work_is)
-              ∙ ap (frames_if begin (is_work now)) (sym now_w);
-          paintable = λ is. subst (λ x. IsSomeAnd x.job IsPaintable) (sym now_w) (still_paintable q work (sym work_is ∙ is));
-        }
+pub now_next : (h : State) (p : Program) (w : Wanted) → wanted_now h p ≡ Some w → next p ≡ Some w
+now_next h p w is = of_next (next p) refl
+  where
+    of_wait : (v : Wanted) → next p ≡ Some v → (b : Bool) → (v.wait && is_running h) ≡ b → next p ≡ Some w
+    of_wait v asks true waits = absurd (let no : None ≡ Some w = sym (waits_now h p v asks waits) ∙ is in cc)
+    of_wait v asks false free = asks ∙ sym (free_now h p v asks free) ∙ is
+
+    of_next : (o : Option Wanted) → next p ≡ o → next p ≡ Some w
+    of_next None none = absurd (let no : None ≡ Some w = sym (through_now h p none) ∙ is in cc)
+    of_next (Some v) asks = of_wait v asks (v.wait && is_running h) refl
+
+-- the answer to the next call, with the Job that came painted
+module _ (m : Bool) (client : ℕ) (h left : State) (p now : Program) (t : Turn)
+    (fit : IsFit p) (taken : TakesNext m client h left p now t) where
+  abbrev reply : Reply
+  reply = taken.answers.reply
+
+  abbrev wanted : State × Reply
+  wanted = step h client taken.wanted.call m
+
+  work : IsWork (took p reply)
+  work = took_marked_work m p h client taken.wanted reply fit.painted taken.answers.may (now_next h p taken.wanted taken.asks)
+
+  pub work_now : IsWork now
+  work_now = subst IsWork (sym taken.answers.now_is) work
+
+  pub takes : Takes m client h left p (worked now) t (is_work now)
+  takes =
+      let q = took p reply in
+      let answers = taken.answers in
+      let same : IsSame reply wanted.1 = record { value = answers.may.value; payload = answers.may.payload } in
+      let both = same_outcome p reply wanted.1 same in
+      let now_w : worked now ≡ worked q = ap worked answers.now_is in
+      let work_is : is_work now ≡ is_work q = ap is_work answers.now_is in
+      record {
+        wanted = taken.wanted;
+        asks = taken.asks;
+        state = answers.left_is;
+        program = now_w ∙ ap (λ x. x.0) both;
+        entry_is =
+            answers.entry_is
+            ∙ ap (λ c. record { client = client; code = code_number c; value = reply.value }) answers.may.code
+            ∙ ap (λ v. record { client = client; code = code_number wanted.1.code; value = v }) answers.may.value;
+        frames = λ begin.
+            sym (ap (λ x. x.1 begin) both)
+            ∙ work_frames begin q
+            ∙ ap (λ b. frames_if begin b (worked q)) (sym work_is)
+            ∙ ap (frames_if begin (is_work now)) (sym now_w);
+        paintable = λ is. subst (λ x. IsSomeAnd x.job IsPaintable) (sym now_w) (still_paintable q work (sym work_is ∙ is));
+      }

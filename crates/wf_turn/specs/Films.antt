@@ -9,6 +9,7 @@ use Rattle.wf_script.specs.Script.{PlainScript}
 use Rattle.wf_turn.specs.declared.player.PlayStop.{PlayStop}
 use Rattle.wf_turn.specs.declared.player.PlayStop.TheVariants as stop
 use Rattle.wf_turn.specs.Play.{IsComplete, IsLegal, film, frames_after, head, replay}
+use Rattle.wf_turn.specs.Serial.{IsInFileOrder}
 
 -- the entries of the clock
 abbrev pub clock_turns : List Turn → List Turn
@@ -54,6 +55,10 @@ module _ {K : Type 0} (took : K → List ℕ → Type 0) (old new : K) (form : F
   PlaysFilm (Ok order) = Puts took old new (film form script order) × IsComplete script order
   PlaysFilm (Err (stop.WriteFault written order)) = IsCutFilm took old new form script order written
   PlaysFilm (Err stop.NoMemory) = PutsNothing took old new
+
+  -- so it is, and the order is that of the file
+  abbrev pub PlaysSerially : Result (List Turn) PlayStop → Type 0
+  PlaysSerially result = PlaysFilm result × IsInFileOrder script result
 
 -- a write fault comes only where the count of faults rose, and the count never falls
 abbrev pub IsCaused : {T : Type 0} → ℕ → ℕ → Result T PlayStop → Type 0

@@ -15,6 +15,8 @@ pub mod Play
 pub mod Moments
 pub mod Serial
 pub mod Films
+pub mod Members
 pub mod Playing
+pub mod Played
 pub mod Going
 pub mod Replayed

@@ -4,15 +4,14 @@
 mod asking;
 mod bringing;
 mod calls;
+mod cast;
 mod index;
 mod laws;
 mod names;
 mod player;
 mod program;
 mod quotas;
-mod replayer;
 mod replaying;
-mod retaking;
 mod setup;
 mod show;
 mod skipping;

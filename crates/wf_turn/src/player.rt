@@ -1,16 +1,17 @@
 //! Plays a script serially: the events of each line stand together, in the order of the file.
 
 ghost use Rattle.std.specs.Prelude.{◌≡◌, ◌+◌, ◌-◌, ◌*◌, ◌<◌, ◌≤◌, ◌^◌, [], map, length, vec_capacity};
-ghost use Rattle.std.specs.Prelude.{IfErr, IfOk, IsTrue, None, OnErr, OnOk};
+ghost use Rattle.std.specs.Prelude.{IfErr, IfOk, IsTrue, None, OnOk};
 ghost use Rattle.std.specs.List.{list_all};
 ghost use Rattle.wf_io.specs.Causes.{HasCause};
 ghost use Rattle.wf_script.specs.Script.{may_tick};
-ghost use Rattle.wf_turn.specs.Films.{IsCaused, PlaysFilm};
+ghost use Rattle.wf_turn.specs.Films.{IsCaused, PlaysFilm, PlaysSerially};
 ghost use Rattle.wf_turn.specs.Play.{first_client};
-ghost use Rattle.wf_turn.specs.Playing.{ArePainted, PlaysTurn, PlaysTurns, StopsTurn, StopsTurns, Turned, may_turn, script_of};
+ghost use Rattle.wf_turn.specs.Played.{Plays, PlaysNext, StopsTurn, StopsTurns, TurnedFirst};
+ghost use Rattle.wf_turn.specs.Playing.{EndsNext, IsCast, may_turn, script_of};
 ghost use Rattle.wf_turn.specs.Program.{place_of};
 ghost use Rattle.wf_turn.specs.Quota.{all_left, most_turns};
-ghost use Rattle.wf_turn.specs.Serial.{IsFirst, IsInFileOrder};
+ghost use Rattle.wf_turn.specs.Serial.{IsFirst, IsInFileOrder, IsRun};
 ghost use Rattle.wf_turn.specs.Turns.{opening_show};
 
 use crate::quotas::quota_of_all;
@@ -82,7 +83,7 @@ pub fn serial_by<K: Sink, P: Painter>(
     )
 }
 
-/// Writes the film of a script's show, if it was opened.
+/// Writes the film of `script`'s show, if it was opened.
 fn write_opened<K: Sink, P: Painter>(
     alloc: Global,
     opened: &mut Result<Show, NoMemory>,
@@ -91,7 +92,8 @@ fn write_opened<K: Sink, P: Painter>(
     k: &mut K,
     painter: &mut P,
 ) -> Result<Order, PlayStop>
-    requires { IfOk opened.old (λ show. show ≡ opening_show script.now) }
+    requires opened { IfOk opened.old (λ show. show ≡ opening_show script.now) }
+    requires cast { IfOk opened.old IsCast }
     ensures plays { PlaysFilm K.took k.old k.new form script.now result }
     ensures file_order { IsInFileOrder script.now result }
     ensures caused { IsCaused (K.faults k.old) (K.faults k.new) result }
@@ -106,7 +108,7 @@ fn write_opened<K: Sink, P: Painter>(
     }
 }
 
-/// Writes the film of a show that is open, into an order that has room for all turns.
+/// Writes the film of a show that is open, and its order into `played`, which has room for all turns.
 fn write_film<K: Sink, P: Painter>(
     show: &mut Show,
     form: FilmForm,
@@ -115,12 +117,12 @@ fn write_film<K: Sink, P: Painter>(
     mut played: Vec<Turn>,
 ) -> Result<Order, PlayStop>
     requires opened { show.old ≡ opening_show (script_of show.old) }
+    requires cast { IsCast show.old }
     requires few { length (script_of show.old).lines ≤ 16384 }
     requires ticks { IsTrue (list_all may_tick (script_of show.old).lines) }
     requires none { played.items ≡ [] }
     requires room { most_turns (script_of show.old).lines ≤ vec_capacity played }
-    ensures plays { PlaysFilm K.took k.old k.new form (script_of show.old) result }
-    ensures file_order { IsInFileOrder (script_of show.old) result }
+    ensures plays { PlaysSerially K.took k.old k.new form (script_of show.old) result }
     ensures caused { IsCaused (K.faults k.old) (K.faults k.new) result }
 {
     let mut writer = match Writer::new(k, form) {
@@ -137,7 +139,7 @@ fn write_film<K: Sink, P: Painter>(
     }
 }
 
-/// The stop of a film whose sink failed, with what was played.
+/// Makes the stop of a film whose sink failed, with the `order` so far.
 fn write_fault(stop: WriteStop, order: Order) -> PlayStop
     ensures { result ≡ PlayStop.WriteFault stop.written order }
 {
@@ -155,12 +157,13 @@ fn play_turns<K: Sink, P: Painter>(
     writer: &mut Writer,
     played: &mut Vec<Turn>,
 ) -> Result<(), WriteStop>
-    requires painted { ArePainted show.old.programs }
+    requires cast { IsCast show.old }
+    requires alone { EndsNext show.old }
     requires none { played.old.items ≡ [] }
     requires room { all_left show.old.programs ≤ vec_capacity played.old }
     requires few { writer.old.written + all_left show.old.programs * 4194318 < 2 ^ 62 }
     requires early { show.old.turns + all_left show.old.programs < 2 ^ 31 }
-    ensures all { OnOk result (PlaysTurns K.took k.old k.new writer.old.form writer.old.written writer.new.written show.old show.new
+    ensures all { OnOk result (Plays K.took k.old k.new writer.old.form writer.old.written writer.new.written IsRun show.old show.new
         played.new.items) }
     ensures over { OnOk result (first_client (map place_of show.new.programs) ≡ None) }
     ensures few { OnOk result (writer.new.written < 2 ^ 62) }
@@ -187,16 +190,17 @@ fn play_turn<K: Sink, P: Painter>(
     writer: &mut Writer,
     played: &mut Vec<Turn>,
 ) -> Result<(), WriteStop>
-    requires painted { ArePainted show.old.programs }
+    requires cast { IsCast show.old }
+    requires alone { EndsNext show.old }
     requires first { IsFirst show.old.programs client }
     requires allowed { IsTrue (may_turn show.old.programs client) }
-    requires within { client < 8 }
     requires room { length played.old.items + all_left show.old.programs ≤ vec_capacity played.old }
     requires few { writer.old.written + all_left show.old.programs * 4194318 < 2 ^ 62 }
     requires early { show.old.turns + all_left show.old.programs < 2 ^ 31 }
-    ensures all { OnOk result (PlaysTurn K.took k.old k.new writer.old.form writer.old.written writer.new.written show.old show.new
+    ensures all { OnOk result (PlaysNext K.took k.old k.new writer.old.form writer.old.written writer.new.written show.old show.new
         played.old.items played.new.items) }
-    ensures painted { OnOk result (ArePainted show.new.programs) }
+    ensures cast { OnOk result (IsCast show.new) }
+    ensures alone { OnOk result (EndsNext show.new) }
     ensures fewer { OnOk result (all_left show.new.programs + 1 ≤ all_left show.old.programs) }
     ensures many { length played.new.items + all_left show.new.programs ≤ length played.old.items + all_left show.old.programs }
     ensures most { OnOk result (writer.new.written ≤ writer.old.written + 4194318) }
@@ -208,29 +212,27 @@ fn play_turn<K: Sink, P: Painter>(
     ensures cause { HasCause (K.faults k.old) (K.faults k.new) result }
 {
     let begin = show.turns();
-    let (turn, painted) = turn_and_paint(show, client, painter);
+    let (turn, painted) = next_turn(show, client, painter);
     played.push_reserved(turn);
-    if painted {
-        if let Err(stop) = show.put_frame(client, begin, k, writer) {
-            let (end, _) = turn_and_paint(show, client, painter);
-            played.push_reserved(end);
-            return Err(stop);
-        }
+    if let Err(stop) = show.put_frame(client, painted, begin, k, writer) {
+        let (end, _) = next_turn(show, client, painter);
+        played.push_reserved(end);
+        return Err(stop);
     }
     Ok(())
 }
 
-/// The next turn, of the client of the first line that is not through, and then the painting of the Job that came, if one
-/// did. It gives the entry, and whether a Job was painted.
-fn turn_and_paint<P: Painter>(show: &mut Show, client: usize, painter: &mut P) -> (Turn, bool)
-    requires painted { ArePainted show.old.programs }
+/// Takes the next turn, of the client of the first line that is not through. Returns the entry, and whether a Job was painted.
+fn next_turn<P: Painter>(show: &mut Show, client: usize, painter: &mut P) -> (Turn, bool)
+    requires cast { IsCast show.old }
+    requires alone { EndsNext show.old }
     requires first { IsFirst show.old.programs client }
     requires allowed { IsTrue (may_turn show.old.programs client) }
-    requires within { client < 8 }
     requires early { show.old.turns < 2 ^ 32 - 1 }
-    ensures turned { Turned show.old client show.new result.0 result.1 }
-    ensures painted { ArePainted show.new.programs }
+    ensures { TurnedFirst show.old client show.new result.0 result.1 }
 {
-    let turn = show.turn(client);
-    (turn, show.paint(client, painter))
+    match show.turn(client, false, painter) {
+        Some(taken) => taken,
+        None => unreachable!(),
+    }
 }

@@ -24,7 +24,7 @@ use wf_script::{Line, Name, Script};
 use wf_words::NoMemory;
 
 /// The program of a client of a script. It hands out the calls of the client's lines one after another, and takes the
-/// answers. Only `new` takes memory.
+/// answers. Only `new` can lack memory.
 #[derive(Drop)]
 pub struct Program<'a> {
     pub(crate) script: &'a Script,

@@ -1,11 +1,12 @@
 //! Plays an order again, and writes its film.
 
 ghost use Rattle.std.specs.Prelude.{◌≡◌, ◌-◌, ◌<◌, ◌≤◌, ◌^◌, IfOk, OnOk, length};
-ghost use Rattle.wf_turn.specs.Playing.{script_of};
-ghost use Rattle.wf_turn.specs.Replayed.{Enters, IsEntryCaused, IsReplayCaused, IsReplayer, PlaysAgain, PlaysAll};
+ghost use Rattle.wf_turn.specs.Play.{same_turn};
+ghost use Rattle.wf_turn.specs.Playing.{IsCast, script_of};
+ghost use Rattle.wf_turn.specs.Replayed.{Enters, IsEntryCaused, IsReplayCaused, PlaysAgain, PlaysAll};
 ghost use Rattle.wf_turn.specs.Turns.{opening_show};
 
-use crate::replayer::Replayer;
+use crate::show::Show;
 use std::alloc::Global;
 use wf_calls::{Order, Turn};
 use wf_film::{FilmForm, Writer};
@@ -13,6 +14,9 @@ use wf_io::Sink;
 use wf_kernel::{Painter, Plain};
 use wf_script::Script;
 use wf_words::NoMemory;
+
+/// The code of an entry that lacked memory.
+const OUT_OF_MEMORY: u8 = 1;
 
 /// Why an order was not played again to its end.
 #[derive(Clone, Copy, Debug, PartialEq, Eq)]
@@ -64,9 +68,9 @@ pub fn replay_by<K: Sink, P: Painter>(
     ensures plays { PlaysAgain K.took k.old k.new form script.now order.now result }
     ensures caused { IsReplayCaused (K.faults k.old) (K.faults k.new) result }
 {
-    // The replayer stays where it was opened: it is large.
+    // The show stays where it was opened: it is large.
     write_opened(
-        &mut Replayer::open(alloc, script),
+        &mut Show::open(alloc, script),
         script,
         order,
         form,
@@ -75,23 +79,23 @@ pub fn replay_by<K: Sink, P: Painter>(
     )
 }
 
-/// Plays an order again by a script's replayer, if it was opened, and writes its film.
+/// Plays an order again by `script`'s show, if it was opened, and writes its film.
 fn write_opened<K: Sink, P: Painter>(
-    opened: &mut Result<Replayer, NoMemory>,
+    opened: &mut Result<Show, NoMemory>,
     script: &Script,
     order: &Order,
     form: FilmForm,
     k: &mut K,
     painter: &mut P,
 ) -> Result<(), ReplayStop>
-    requires opened { IfOk opened.old (λ replayer. replayer ≡ opening_show script.now) }
-    requires replayer { IfOk opened.old IsReplayer }
+    requires opened { IfOk opened.old (λ show. show ≡ opening_show script.now) }
+    requires cast { IfOk opened.old IsCast }
     requires few { length order.now < 2 ^ 32 }
     ensures plays { PlaysAgain K.took k.old k.new form script.now order.now result }
     ensures caused { IsReplayCaused (K.faults k.old) (K.faults k.new) result }
 {
     match opened {
-        Ok(replayer) => write_again(replayer, order, form, k, painter),
+        Ok(show) => write_again(show, order, form, k, painter),
         Err(_) => Err(ReplayStop::NoMemory),
     }
 }
@@ -109,28 +113,28 @@ pub(crate) enum Entered {
     NoMemory,
 }
 
-/// Writes the film of an order by a replayer that is open.
+/// Writes the film of an order by a show that is open.
 fn write_again<K: Sink, P: Painter>(
-    replayer: &mut Replayer,
+    show: &mut Show,
     order: &Order,
     form: FilmForm,
     k: &mut K,
     painter: &mut P,
 ) -> Result<(), ReplayStop>
-    requires opened { replayer.old ≡ opening_show (script_of replayer.old) }
-    requires replayer { IsReplayer replayer.old }
+    requires opened { show.old ≡ opening_show (script_of show.old) }
+    requires cast { IsCast show.old }
     requires few { length order.now < 2 ^ 32 }
-    ensures plays { PlaysAgain K.took k.old k.new form (script_of replayer.old) order.now result }
+    ensures plays { PlaysAgain K.took k.old k.new form (script_of show.old) order.now result }
     ensures caused { IsReplayCaused (K.faults k.old) (K.faults k.new) result }
 {
     let mut writer = match Writer::new(k, form) {
         Ok(writer) => writer,
         Err(_) => return Err(ReplayStop::WriteFault),
     };
-    if let Err(stop) = play_entries(replayer, order.turns(), k, &mut writer, painter) {
+    if let Err(stop) = play_entries(show, order.turns(), k, &mut writer, painter) {
         return Err(stop);
     }
-    if !replayer.is_over() {
+    if !show.is_over() {
         return Err(ReplayStop::BadEntry {
             entry: order.turns().len() as u32,
         });
@@ -143,22 +147,23 @@ fn write_again<K: Sink, P: Painter>(
 
 /// Plays all entries, and puts their frames.
 fn play_entries<K: Sink, P: Painter>(
-    replayer: &mut Replayer,
+    show: &mut Show,
     entries: &[Turn],
     k: &mut K,
     writer: &mut Writer,
     painter: &mut P,
 ) -> Result<(), ReplayStop>
-    requires replayer { IsReplayer replayer.old }
-    requires fresh { replayer.old.turns ≡ 0 }
+    requires cast { IsCast show.old }
+    requires fresh { show.old.turns ≡ 0 }
     requires few { length entries.now < 2 ^ 32 }
     requires small { writer.old.written ≤ 4 }
-    ensures plays { PlaysAll K.took k.old k.new writer.old.form replayer.old replayer.new entries.now result }
+    ensures plays { PlaysAll K.took k.old k.new writer.old.form writer.old.written writer.new.written show.old show.new entries.now
+        result }
     ensures small { OnOk result (writer.new.written < 2 ^ 62) }
     ensures caused { IsReplayCaused (K.faults k.old) (K.faults k.new) result }
 {
     for (place, entry) in entries.iter().enumerate() {
-        match play_entry(replayer, *entry, k, writer, painter) {
+        match play_entry(show, *entry, k, writer, painter) {
             Entered::Taken => {}
             Entered::NoTurn => {
                 return Err(ReplayStop::BadEntry {
@@ -172,32 +177,42 @@ fn play_entries<K: Sink, P: Painter>(
     Ok(())
 }
 
-/// Plays an entry, and puts its frame.
+/// Checks that two entries are the same.
+fn same_turn(one: Turn, other: Turn) -> bool
+    ensures { result ≡ same_turn one other }
+{
+    one.client == other.client && one.code == other.code && one.value == other.value
+}
+
+/// Plays an entry, and puts its frame. A creation that lacked memory is refused it again.
 fn play_entry<K: Sink, P: Painter>(
-    replayer: &mut Replayer,
+    show: &mut Show,
     entry: Turn,
     k: &mut K,
     writer: &mut Writer,
     painter: &mut P,
 ) -> Entered
-    requires replayer { IsReplayer replayer.old }
-    requires early { replayer.old.turns < 2 ^ 32 - 1 }
+    requires cast { IsCast show.old }
+    requires early { show.old.turns < 2 ^ 32 - 1 }
     requires few { writer.old.written < 2 ^ 62 }
-    ensures enters { Enters K.took k.old k.new writer.old.form writer.old.written
-        writer.new.written replayer.old replayer.new entry result }
+    ensures enters { Enters K.took k.old k.new writer.old.form writer.old.written writer.new.written show.old show.new entry result }
     ensures form { writer.new.form ≡ writer.old.form }
     ensures caused { IsEntryCaused (K.faults k.old) (K.faults k.new) result }
 {
-    let begin = replayer.turns();
-    let taken = match replayer.turn(entry, painter) {
-        Ok(taken) => taken,
-        Err(_) => return Entered::NoMemory,
-    };
-    let painted = match taken {
-        Some(painted) => painted,
+    let begin = show.turns();
+    let client = usize::from(entry.client);
+    let memory_refused = entry.code == OUT_OF_MEMORY;
+    let (turn, painted) = match show.turn(client, memory_refused, painter) {
+        Some(taken) => taken,
         None => return Entered::NoTurn,
     };
-    match replayer.put_frame(usize::from(entry.client), painted, begin, k, writer) {
+    if !memory_refused && turn.code == OUT_OF_MEMORY {
+        return Entered::NoMemory;
+    }
+    if !same_turn(turn, entry) {
+        return Entered::NoTurn;
+    }
+    match show.put_frame(client, painted, begin, k, writer) {
         Ok(()) => Entered::Taken,
         Err(_) => Entered::WriteFault,
     }

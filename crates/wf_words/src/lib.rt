@@ -1,4 +1,4 @@
-//! What all crates share: the words of the definitions, and the answer to want of memory.
+//! What all crates share: the words of the definitions, and the answer where memory runs out.
 #![tactic(auto)]
 
 use std::alloc::{AllocError, AllocFailed};

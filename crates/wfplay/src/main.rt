@@ -40,8 +40,8 @@ fn status_without_words(error: &io::Error) -> Status
     }
 }
 
-/// Plays, checks, prints or counts as the words ask, and tells the exit status: 0 only where all was put or the film that was checked is
-/// the same, and 2 where the words are no command, or 10 where there was no memory to read them.
+/// Plays, checks, prints or counts as the words ask, and tells the exit status: where source and sink tell their bytes, 0 only where all
+/// was put or the film that was checked is the same; and 2 where the words are no command, or 10 where there was no memory to read them.
 fn exit_of_play<R: Threads + Wait + Sync, I: Source, O: Sink, N: Sink>(
     rt: &R,
     alloc: Global,

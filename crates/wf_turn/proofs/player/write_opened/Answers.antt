@@ -9,7 +9,7 @@ use Rattle.wf_turn.proofs.player.write_opened.Goals as goal
 pub write_film-requires-clause-room : goal.write_film-requires-clause-room
 write_film-requires-clause-room g c =
     let script = c.args.script.now in
-    let opened = subst (λ r. IfOk r (λ show. show ≡ opening_show script)) c.in-Ok.is c.requires in
+    let opened = subst (λ r. IfOk r (λ show. show ≡ opening_show script)) c.in-Ok.is c.requires.opened in
     let lines = ap quota_of_all c.lines.ensures.lines in
     let room = c.in-Ok-with_capacity.ensures.capacity in
     subst (λ show. most_turns (script_of show).lines ≤ vec_capacity c.in-Ok-with_capacity.played) (sym opened)

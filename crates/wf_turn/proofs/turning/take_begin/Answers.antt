@@ -11,6 +11,7 @@ returns c =
     let p = program_of c.program.inside in
     let is : takes_job p ≡ true = subst (λ q. takes_job q ≡ true) (sym c.program.view_is) c.requires.begins in
     step_answers c.args.client c.args.machine.now c.begin-answer.new.self (call_of c.args.call.now) c.args.program.now c.took_begun.new.self
-    c.entry.result (with_job c.begin-answer.result (job_in c.begin-answer.new.place)) c.begin-answer.ensures.step
+    c.entry.result (with_job c.begin-answer.result (job_in c.begin-answer.new.place)) c.begin-answer.ensures.step.after_is
+    c.begin-answer.ensures.step.answer
     (c.took_begun.ensures ∙ took_begun p c.begin-answer.result (job_in c.begin-answer.new.place) is
     ∙ ap (λ q. took q (with_job c.begin-answer.result (job_in c.begin-answer.new.place))) c.program.view_is) c.entry.ensures
