@@ -2,6 +2,8 @@
 
 import re
 
+from lib.verbs import ATTRIBUTES, CREATIONS, VERBS, WORDS
+
 HEADER = b"WFS1"
 MOST_LINES = 16384
 MOST_SIDE = 1024
@@ -15,22 +17,6 @@ UNSIGNED = re.compile(r"[0-9]{1,10}\Z")
 NAME = re.compile(r"[a-z][a-z0-9_]{0,15}\Z")
 HEX = re.compile(r"([0-9a-fA-F]{8}){1,1024}\Z")
 
-# The attributes of each kind of object, with what stands behind them: so many numbers, or a word of this kind.
-ATTRIBUTES = {
-    "element": {"dest": 4, "srcrect": 4, "source": "handle", "mask": "handle", "filter": "filter", "transparency": "transparency",
-                "flip": 1, "rotation": 1, "alpha": 1},
-    "context": {"background": 4, "rotation": 1, "width": 1, "height": 1, "lowest": 1},
-    "port": {"background": 3, "mode": 1, "power": 1, "width": 1, "height": 1, "attached": 1},
-    "pipe": {"dest": 4, "srcrect": 4, "filter": "filter", "transparency": "transparency", "flip": 1, "rotation": 1, "alpha": 1,
-             "port": 1, "pending": 1, "showing": 1},
-}
-WORDS = {
-    "format": ("rgba", "pre", "rgbx", "a8"),
-    "stat": ("streams", "bytes"),
-    "filter": ("none", "faster", "better"),
-    "transparency": ("none", "alpha", "source", "mask", "alpha+source", "alpha+mask", "source+mask", "alpha+source+mask"),
-    "transition": ("now", "vsync"),
-}
 # The numbers of a paint: the least and the most of each, and whether it may have a sign, as all of x and y may; `pixels` is the word of
 # a row.
 COLOR = [(0, 255)] * 4
@@ -40,23 +26,6 @@ PAINTS = {
     "checker": [(1, MOST_SIDE)] + COLOR + COLOR,
     "ramp": COLOR + COLOR,
     "row": [(0, MOST_SIDE - 1, True), "pixels"],
-}
-# What stands behind each verb. `set X` is an attribute of X with its value, `get X` one with the number of a component.
-VERBS = {
-    "acquire": ["handle"], "post": [], "discard": [], "stat": ["stat"], "paint": ["paint"], "frame": ["handle", "paint"],
-    "del_stream": ["handle"], "error": ["handle"], "del_device": ["handle"], "cset": ["handle", "handle", "set context"],
-    "cget": ["handle", "handle", "get context"], "commit": ["handle"] * 2, "activate": ["handle"] * 2, "deactivate": ["handle"] * 2,
-    "compose": ["handle"] * 2, "trycompose": ["handle"] * 2, "del_context": ["handle"] * 2, "del_source": ["handle"] * 2,
-    "del_mask": ["handle"] * 2, "set": ["handle", "handle", "set element"], "get": ["handle", "handle", "get element"],
-    "insert": ["handle"] * 3, "remove": ["handle"] * 2, "above": ["handle"] * 2, "below": ["handle"] * 2,
-    "del_element": ["handle"] * 2, "pset": ["number", "set port"], "pget": ["number", "get port"], "attach": ["number"] * 2,
-    "lset": ["number", "set pipe"], "lget": ["number", "get pipe"], "lport": ["number"] * 2, "del_wsource": ["handle"],
-    "lsource": ["number", "handle", "transition"], "commit_device": [], "commit_port": ["number"], "commit_pipe": ["number"],
-    "derror": [], "tick": [],
-}
-CREATIONS = {
-    "stream": ["number", "number", "format", "number"], "device": [], "screen": ["handle", "number"], "offscreen": ["handle"] * 2,
-    "source": ["handle"] * 3, "mask": ["handle"] * 3, "element": ["handle"] * 2, "wsource": ["number", "handle"],
 }
 
 

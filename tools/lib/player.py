@@ -4,9 +4,10 @@ frames the ports show, and the film of both, piece by piece."""
 import struct
 from typing import NamedTuple
 
-from lib.grammar import ATTRIBUTES, CREATIONS, PAINTS, VERBS, is_number
+from lib.grammar import PAINTS, is_number
 from lib.model import CODES, FILTERS, FLAGS, Machine, Refusal
 from lib.pictures import Canvas, picture
+from lib.verbs import ATTRIBUTES, CREATIONS, VERBS
 
 MOST_ASKED = 16
 MAGIC = {1: b"WFF1", 2: b"WFF2"}

@@ -1,6 +1,7 @@
 """Scripts at random, with every verb: small scenes that are built up, changed and torn down, with wrong handles and numbers among them."""
 
-from lib.grammar import ATTRIBUTES, CREATIONS, PAINTS, VERBS, WORDS
+from lib.grammar import PAINTS
+from lib.verbs import ATTRIBUTES, CREATIONS, VERBS, WORDS
 
 SIDES = (1, 2, 3, 4, 5, 7)
 BUILDS = ("stream", "source", "element", "mask", "wsource")

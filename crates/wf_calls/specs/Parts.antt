@@ -6,6 +6,7 @@ use Rattle.wf_calls.specs.declared.part.Part.{Part}
 use Rattle.wf_calls.specs.declared.part.Part.TheVariants as part
 
 abbrev pub part_of : Call → Part
+-- tools/calls writes what stands from here on, from crates/calls.table
 part_of (call.StreamNew width height format buffers) = part.Streams
 part_of (call.StreamDestroy stream) = part.Streams
 part_of (call.Acquire stream) = part.Buffers
@@ -13,28 +14,28 @@ part_of (call.Post canvas) = part.Buffers
 part_of (call.Discard canvas) = part.Buffers
 part_of (call.Stat what) = part.Streams
 part_of call.DeviceNew = part.Composition 0
-part_of (call.DeviceDestroy d) = part.Composition d
-part_of (call.GetError d) = part.Composition d
-part_of (call.ScreenContext d port) = part.Composition d
-part_of (call.StreamContext d stream) = part.Composition d
-part_of (call.ContextDestroy d c) = part.Composition d
-part_of (call.ElementNew d c) = part.Composition d
-part_of (call.ElementDestroy d e) = part.Composition d
-part_of (call.SourceNew d c stream) = part.Composition d
-part_of (call.SourceDestroy d x) = part.Composition d
-part_of (call.MaskNew d c stream) = part.Composition d
-part_of (call.MaskDestroy d m) = part.Composition d
-part_of (call.ElementSet d e attr value) = part.Composition d
-part_of (call.ElementGet d e attr index) = part.Composition d
-part_of (call.ElementInsert d e below) = part.Composition d
-part_of (call.ElementRemove d e) = part.Composition d
-part_of (call.ElementAbove d e) = part.Composition d
-part_of (call.ElementBelow d e) = part.Composition d
-part_of (call.ContextSet d c attr value) = part.Composition d
-part_of (call.ContextGet d c attr index) = part.Composition d
-part_of (call.Commit d c) = part.Composition d
-part_of (call.Activate d c) = part.Composition d
-part_of (call.Deactivate d c) = part.Composition d
+part_of (call.DeviceDestroy device) = part.Composition device
+part_of (call.GetError device) = part.Composition device
+part_of (call.ScreenContext device port) = part.Composition device
+part_of (call.StreamContext device stream) = part.Composition device
+part_of (call.ContextDestroy device context) = part.Composition device
+part_of (call.ElementNew device context) = part.Composition device
+part_of (call.ElementDestroy device element) = part.Composition device
+part_of (call.SourceNew device context stream) = part.Composition device
+part_of (call.SourceDestroy device source) = part.Composition device
+part_of (call.MaskNew device context stream) = part.Composition device
+part_of (call.MaskDestroy device mask) = part.Composition device
+part_of (call.ElementSet device element attr value) = part.Composition device
+part_of (call.ElementGet device element attr index) = part.Composition device
+part_of (call.ElementInsert device element below) = part.Composition device
+part_of (call.ElementRemove device element) = part.Composition device
+part_of (call.ElementAbove device element) = part.Composition device
+part_of (call.ElementBelow device element) = part.Composition device
+part_of (call.ContextSet device context attr value) = part.Composition device
+part_of (call.ContextGet device context attr index) = part.Composition device
+part_of (call.Commit device context) = part.Composition device
+part_of (call.Activate device context) = part.Composition device
+part_of (call.Deactivate device context) = part.Composition device
 part_of (call.PortSet port attr value) = part.Display
 part_of (call.PortGet port attr index) = part.Display
 part_of (call.Attach port on) = part.Display
@@ -50,8 +51,10 @@ part_of (call.CommitPipe pipe) = part.Display
 part_of call.DisplayError = part.Display
 part_of (call.BeginNext after) = part.Begin None
 part_of (call.BeginPort port) = part.Begin None
-part_of (call.BeginContext d c) = part.Begin (Some d)
+part_of (call.BeginContext device context) = part.Begin (Some device)
 part_of (call.End job) = part.End
+
+-- tools/calls writes what stands up to here
 
 -- a call of composition
 abbrev pub is_of_core : Part → Bool

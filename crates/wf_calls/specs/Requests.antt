@@ -1,4 +1,4 @@
--- A call that brings nothing, as the call that it is.
+-- A call that brings nothing, as the call that it is. tools/calls writes this file.
 use Rattle.std.specs.Prelude.{Bool, true, false}
 use Rattle.wf_calls.specs.declared.call.Call.{Call}
 use Rattle.wf_calls.specs.declared.call.Call.TheVariants as call
@@ -52,7 +52,49 @@ call_of (request.BeginContext device context) = call.BeginContext device context
 
 -- a call that brings a write buffer or a Job
 abbrev pub brings : Call → Bool
+brings (call.StreamNew width height format buffers) = false
+brings (call.StreamDestroy stream) = false
+brings (call.Acquire stream) = false
 brings (call.Post canvas) = true
 brings (call.Discard canvas) = true
+brings (call.Stat what) = false
+brings call.DeviceNew = false
+brings (call.DeviceDestroy device) = false
+brings (call.GetError device) = false
+brings (call.ScreenContext device port) = false
+brings (call.StreamContext device stream) = false
+brings (call.ContextDestroy device context) = false
+brings (call.ElementNew device context) = false
+brings (call.ElementDestroy device element) = false
+brings (call.SourceNew device context stream) = false
+brings (call.SourceDestroy device source) = false
+brings (call.MaskNew device context stream) = false
+brings (call.MaskDestroy device mask) = false
+brings (call.ElementSet device element attr value) = false
+brings (call.ElementGet device element attr index) = false
+brings (call.ElementInsert device element below) = false
+brings (call.ElementRemove device element) = false
+brings (call.ElementAbove device element) = false
+brings (call.ElementBelow device element) = false
+brings (call.ContextSet device context attr value) = false
+brings (call.ContextGet device context attr index) = false
+brings (call.Commit device context) = false
+brings (call.Activate device context) = false
+brings (call.Deactivate device context) = false
+brings (call.PortSet port attr value) = false
+brings (call.PortGet port attr index) = false
+brings (call.Attach port on) = false
+brings (call.PipeSet pipe attr value) = false
+brings (call.PipeGet pipe attr index) = false
+brings (call.PipeBindPort pipe port) = false
+brings (call.DisplaySource pipe stream) = false
+brings (call.DisplaySourceDestroy source) = false
+brings (call.PipeBindSource pipe source transition) = false
+brings call.CommitDevice = false
+brings (call.CommitPort port) = false
+brings (call.CommitPipe pipe) = false
+brings call.DisplayError = false
+brings (call.BeginNext after) = false
+brings (call.BeginPort port) = false
+brings (call.BeginContext device context) = false
 brings (call.End job) = true
-brings _ = false

@@ -39,6 +39,7 @@ pub struct Job {
 /// Handles are those that the creations answered; 0 is none.
 #[derive(Drop)]
 pub enum Call {
+    // tools/calls writes what stands from here on, from crates/calls.table
     /// Makes a stream of 2 to 4 buffers, each an image of this size and format with sides from 1 to 1024.
     StreamNew {
         width: i64,
@@ -259,4 +260,5 @@ pub enum Call {
     },
     /// Ends the running frame.
     End(Job),
+    // tools/calls writes what stands up to here
 }

@@ -1,4 +1,4 @@
-//! The calls that make an object.
+//! The calls that make an object. tools/calls writes this file.
 
 ghost use Rattle.std.specs.Prelude.{◌≡◌};
 ghost use Rattle.wf_calls.specs.Creations.{is_creation};

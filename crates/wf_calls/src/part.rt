@@ -30,9 +30,9 @@ impl Request {
         ensures { result ≡ part_of (call_of self.now) }
     {
         match self {
-            Request::StreamNew { .. } | Request::StreamDestroy { .. } | Request::Stat { .. } => {
-                Part::Streams
-            }
+            // tools/calls writes what stands from here on, from crates/calls.table
+            Request::StreamNew { .. } | Request::StreamDestroy { .. } | Request::Stat { .. } =>
+                Part::Streams,
             Request::Acquire { .. } => Part::Buffers,
             Request::DeviceNew => Part::Composition { device: 0 },
             Request::DeviceDestroy { device }
@@ -74,6 +74,7 @@ impl Request {
             Request::BeginContext { device, .. } => Part::Begin {
                 device: Some(*device),
             },
+            // tools/calls writes what stands up to here
         }
     }
 

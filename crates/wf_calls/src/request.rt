@@ -1,4 +1,4 @@
-//! Calls that bring nothing.
+//! Calls that bring nothing. tools/calls writes this file.
 
 ghost use Rattle.std.specs.Prelude.{◌≡◌, MatchOption, true};
 ghost use Rattle.wf_calls.specs.Requests.{brings, call_of};

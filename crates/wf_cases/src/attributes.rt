@@ -1,9 +1,9 @@
-//! Attributes and their values, as words of a call.
+//! Attributes, from their words in scripts. tools/calls writes this file.
 
-use crate::words::{number, word};
+use crate::words::word;
 use wf_scene::{ContextAttr, ElementAttr};
 
-/// An attribute of an element, from its word in scripts.
+/// The `ElementAttr` of the word at a place, or the last one where it is none of its words.
 pub fn element_attr(words: &[&str], at: usize) -> ElementAttr {
     match word(words, at) {
         "dest" => ElementAttr::Dest,
@@ -18,7 +18,7 @@ pub fn element_attr(words: &[&str], at: usize) -> ElementAttr {
     }
 }
 
-/// An attribute of a context, from its word in scripts.
+/// The `ContextAttr` of the word at a place, or the last one where it is none of its words.
 pub fn context_attr(words: &[&str], at: usize) -> ContextAttr {
     match word(words, at) {
         "rotation" => ContextAttr::Rotation,
@@ -27,15 +27,4 @@ pub fn context_attr(words: &[&str], at: usize) -> ContextAttr {
         "height" => ContextAttr::Height,
         _ => ContextAttr::Lowest,
     }
-}
-
-/// The value of an attribute, from up to four words. A number for which there is none is 0.
-pub fn value(words: &[&str], at: usize) -> [i64; 4] {
-    let at = at.min(10_000);
-    [
-        number(words, at),
-        number(words, at + 1),
-        number(words, at + 2),
-        number(words, at + 3),
-    ]
 }

@@ -9,7 +9,7 @@ mod pixels;
 mod scenes;
 mod words;
 
-pub use attributes::{context_attr, element_attr, value};
+pub use attributes::{context_attr, element_attr};
 pub use escapes::bytes_of;
 pub use pixels::{color, format, rect, size, told_bytes, transparency, turn};
 pub use scenes::{told_layer, told_scene};
@@ -17,7 +17,7 @@ use std::alloc::{AllocError, Global};
 use std::process::ExitCode;
 use std::rt::{Env, Files};
 use std::{env, fs, io};
-pub use words::{number, word, words_of};
+pub use words::{number, value, word, words_of};
 
 /// What the calls of a file are made on.
 pub trait Stage: Drop {

@@ -20,3 +20,14 @@ where
 {
     word(words, at).parse::<N>().ok().unwrap_or(N::default())
 }
+
+/// The value of an attribute, from up to four words. A number for which there is none is 0.
+pub fn value(words: &[&str], at: usize) -> [i64; 4] {
+    let at = at.min(10_000);
+    [
+        number(words, at),
+        number(words, at + 1),
+        number(words, at + 2),
+        number(words, at + 3),
+    ]
+}

@@ -14,9 +14,9 @@ use wf_stream::Store;
 pub(crate) fn try_set_active(
     objects: &mut Objects,
     store: &Store,
+    active: bool,
     device: u32,
     context: u32,
-    active: bool,
 ) -> Result<u32, Refusal>
     requires { Fits objects.old store.now }
     ensures { Does (λ _. set_active active device context) objects.old objects.new store.now store.now result }
@@ -32,7 +32,7 @@ impl Core {
         requires { Fits self.old store.old }
         ensures { Steps device (λ _. activate device context) KeepsAll self.old self.new store.old store.new result }
     {
-        let done = try_set_active(&mut self.objects, store, device, context, true);
+        let done = try_set_active(&mut self.objects, store, true, device, context);
         reply(&mut self.objects, store, device, done)
     }
 
@@ -41,7 +41,7 @@ impl Core {
         requires { Fits self.old store.old }
         ensures { Steps device (λ _. deactivate device context) KeepsAll self.old self.new store.old store.new result }
     {
-        let done = try_set_active(&mut self.objects, store, device, context, false);
+        let done = try_set_active(&mut self.objects, store, false, device, context);
         reply(&mut self.objects, store, device, done)
     }
 }

@@ -5,7 +5,8 @@ ghost use Rattle.wf_pixel.specs.Choice.{is_between};
 ghost use Rattle.wf_calls.specs.Creations.{is_creation};
 ghost use Rattle.wf_calls.specs.Parts.{device_of, is_of_core, part_of};
 ghost use Rattle.wf_calls.specs.Requests.{call_of};
-ghost use Rattle.wf_model.specs.Core.{core_call, element_new, screen_context, stream_context};
+ghost use Rattle.wf_model.specs.Core.{device_new, element_new, screen_context, stream_context};
+ghost use Rattle.wf_model.specs.Calls.{core_call};
 ghost use Rattle.wf_model.specs.Fitting.{IsOfPixels};
 ghost use Rattle.wf_core.specs.Links.{link_new};
 ghost use Rattle.wf_core.specs.Steps.{IsGiven, KeepsAll, Steps};
@@ -16,12 +17,21 @@ use crate::answers::reply;
 use crate::composition::Core;
 use crate::contexts::{screen_target, stream_target};
 use crate::sources::linked_stream;
+use crate::table::deny;
 use wf_calls::{Refusal, Reply, Request};
 use wf_objects::Objects;
 use wf_stream::Store;
 
+/// The refusal of a new device, for which there is no memory.
+pub(crate) fn deny_device_new(objects: &Objects, store: &Store) -> Result<u32, Refusal>
+    requires { Fits objects.now store.now }
+    ensures { Does (λ _. device_new true) objects.now objects.now store.now store.now result }
+{
+    Err(objects.deny_device(store))
+}
+
 /// The refusal of a new context of a port's screen, for which there is no memory.
-fn deny_screen_context(
+pub(crate) fn deny_screen_context(
     objects: &Objects,
     store: &Store,
     device: u32,
@@ -40,7 +50,7 @@ fn deny_screen_context(
 }
 
 /// The refusal of a new context that draws into a stream, for which there is no memory.
-fn deny_stream_context(
+pub(crate) fn deny_stream_context(
     objects: &Objects,
     store: &Store,
     device: u32,
@@ -56,7 +66,12 @@ fn deny_stream_context(
 }
 
 /// The refusal of a new element, for which there is no memory.
-fn deny_element(objects: &Objects, store: &Store, device: u32, context: u32) -> Result<u32, Refusal>
+pub(crate) fn deny_element_new(
+    objects: &Objects,
+    store: &Store,
+    device: u32,
+    context: u32,
+) -> Result<u32, Refusal>
     requires { Fits objects.now store.now }
     ensures { Does (λ _. element_new device context true) objects.now objects.now store.now store.now result }
 {
@@ -65,7 +80,7 @@ fn deny_element(objects: &Objects, store: &Store, device: u32, context: u32) -> 
 }
 
 /// The refusal of a new source or mask, for which there is no memory.
-fn deny_link(
+pub(crate) fn deny_link(
     objects: &Objects,
     store: &Store,
     mask: bool,
@@ -79,42 +94,6 @@ fn deny_link(
     match linked_stream(objects, store, mask, device, context, stream) {
         Ok(_) => Err(objects.deny_link(store)),
         Err(refusal) => Err(refusal),
-    }
-}
-
-/// The refusal of a creation for which there is no memory.
-fn deny(
-    objects: &Objects,
-    store: &Store,
-    call: &Request,
-    screen: Option<u32>,
-) -> Result<u32, Refusal>
-    requires fits { Fits objects.now store.now }
-    requires creation { IsTrue (is_creation (call_of call.now)) }
-    requires ours { IsTrue (is_of_core (part_of (call_of call.now))) }
-    requires given { IsGiven (call_of call.now) screen store.now.streams }
-    ensures { Does (λ _. core_call screen true (call_of call.now)) objects.now objects.now store.now store.now result }
-{
-    match call {
-        Request::DeviceNew => Err(objects.deny_device(store)),
-        Request::ScreenContext { device, port } => {
-            deny_screen_context(objects, store, *device, *port, screen)
-        }
-        Request::StreamContext { device, stream } => {
-            deny_stream_context(objects, store, *device, *stream)
-        }
-        Request::ElementNew { device, context } => deny_element(objects, store, *device, *context),
-        Request::SourceNew {
-            device,
-            context,
-            stream,
-        } => deny_link(objects, store, false, *device, *context, *stream),
-        Request::MaskNew {
-            device,
-            context,
-            stream,
-        } => deny_link(objects, store, true, *device, *context, *stream),
-        _ => unreachable!(),
     }
 }
 

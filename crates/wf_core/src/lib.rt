@@ -12,6 +12,7 @@ mod elements;
 mod running;
 mod sources;
 mod streams;
+mod table;
 
 pub use composition::Core;
 pub use wf_objects::Shown;

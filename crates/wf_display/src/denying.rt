@@ -4,7 +4,7 @@ ghost use Rattle.std.specs.Prelude.{◌≡◌, IsTrue, true};
 ghost use Rattle.wf_calls.specs.Creations.{is_creation};
 ghost use Rattle.wf_calls.specs.Parts.{part_of};
 ghost use Rattle.wf_calls.specs.Requests.{call_of};
-ghost use Rattle.wf_model.specs.DisplayCalls.{display_call};
+ghost use Rattle.wf_model.specs.Calls.{display_call};
 ghost use Rattle.wf_model.specs.Pipelines.{display_source};
 ghost use Rattle.wf_display.specs.Does.{Does, KeepsAll, Steps};
 ghost use Rattle.wf_display.specs.Fits.{Fits};
@@ -16,7 +16,12 @@ use wf_stream::Store;
 
 impl Display {
     /// The refusal of a new source of a pipeline, for which there is no memory.
-    fn deny_display_source(&self, store: &Store, pipe: i64, stream: u32) -> Result<u32, Refusal>
+    pub(crate) fn deny_display_source(
+        &self,
+        store: &Store,
+        pipe: i64,
+        stream: u32,
+    ) -> Result<u32, Refusal>
         requires { Fits self.now store.now }
         ensures { Does (λ _. display_source pipe stream true) self.now self.now store.now store.now result }
     {
@@ -36,12 +41,7 @@ impl Display {
         requires ours { part_of (call_of call.now) ≡ Part.Display }
         ensures { Steps (λ _. display_call true (call_of call.now)) KeepsAll self.old self.new store.now store.now result }
     {
-        let denied = match call {
-            Request::DisplaySource { pipe, stream } => {
-                self.deny_display_source(store, *pipe, *stream)
-            }
-            _ => unreachable!(),
-        };
+        let denied = self.denied(store, call);
         Reply::bare(self.answer(store, denied))
     }
 }

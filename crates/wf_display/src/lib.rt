@@ -14,6 +14,7 @@ mod ports;
 mod running;
 mod scenes;
 mod sources;
+mod table;
 
 pub use display::Display;
 pub use wf_words::NoMemory;

@@ -1,4 +1,4 @@
-//! Every call of the display, by one table.
+//! Every call of the display, by the table of calls.
 
 ghost use Rattle.std.specs.Prelude.{◌≡◌};
 ghost use Rattle.wf_stream.specs.Names.{HasRoom, NamesFit};
@@ -6,7 +6,8 @@ ghost use Rattle.wf_calls.specs.Parts.{part_of};
 ghost use Rattle.wf_calls.specs.Replies.{bare};
 ghost use Rattle.wf_calls.specs.Requests.{call_of};
 ghost use Rattle.wf_model.specs.Core.{register_number};
-ghost use Rattle.wf_model.specs.DisplayCalls.{display_call, display_error};
+ghost use Rattle.wf_model.specs.Calls.{display_call};
+ghost use Rattle.wf_model.specs.Registers.{display_error};
 ghost use Rattle.wf_model.specs.DisplaySides.{on_display};
 ghost use Rattle.wf_model.specs.Names.{display_names};
 ghost use Rattle.wf_display.specs.Does.{Does, KeepsAll, Steps};
@@ -15,7 +16,6 @@ ghost use Rattle.wf_display.specs.Sides.{KeepsRest};
 
 use crate::display::Display;
 use wf_calls::{Answer, Code, Part, Refusal, Reply, Request};
-use wf_model::Extent;
 use wf_stream::Store;
 
 /// The number of a code in the register, 0 for an empty one.
@@ -45,48 +45,6 @@ impl Display {
     {
         let done = self.try_display_error(store);
         Reply::bare(self.answer(store, done))
-    }
-
-    /// Carries a call of the display out, or refuses it.
-    fn carry_out(&mut self, store: &mut Store, call: &Request) -> Result<u32, Refusal>
-        requires fits { Fits self.old store.old }
-        requires names { NamesFit (display_names self.old) store.old }
-        requires room { HasRoom store.old }
-        requires ours { part_of (call_of call.now) ≡ Part.Display }
-        ensures { Does (λ m. display_call m (call_of call.now)) self.old self.new store.old store.new result }
-    {
-        match call {
-            Request::PortSet { port, attr, value } => self.try_port_set(
-                store, *port, *attr, *value,
-            ),
-            Request::PortGet { port, attr, index } => self.try_port_get(
-                store, *port, *attr, *index,
-            ),
-            Request::Attach { port, on } => self.try_attach(store, *port, *on),
-            Request::PipeSet { pipe, attr, value } => self.try_pipe_set(
-                store, *pipe, *attr, *value,
-            ),
-            Request::PipeGet { pipe, attr, index } => self.try_pipe_get(
-                store, *pipe, *attr, *index,
-            ),
-            Request::PipeBindPort { pipe, port } => self.try_pipe_bind_port(store, *pipe, *port),
-            Request::DisplaySource { pipe, stream } => self.try_display_source(
-                store, *pipe, *stream,
-            ),
-            Request::DisplaySourceDestroy { source } => {
-                self.try_display_source_destroy(store, *source)
-            }
-            Request::PipeBindSource {
-                pipe,
-                source,
-                transition,
-            } => self.try_pipe_bind_source(store, *pipe, *source, *transition),
-            Request::CommitDevice => self.try_commit(store, Extent::Device),
-            Request::CommitPort { port } => self.try_commit_port(store, *port),
-            Request::CommitPipe { pipe } => self.try_commit_pipe(store, *pipe),
-            Request::DisplayError => self.try_display_error(store),
-            _ => unreachable!(),
-        }
     }
 
     /// Runs a call of the display: it does and answers what the method of its name does.

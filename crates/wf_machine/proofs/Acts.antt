@@ -15,7 +15,7 @@ use Rattle.wf_calls.specs.declared.reply.Payload.{Payload}
 use Rattle.wf_calls.specs.declared.reply.Payload.TheVariants as payload
 use Rattle.wf_model.specs.Composition.{core_answer}
 use Rattle.wf_model.specs.Composing.{composed, core_side, with_side}
-use Rattle.wf_model.specs.Core.{core_call}
+use Rattle.wf_model.specs.Calls.{core_call, display_call}
 use Rattle.wf_calls.specs.Parts.{device_of, is_of_core, of_core, part_of}
 use Rattle.wf_calls.specs.declared.reply.Answer.{Answer}
 use Rattle.wf_calls.specs.Replies.{told, with_job}
@@ -25,7 +25,6 @@ use Rattle.std.proofs.lemmas.List.Sums.{length-filter}
 use Rattle.wf_life.specs.Handles.{same_kind}
 use Rattle.wf_life.specs.Living.{of_kind}
 use Rattle.wf_model.specs.Composing.{display_side, displayed, with_display_side}
-use Rattle.wf_model.specs.DisplayCalls.{display_call}
 use Rattle.wf_model.specs.DisplaySides.{display_answer}
 use Rattle.wf_model.specs.Kept.{modes_in, modes_stay}
 use Rattle.wf_objects.specs.Fits.{mask_live, source_live}

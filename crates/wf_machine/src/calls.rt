@@ -1,7 +1,7 @@
 //! A call, and what it does.
 
-ghost use Rattle.std.specs.Prelude.{◌≡◌, IsTrue, IfSome, IsSome, MatchOption, None};
-ghost use Rattle.wf_calls.specs.Parts.{carries, is_begin, is_of_core, part_of};
+ghost use Rattle.std.specs.Prelude.{◌≡◌, IsTrue, IfSome, IsSome, MatchOption};
+ghost use Rattle.wf_calls.specs.Parts.{carries, is_of_core, part_of};
 ghost use Rattle.wf_calls.specs.Places.{job_in};
 ghost use Rattle.wf_calls.specs.Replies.{bare, with_canvas, with_job};
 ghost use Rattle.wf_calls.specs.Requests.{call_of};
@@ -25,25 +25,6 @@ impl Parts {
         }
     }
 
-    /// Does what a call on streams asks for.
-    fn act_on_streams(&mut self, call: &Request) -> Answer
-        requires { part_of (call_of call.now) ≡ Part.Streams }
-        ensures { IsAct self.old (call_of call.now) self.new (bare result) }
-    {
-        self.all_named();
-        match call {
-            Request::StreamNew {
-                width,
-                height,
-                format,
-                buffers,
-            } => self.stream_new(*width, *height, *format, *buffers),
-            Request::StreamDestroy { stream } => self.stream_destroy(*stream),
-            Request::Stat { what } => self.stat(*what),
-            _ => unreachable!(),
-        }
-    }
-
     /// Does what a call of composition asks for.
     fn act_on_objects(&mut self, call: &Request) -> Answer
         requires { IsTrue (is_of_core (part_of (call_of call.now))) }
@@ -63,22 +44,6 @@ impl Parts {
         self.core.few_names();
         self.display.few_names();
         self.display.run(&mut self.store, call)
-    }
-
-    /// Begins the frame that a call asks for. Its Job is put in a place that holds none.
-    pub(crate) fn act_begin(&mut self, call: &Request, place: &mut JobPlace) -> Answer
-        requires begins { IsTrue (is_begin (call_of call.now)) }
-        requires empty { job_in place.old ≡ None }
-        ensures { IsAct self.old (call_of call.now) self.new (with_job result (job_in place.new)) }
-    {
-        match call {
-            Request::BeginNext { after } => self.begin_next(*after, place),
-            Request::BeginPort { port } => self.begin_port(*port, place),
-            Request::BeginContext { device, context } => self.begin_composed(
-                *device, *context, place,
-            ),
-            _ => unreachable!(),
-        }
     }
 
     /// Ends the frame of the Job in a place.

@@ -3,12 +3,11 @@
 ghost use Rattle.std.specs.Prelude.{◌≡◌, IsTrue, true};
 ghost use Rattle.wf_calls.specs.Creations.{is_creation};
 ghost use Rattle.wf_calls.specs.Parts.{is_of_core, part_of};
-ghost use Rattle.wf_calls.specs.Replies.{bare};
 ghost use Rattle.wf_calls.specs.Requests.{call_of};
 ghost use Rattle.wf_machine.specs.Object.{IsMarkedAct};
 
 use crate::parts::Parts;
-use wf_calls::{Answer, Part, Reply, Request};
+use wf_calls::{Part, Reply, Request};
 
 impl Parts {
     /// Refuses a creation for which there is no memory, by OutOfMemory where no other refusal meets it.
@@ -20,24 +19,7 @@ impl Parts {
             Part::Streams => Reply::bare(self.deny_on_streams(call)),
             Part::Composition { .. } => self.deny_on_objects(call),
             Part::Display => self.deny_on_display(call),
-            _ => unreachable!(),
-        }
-    }
-
-    /// Refuses the creation of a stream.
-    fn deny_on_streams(&self, call: &Request) -> Answer
-        requires creation { IsTrue (is_creation (call_of call.now)) }
-        requires ours { part_of (call_of call.now) ≡ Part.Streams }
-        ensures { IsMarkedAct true self.now (call_of call.now) self.now (bare result) }
-    {
-        self.all_named();
-        match call {
-            Request::StreamNew {
-                width,
-                height,
-                format,
-                buffers,
-            } => self.deny_stream(*width, *height, *format, *buffers),
+            // No other part makes anything, as the proof shows.
             _ => unreachable!(),
         }
     }

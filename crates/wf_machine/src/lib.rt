@@ -16,6 +16,7 @@ mod port;
 mod replies;
 mod screens;
 mod streams;
+mod table;
 
 pub use laws::{frames_are_left_alone, frames_take_each_image_once};
 pub use machine::Machine;

@@ -169,6 +169,7 @@ impl Machine {
             Call::Post(canvas) => with_canvas(self.post(client, canvas)),
             Call::Discard(canvas) => with_canvas(self.discard(client, canvas)),
             Call::End(job) => self.run_end(client, job),
+            // Nothing else is brought, as the proof shows.
             _ => unreachable!(),
         }
     }

@@ -22,7 +22,8 @@ use Rattle.wf_model.specs.Composition.{context, device}
 use Rattle.wf_model.specs.Frames.{Beginning, all_begun, begin_composed, begin_context, begin_lit, begin_next, begin_port, begin_shown}
 use Rattle.wf_model.specs.Frames.{context_beginning, is_running}
 use Rattle.wf_model.specs.Frames.{next_context}
-use Rattle.wf_model.specs.Frames.{port_beginning, start, started, target_ready, begin_call}
+use Rattle.wf_model.specs.Frames.{port_beginning, start, started, target_ready}
+use Rattle.wf_model.specs.Calls.{begin_call}
 use Rattle.wf_model.specs.Objects.{Context, Device}
 use Rattle.wf_model.specs.Outcome.{refuse}
 use Rattle.wf_model.specs.Registers.{offered}

@@ -21,8 +21,6 @@ use Rattle.wf_scene.specs.declared.Scene.{Scene}
 use Rattle.wf_scene.specs.Values.{component, is_count}
 use Rattle.wf_scene.specs.Cached as cached
 use Rattle.wf_scene.specs.Consistent.{consistent}
-use Rattle.wf_calls.specs.declared.call.Call.{Call}
-use Rattle.wf_calls.specs.declared.call.Call.TheVariants as call
 use Rattle.wf_calls.specs.declared.code.Code.{Code}
 use Rattle.wf_calls.specs.declared.code.Code.TheVariants as code
 use Rattle.wf_calls.specs.declared.reply.Refusal.{Refusal}
@@ -331,31 +329,3 @@ abbrev pub device_destroy : ℕ → CoreSide → Outcome CoreSide
 device_destroy d w = do
   _ ← device d w
   Ok (record w { core = without_device d w.core }, 0)
-
--- what a call of composition does; screen is the stream of the screen that a call asks for, where its port was declared,
--- and memory_refused marks a creation for which there is no memory. A call of another part does nothing here.
-abbrev pub core_call : Option ℕ → Bool → Call → CoreSide → Outcome CoreSide
-core_call screen memory_refused call.DeviceNew = device_new memory_refused
-core_call screen memory_refused (call.DeviceDestroy d) = device_destroy d
-core_call screen memory_refused (call.GetError d) = get_error d
-core_call screen memory_refused (call.ScreenContext d port) = screen_context d port screen memory_refused
-core_call screen memory_refused (call.StreamContext d stream) = stream_context d stream memory_refused
-core_call screen memory_refused (call.ContextDestroy d c) = context_destroy d c
-core_call screen memory_refused (call.ElementNew d c) = element_new d c memory_refused
-core_call screen memory_refused (call.ElementDestroy d e) = element_destroy d e
-core_call screen memory_refused (call.SourceNew d c stream) = source_new d c stream memory_refused
-core_call screen memory_refused (call.SourceDestroy d x) = source_destroy d x
-core_call screen memory_refused (call.MaskNew d c stream) = mask_new d c stream memory_refused
-core_call screen memory_refused (call.MaskDestroy d m) = mask_destroy d m
-core_call screen memory_refused (call.ElementSet d e attr value) = element_set d e attr value
-core_call screen memory_refused (call.ElementGet d e attr index) = element_get d e attr index
-core_call screen memory_refused (call.ElementInsert d e below) = element_insert d e below
-core_call screen memory_refused (call.ElementRemove d e) = element_remove d e
-core_call screen memory_refused (call.ElementAbove d e) = element_above d e
-core_call screen memory_refused (call.ElementBelow d e) = element_below d e
-core_call screen memory_refused (call.ContextSet d c attr value) = context_set d c attr value
-core_call screen memory_refused (call.ContextGet d c attr index) = context_get d c attr index
-core_call screen memory_refused (call.Commit d c) = commit d c
-core_call screen memory_refused (call.Activate d c) = activate d c
-core_call screen memory_refused (call.Deactivate d c) = deactivate d c
-core_call screen memory_refused _ = λ w. Ok (w, 0)

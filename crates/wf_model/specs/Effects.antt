@@ -23,7 +23,7 @@ use Rattle.wf_calls.specs.declared.reply.Reply.{Reply}
 use Rattle.wf_model.specs.Beginnings.{composed_is, next_free, port_is}
 use Rattle.wf_model.specs.Composing.{composed, core_side, display_side, displayed, screen_of}
 use Rattle.wf_model.specs.Composition.{CoreSide, live_stream}
-use Rattle.wf_model.specs.DisplayCalls.{display_call}
+use Rattle.wf_model.specs.Calls.{begin_call, buffer_call, core_call, display_call, end_call, stream_call}
 use Rattle.wf_model.specs.DisplaySides.{DisplaySide}
 use Rattle.wf_model.specs.Pipelines.{may_bind, pipeline_styled}
 use Rattle.wf_model.specs.Ports.{port_styled}
@@ -38,15 +38,15 @@ use Rattle.wf_scene.specs.declared.attributes.Refused.{Refused}
 use Rattle.wf_scene.specs.declared.attributes.Refused.TheVariants as scene
 use Rattle.wf_scene.specs.declared.look.Fault.{Fault}
 use Rattle.wf_scene.specs.Values.{is_count}
-use Rattle.wf_model.specs.Core.{by_scene, checked_source, core_call, fault_as_refusal, linked}
-use Rattle.wf_model.specs.Frames.{Beginning, begin_call, begin_context, begin_lit, begin_shown, end, end_frame, is_of_frame, is_running}
+use Rattle.wf_model.specs.Core.{by_scene, checked_source, fault_as_refusal, linked}
+use Rattle.wf_model.specs.Frames.{Beginning, begin_context, begin_lit, begin_shown, end, end_frame, is_of_frame, is_running}
 use Rattle.wf_model.specs.Frames.{start}
 use Rattle.wf_model.specs.Frames.{started}
 use Rattle.wf_model.specs.Objects.{Context, CoreState, Source}
 use Rattle.wf_model.specs.Outcome.{Leaves, Outcome, behind, found, refuse_with}
 use Rattle.wf_model.specs.Registers.{offered}
 use Rattle.wf_model.specs.State.{DisplayState, Port, Running, State}
-use Rattle.wf_model.specs.Step.{act}
+use Rattle.wf_model.specs.Step.{act, act_of}
 use Rattle.wf_model.specs.Streams as streams
 use Rattle.wf_calls.specs.declared.part.Part.{Part}
 
@@ -325,37 +325,44 @@ begin_effect h c register own free = of_beginning (begin_call c h) refl (begin_i
     of_beginning (Ok (Some b)) is honest = begins b (free b is) is refl
     of_beginning (Err r) is honest = refuses_so h c (offered register r.code h, bare (refused r)) register r own honest refl
 
+-- what each part does is of one of these kinds
+
+of_streams : (h : State) (c : Call) (m : Bool) → register_of c ≡ no_register → Effect h c (stream_call m c h)
+of_streams h (call.StreamNew width height f buffers) m none =
+    new_effect h (call.StreamNew width height f buffers) none width height buffers f m
+of_streams h (call.StreamDestroy stream) m none = destroy_effect h (call.StreamDestroy stream) none stream
+of_streams h (call.Stat what) m none = tells (streams.stat what (held h.streams)) refl
+of_streams h _ m none = tells 0 refl
+
+of_buffers : (h : State) (c : Call) → register_of c ≡ no_register → Effect h c (buffer_call c h)
+of_buffers h (call.Acquire stream) none = acquire_effect h (call.Acquire stream) none stream
+of_buffers h (call.Post canvas) none = return_effect h (call.Post canvas) none canvas (posted canvas.image) (inl refl)
+of_buffers h (call.Discard canvas) none = return_effect h (call.Discard canvas) none canvas discarded (inr refl)
+of_buffers h _ none = tells 0 refl
+
+of_begin : (h : State) (c : Call) (register : Register) → register_of c ≡ register → Effect h c (started register h (begin_call c h))
+of_begin h (call.BeginNext after) register own = begin_effect h (call.BeginNext after) register own (next_free after h)
+of_begin h (call.BeginPort port) register own = begin_effect h (call.BeginPort port) register own (λ b is. (port_is port h b is).free)
+of_begin h (call.BeginContext d c) register own =
+    begin_effect h (call.BeginContext d c) register own (λ b is. (composed_is d c h b is).free)
+of_begin h _ register own = tells 0 refl
+
+of_end : (h : State) (c : Call) → register_of c ≡ no_register → Effect h c (end_call c h)
+of_end h (call.End job) none = end_effect h (call.End job) none job refl
+of_end h _ none = tells 0 refl
+
 -- each call is of one of these kinds
 pub effect : (h : State) (c : Call) (m : Bool) → Effect h c (act h c m)
 unfolding act
-effect h (call.StreamNew width height f buffers) m = new_effect h (call.StreamNew width height f buffers) refl width height buffers f m
-effect h (call.StreamDestroy stream) m = destroy_effect h (call.StreamDestroy stream) refl stream
-effect h (call.Acquire stream) m = acquire_effect h (call.Acquire stream) refl stream
-effect h (call.Post canvas) m = return_effect h (call.Post canvas) refl canvas (posted canvas.image) (inl refl)
-effect h (call.Discard canvas) m = return_effect h (call.Discard canvas) refl canvas discarded (inr refl)
-effect h (call.Stat what) m = tells (streams.stat what (held h.streams)) refl
-effect h (call.BeginNext after) m =
-    begin_effect h (call.BeginNext after) no_register refl (next_free after h)
-effect h (call.BeginPort port) m =
-    begin_effect h (call.BeginPort port) no_register refl (λ b is. (port_is port h b is).free)
-effect h (call.BeginContext d c) m =
-    begin_effect h (call.BeginContext d c) (of_device d) refl (λ b is. (composed_is d c h b is).free)
-effect h (call.End job) m = end_effect h (call.End job) refl job refl
-effect h (call.PortSet port a value) m = displayed_effect h (call.PortSet port a value) m refl
-effect h (call.PortGet port a index) m = displayed_effect h (call.PortGet port a index) m refl
-effect h (call.Attach port on) m = displayed_effect h (call.Attach port on) m refl
-effect h (call.PipeSet pipe a value) m = displayed_effect h (call.PipeSet pipe a value) m refl
-effect h (call.PipeGet pipe a index) m = displayed_effect h (call.PipeGet pipe a index) m refl
-effect h (call.PipeBindPort pipe port) m = displayed_effect h (call.PipeBindPort pipe port) m refl
-effect h (call.DisplaySource pipe stream) m = displayed_effect h (call.DisplaySource pipe stream) m refl
-effect h (call.DisplaySourceDestroy source) m = displayed_effect h (call.DisplaySourceDestroy source) m refl
-effect h (call.PipeBindSource pipe source transition) m = displayed_effect h (call.PipeBindSource pipe source transition) m refl
-effect h call.CommitDevice m = displayed_effect h call.CommitDevice m refl
-effect h (call.CommitPort port) m = displayed_effect h (call.CommitPort port) m refl
-effect h (call.CommitPipe pipe) m = displayed_effect h (call.CommitPipe pipe) m refl
-effect h call.DisplayError m = displayed_effect h call.DisplayError m refl
-effect h call.DeviceNew m = composed_effect h call.DeviceNew 0 m refl
-effect h _ m = composed_effect h _ _ m refl
+effect h c m = of_part (part_of c) refl
+  where
+    of_part : (p : Part) → part_of c ≡ p → Effect h c (act_of p h c m)
+    of_part part.Streams is = of_streams h c m (ap recorded_by is)
+    of_part part.Buffers is = of_buffers h c (ap recorded_by is)
+    of_part (part.Composition d) is = composed_effect h c d m is
+    of_part part.Display is = displayed_effect h c m is
+    of_part (part.Begin d) is = of_begin h c (recorded_by (part.Begin d)) (ap recorded_by is)
+    of_part part.End is = of_end h c (ap recorded_by is)
 
 -- laws of all calls
 

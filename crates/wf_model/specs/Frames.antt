@@ -16,8 +16,6 @@ use Rattle.wf_scene.specs.declared.Scene.{Scene}
 use Rattle.wf_calls.specs.declared.code.Code.TheVariants as code
 use Rattle.wf_calls.specs.Parts.{Register}
 use Rattle.wf_calls.specs.Replies.{bare, done, gives_back_job, gives_job, refused}
-use Rattle.wf_calls.specs.declared.call.Call.{Call}
-use Rattle.wf_calls.specs.declared.call.Call.TheVariants as call
 use Rattle.wf_calls.specs.declared.call.Job.{Job}
 use Rattle.wf_calls.specs.declared.call.JobKind.{JobKind}
 use Rattle.wf_calls.specs.declared.call.JobKind.TheVariants as kind
@@ -181,13 +179,6 @@ begin_port p h = do
   _ ← refuse code.Busy (is_running h)
   begin_lit p (begun_display (count_of p) h.display) (port_scene (count_of p) (begun_display (count_of p) h.display)) h
 
--- the frame that a call begins, where it begins one, or its refusal; a call of another part begins none
-abbrev pub begin_call : Call → State → Result (Option Beginning) Refusal
-begin_call (call.BeginNext after) h = begin_next after h
-begin_call (call.BeginPort port) h = begin_port port h
-begin_call (call.BeginContext d c) h = begin_composed d c h
-begin_call _ h = Ok None
-
 -- a frame begins, and its Job is answered
 abbrev pub start : Beginning → State → State × Reply
 start b h = (with_job (job_of b h) (record h { display = b.display }), gives_job b.value (job_of b h))
@@ -242,8 +233,3 @@ end job h = of_frame h.frame
     of_frame : Option Running → State × Reply
     of_frame None = back
     of_frame (Some f) = if is_of_frame job f then (end_frame job h, bare (done 0)) else back
-
--- what the call that ends a frame leaves and answers; any other does nothing here
-abbrev pub end_call : Call → State → State × Reply
-end_call (call.End job) h = end job h
-end_call _ h = (h, bare (done 0))

@@ -21,7 +21,7 @@ use Rattle.wf_model.specs.Outcome.{Leaves, Outcome, behind, found}
 use Rattle.wf_model.specs.DisplaySides.{DisplaySide, display_answer, pipeline, port}
 use Rattle.wf_model.specs.Ports.{attach, port_set, port_styled, with_attached, with_style}
 use Rattle.wf_model.specs.DisplayCommits.{commit_display, commit_pipe, committed_port, fault_from, takes_port}
-use Rattle.wf_model.specs.DisplayCalls.{display_call}
+use Rattle.wf_model.specs.Calls.{display_call}
 use Rattle.wf_model.specs.State.{DisplayState}
 
 -- the modes of each port

@@ -14,12 +14,12 @@ pub mod DisplaySides
 pub mod Ports
 pub mod Pipelines
 pub mod DisplayCommits
-pub mod DisplayCalls
 pub mod Display
 pub mod Frames
 pub mod Streams
 pub mod Composing
 pub mod Registers
+pub mod Calls
 pub mod Step
 pub mod Beginnings
 pub mod Effects

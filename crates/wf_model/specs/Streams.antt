@@ -13,8 +13,6 @@ use Rattle.wf_stream.specs.declared.Held.{Held}
 use Rattle.wf_stream.specs.Buffers.{Buffers, acquired, discarded, fresh, is_blocked, posted}
 use Rattle.wf_stream.specs.Streams.{KeptStream, stream_at, change_stream, held, has_no_room, unnamed}
 use Rattle.wf_calls.specs.Replies.{bare, done, gives_back_canvas, gives_canvas, refused}
-use Rattle.wf_calls.specs.declared.call.Call.{Call}
-use Rattle.wf_calls.specs.declared.call.Call.TheVariants as call
 use Rattle.wf_calls.specs.declared.code.Code.TheVariants as code
 use Rattle.wf_calls.specs.declared.reply.Refusal.{Refusal}
 use Rattle.wf_calls.specs.declared.reply.Reply.{Reply}
@@ -104,18 +102,25 @@ abbrev pub acquire_step : State → Result KeptStream Refusal → State × Reply
 acquire_step h (Ok s) = (with_stream s.number acquired h, gives_canvas (canvas_of s))
 acquire_step h (Err r) = (h, bare (refused r))
 
--- what a call on streams leaves and answers; memory_refused marks the creation for which there is no memory. A call of
--- another part does nothing here.
-abbrev pub stream_call : Bool → Call → State → State × Reply
-stream_call memory_refused (call.StreamNew width height format buffers) h =
-    stream_step h (stream_new width height format buffers memory_refused h)
-stream_call memory_refused (call.StreamDestroy stream) h = stream_step h (stream_destroy stream h)
-stream_call memory_refused (call.Stat what) h = (h, bare (done (stat what (held h.streams))))
-stream_call memory_refused _ h = (h, bare (done 0))
+-- what each call on streams leaves and answers
 
--- what a call on a write buffer leaves and answers. A call of another part does nothing here.
-abbrev pub buffer_call : Call → State → State × Reply
-buffer_call (call.Acquire stream) h = acquire_step h (acquirable stream h)
-buffer_call (call.Post canvas) h = canvas_back canvas (posted canvas.image) h
-buffer_call (call.Discard canvas) h = canvas_back canvas discarded h
-buffer_call _ h = (h, bare (done 0))
+abbrev pub stream_new_call : ℤ → ℤ → Format → ℤ → Bool → State → State × Reply
+stream_new_call width height format buffers memory_refused h =
+    stream_step h (stream_new width height format buffers memory_refused h)
+
+abbrev pub stream_destroy_call : ℕ → State → State × Reply
+stream_destroy_call stream h = stream_step h (stream_destroy stream h)
+
+abbrev pub stat_call : StatWord → State → State × Reply
+stat_call what h = (h, bare (done (stat what (held h.streams))))
+
+-- what each call on a write buffer leaves and answers
+
+abbrev pub acquire_call : ℕ → State → State × Reply
+acquire_call stream h = acquire_step h (acquirable stream h)
+
+abbrev pub post_call : Canvas → State → State × Reply
+post_call canvas h = canvas_back canvas (posted canvas.image) h
+
+abbrev pub discard_call : Canvas → State → State × Reply
+discard_call canvas h = canvas_back canvas discarded h

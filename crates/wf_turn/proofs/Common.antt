@@ -35,7 +35,8 @@ pub use Rattle.wf_io.specs.Parts.{puts_both, stops_late}
 pub use Rattle.wf_machine.specs.Object.{IsPaintable, IsStep, SamePayload}
 pub use Rattle.wf_model.specs.Beginnings.{by_begin, next_is, port_is}
 pub use Rattle.wf_model.specs.Effects.{effect, moves_frame}
-pub use Rattle.wf_model.specs.Frames.{Beginning, begin_call, home_if, is_of_frame, is_running, is_target, job_of, newest_images, newest_of}
+pub use Rattle.wf_model.specs.Frames.{Beginning, home_if, is_of_frame, is_running, is_target, job_of, newest_images, newest_of}
+pub use Rattle.wf_model.specs.Calls.{begin_call}
 pub use Rattle.wf_model.specs.Frames.{running_of, same_kind, scene_streams, start}
 pub use Rattle.wf_model.specs.Picture.{Images}
 pub use Rattle.wf_model.specs.State.{Running, State}
@@ -50,7 +51,8 @@ pub use Rattle.wf_script.specs.declared.line.Verb.{Verb}
 pub use Rattle.wf_script.specs.declared.name.Name.{Name}
 pub use Rattle.wf_stream.specs.Buffers.{Buffers, acquired}
 pub use Rattle.wf_stream.specs.Streams.{KeptStream, stream_at, stream_of}
-pub use Rattle.wf_turn.specs.Calls.{IsPut, context_call, element_call, plain_call}
+pub use Rattle.wf_turn.specs.Calls.{context_call, element_call, plain_call}
+pub use Rattle.wf_turn.specs.Puts.{IsPut}
 pub use Rattle.wf_turn.specs.Films.{PlaysFilm}
 pub use Rattle.wf_turn.specs.Index.{names_of, next_place, place_in}
 pub use Rattle.wf_turn.specs.Inside.{IsProgram, program_of}

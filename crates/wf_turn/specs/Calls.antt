@@ -1,83 +1,69 @@
--- The calls of lines that are one call and wait for nothing. A handle is the value of its name.
-use Rattle.std.specs.Prelude.{◌≡◌, ℕ, ℤ, pos, Bool, true, false, List, [], ◌∷◌, Option, Some, None}
-use Rattle.std.proofs.Common.{◌∙◌, ap, sym}
+-- The calls of lines that are one call and wait for nothing. A handle is the value of its name. tools/calls writes this file.
+use Rattle.std.specs.Prelude.{ℕ, Option, Some, None}
 use Rattle.wf_calls.specs.declared.call.Call.{Call}
 use Rattle.wf_calls.specs.declared.call.Call.TheVariants as call
-use Rattle.wf_script.specs.declared.line.Value.{Value}
-use Rattle.wf_script.specs.declared.line.Value.TheVariants as value
 use Rattle.wf_script.specs.declared.line.Verb.{Verb}
 use Rattle.wf_script.specs.declared.line.Verb.TheVariants as verb
 use Rattle.wf_script.specs.declared.name.Name.{Name}
+use Rattle.wf_turn.specs.Puts.{set_to}
 
--- something was put where another stood, if there was something to put
-abbrev pub IsPut : {X : Type 0} → Option X → X → Bool → Type 0
-IsPut None after given = given ≡ false
-IsPut (Some x) after given = (given ≡ true) × (after ≡ x)
+-- the call of a line of the subject display
+abbrev pub display_call : (Option Name → ℕ) → Verb → Option Call
+display_call handle (verb.PortSet port attr value) = Some (call.PortSet port attr (set_to handle value))
+display_call handle (verb.PortGet port attr index) = Some (call.PortGet port attr index)
+display_call handle (verb.Attach port on) = Some (call.Attach port on)
+display_call handle (verb.PipeSet pipe attr value) = Some (call.PipeSet pipe attr (set_to handle value))
+display_call handle (verb.PipeGet pipe attr index) = Some (call.PipeGet pipe attr index)
+display_call handle (verb.PipeBindPort pipe port) = Some (call.PipeBindPort pipe port)
+display_call handle (verb.DisplaySource pipe stream) = Some (call.DisplaySource pipe (handle stream))
+display_call handle (verb.DisplaySourceDestroy source) = Some (call.DisplaySourceDestroy (handle source))
+display_call handle (verb.PipeBindSource pipe source transition) = Some (call.PipeBindSource pipe (handle source) transition)
+display_call handle verb.CommitDevice = Some call.CommitDevice
+display_call handle (verb.CommitPort port) = Some (call.CommitPort port)
+display_call handle (verb.CommitPipe pipe) = Some (call.CommitPipe pipe)
+display_call handle verb.DisplayError = Some call.DisplayError
+display_call handle _ = None
 
-pub put_some : {X : Type 0} (o : Option X) (x : X) (given : Bool) → IsPut o x given → given ≡ true → o ≡ Some x
-put_some None x given none was = absurd (let clash = sym none ∙ was in cc)
-put_some (Some y) x given put was = ap Some (sym put.1)
-
--- what an attribute is set to: four numbers, of which a handle is the first
-abbrev pub set_to : (Option Name → ℕ) → Value → List ℤ
-set_to handle (value.Handle name) = pos (handle name) ∷ pos 0 ∷ pos 0 ∷ pos 0 ∷ []
-set_to handle (value.Numbers numbers) = numbers
-
--- the call of a line of the display
-abbrev pub display_line : (Option Name → ℕ) → Verb → Option Call
-display_line handle (verb.PortSet p attr to) = Some (call.PortSet p attr (set_to handle to))
-display_line handle (verb.PortGet p attr index) = Some (call.PortGet p attr index)
-display_line handle (verb.Attach p on) = Some (call.Attach p on)
-display_line handle (verb.PipeSet l attr to) = Some (call.PipeSet l attr (set_to handle to))
-display_line handle (verb.PipeGet l attr index) = Some (call.PipeGet l attr index)
-display_line handle (verb.PipeBindPort l p) = Some (call.PipeBindPort l p)
-display_line handle (verb.DisplaySource l s) = Some (call.DisplaySource l (handle s))
-display_line handle (verb.DisplaySourceDestroy x) = Some (call.DisplaySourceDestroy (handle x))
-display_line handle (verb.PipeBindSource l x when) = Some (call.PipeBindSource l (handle x) when)
-display_line handle verb.CommitDevice = Some call.CommitDevice
-display_line handle (verb.CommitPort p) = Some (call.CommitPort p)
-display_line handle (verb.CommitPipe l) = Some (call.CommitPipe l)
-display_line handle verb.DisplayError = Some call.DisplayError
-display_line handle _ = None
-
--- the call of a line of a source, a mask or the display
+-- the call of a line of the subject sources or of a later one
 abbrev pub source_call : (Option Name → ℕ) → Verb → Option Call
-source_call handle (verb.SourceNew d c s) = Some (call.SourceNew (handle d) (handle c) (handle s))
-source_call handle (verb.SourceDestroy d x) = Some (call.SourceDestroy (handle d) (handle x))
-source_call handle (verb.MaskNew d c s) = Some (call.MaskNew (handle d) (handle c) (handle s))
-source_call handle (verb.MaskDestroy d m) = Some (call.MaskDestroy (handle d) (handle m))
-source_call handle v = display_line handle v
+source_call handle (verb.SourceNew device context stream) = Some (call.SourceNew (handle device) (handle context) (handle stream))
+source_call handle (verb.SourceDestroy device source) = Some (call.SourceDestroy (handle device) (handle source))
+source_call handle (verb.MaskNew device context stream) = Some (call.MaskNew (handle device) (handle context) (handle stream))
+source_call handle (verb.MaskDestroy device mask) = Some (call.MaskDestroy (handle device) (handle mask))
+source_call handle v = display_call handle v
 
--- the call of a line of an element, a source or a mask
+-- the call of a line of the subject elements or of a later one
 abbrev pub element_call : (Option Name → ℕ) → Verb → Option Call
-element_call handle (verb.ElementNew d c) = Some (call.ElementNew (handle d) (handle c))
-element_call handle (verb.ElementSet d e attr to) = Some (call.ElementSet (handle d) (handle e) attr (set_to handle to))
-element_call handle (verb.ElementGet d e attr index) = Some (call.ElementGet (handle d) (handle e) attr index)
-element_call handle (verb.ElementInsert d e below) = Some (call.ElementInsert (handle d) (handle e) (handle below))
-element_call handle (verb.ElementRemove d e) = Some (call.ElementRemove (handle d) (handle e))
-element_call handle (verb.ElementAbove d e) = Some (call.ElementAbove (handle d) (handle e))
-element_call handle (verb.ElementBelow d e) = Some (call.ElementBelow (handle d) (handle e))
-element_call handle (verb.ElementDestroy d e) = Some (call.ElementDestroy (handle d) (handle e))
+element_call handle (verb.ElementNew device context) = Some (call.ElementNew (handle device) (handle context))
+element_call handle (verb.ElementDestroy device element) = Some (call.ElementDestroy (handle device) (handle element))
+element_call handle (verb.ElementSet device element attr value) =
+    Some (call.ElementSet (handle device) (handle element) attr (set_to handle value))
+element_call handle (verb.ElementGet device element attr index) = Some (call.ElementGet (handle device) (handle element) attr index)
+element_call handle (verb.ElementInsert device element below) = Some (call.ElementInsert (handle device) (handle element) (handle below))
+element_call handle (verb.ElementRemove device element) = Some (call.ElementRemove (handle device) (handle element))
+element_call handle (verb.ElementAbove device element) = Some (call.ElementAbove (handle device) (handle element))
+element_call handle (verb.ElementBelow device element) = Some (call.ElementBelow (handle device) (handle element))
 element_call handle v = source_call handle v
 
--- the call of a line of a context or of what is in it
+-- the call of a line of the subject contexts or of a later one
 abbrev pub context_call : (Option Name → ℕ) → Verb → Option Call
-context_call handle (verb.ScreenContext d port) = Some (call.ScreenContext (handle d) port)
-context_call handle (verb.StreamContext d s) = Some (call.StreamContext (handle d) (handle s))
-context_call handle (verb.ContextSet d c attr to) = Some (call.ContextSet (handle d) (handle c) attr (set_to handle to))
-context_call handle (verb.ContextGet d c attr index) = Some (call.ContextGet (handle d) (handle c) attr index)
-context_call handle (verb.Commit d c) = Some (call.Commit (handle d) (handle c))
-context_call handle (verb.Activate d c) = Some (call.Activate (handle d) (handle c))
-context_call handle (verb.Deactivate d c) = Some (call.Deactivate (handle d) (handle c))
-context_call handle (verb.ContextDestroy d c) = Some (call.ContextDestroy (handle d) (handle c))
+context_call handle (verb.ScreenContext device port) = Some (call.ScreenContext (handle device) port)
+context_call handle (verb.StreamContext device stream) = Some (call.StreamContext (handle device) (handle stream))
+context_call handle (verb.ContextDestroy device context) = Some (call.ContextDestroy (handle device) (handle context))
+context_call handle (verb.ContextSet device context attr value) =
+    Some (call.ContextSet (handle device) (handle context) attr (set_to handle value))
+context_call handle (verb.ContextGet device context attr index) = Some (call.ContextGet (handle device) (handle context) attr index)
+context_call handle (verb.Commit device context) = Some (call.Commit (handle device) (handle context))
+context_call handle (verb.Activate device context) = Some (call.Activate (handle device) (handle context))
+context_call handle (verb.Deactivate device context) = Some (call.Deactivate (handle device) (handle context))
 context_call handle v = element_call handle v
 
 -- the call of a line that is one call and waits for nothing
 abbrev pub plain_call : (Option Name → ℕ) → Verb → Option Call
 plain_call handle (verb.StreamNew width height format buffers) = Some (call.StreamNew width height format buffers)
-plain_call handle (verb.StreamDestroy s) = Some (call.StreamDestroy (handle s))
+plain_call handle (verb.StreamDestroy stream) = Some (call.StreamDestroy (handle stream))
 plain_call handle (verb.Stat what) = Some (call.Stat what)
 plain_call handle verb.DeviceNew = Some call.DeviceNew
-plain_call handle (verb.DeviceDestroy d) = Some (call.DeviceDestroy (handle d))
-plain_call handle (verb.GetError d) = Some (call.GetError (handle d))
+plain_call handle (verb.DeviceDestroy device) = Some (call.DeviceDestroy (handle device))
+plain_call handle (verb.GetError device) = Some (call.GetError (handle device))
 plain_call handle v = context_call handle v

@@ -2,6 +2,7 @@
 pub mod Index
 pub mod Names
 pub mod Tables
+pub mod Puts
 pub mod Calls
 pub mod Program
 pub mod Asked

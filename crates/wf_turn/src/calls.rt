@@ -1,38 +1,19 @@
-//! The calls of lines that are one call and wait for nothing.
+//! The calls of lines that are one call and wait for nothing, by subjects. tools/calls writes this file.
 
-ghost use Rattle.std.specs.Prelude.{◌≡◌, true};
 ghost use Rattle.wf_calls.specs.Requests.{call_of};
-ghost use Rattle.wf_turn.specs.Calls.{IsPut, context_call, display_line, element_call, plain_call, set_to, source_call};
+ghost use Rattle.wf_turn.specs.Calls.{context_call, display_call, element_call, plain_call, source_call};
 ghost use Rattle.wf_turn.specs.Program.{handle};
+ghost use Rattle.wf_turn.specs.Puts.{IsPut};
 
 use crate::program::Program;
+use crate::puts::put;
 use wf_calls::Request;
-use wf_script::{Value, Verb};
-
-/// Puts a call where another one stood.
-#[inline(always)]
-pub(crate) fn put(place: &mut Request, call: Request) -> bool
-    ensures given { result ≡ true }
-    ensures put { place.new ≡ call }
-{
-    *place = call;
-    true
-}
+use wf_script::Verb;
 
 impl<'a> Program<'a> {
-    /// What an attribute is set to: four numbers, of which a handle is the first.
-    fn set_to(&self, value: &'a Value) -> [i64; 4]
-        ensures { result ≡ set_to (handle self.now) value.now }
-    {
-        match value {
-            Value::Handle(name) => [self.handle(name).into(), 0, 0, 0],
-            Value::Numbers(numbers) => *numbers,
-        }
-    }
-
-    /// The call of a line of the display, if it is such a line: it is put where a call stood.
-    fn display_line(&self, verb: &'a Verb, call: &mut Request) -> bool
-        ensures { IsPut (display_line (handle self.now) verb.now) (call_of call.new) result }
+    /// The call of a line of the subject display, if it is such a line: it is put where a call stood.
+    fn display_call(&self, verb: &'a Verb, call: &mut Request) -> bool
+        ensures { IsPut (display_call (handle self.now) verb.now) (call_of call.new) result }
     {
         match verb {
             Verb::PortSet { port, attr, value } => put(
@@ -114,7 +95,7 @@ impl<'a> Program<'a> {
         }
     }
 
-    /// The call of a line of a source, a mask or the display, if it is such a line: it is put where a call stood.
+    /// The call of a line of the subject sources or of a later one, if it is such a line: it is put where a call stood.
     fn source_call(&self, verb: &'a Verb, call: &mut Request) -> bool
         ensures { IsPut (source_call (handle self.now) verb.now) (call_of call.new) result }
     {
@@ -157,11 +138,11 @@ impl<'a> Program<'a> {
                     mask: self.handle(mask),
                 },
             ),
-            _ => self.display_line(verb, call),
+            _ => self.display_call(verb, call),
         }
     }
 
-    /// The call of a line of an element, a source or a mask, if it is such a line: it is put where a call stood.
+    /// The call of a line of the subject elements or of a later one, if it is such a line: it is put where a call stood.
     fn element_call(&self, verb: &'a Verb, call: &mut Request) -> bool
         ensures { IsPut (element_call (handle self.now) verb.now) (call_of call.new) result }
     {
@@ -171,6 +152,13 @@ impl<'a> Program<'a> {
                 Request::ElementNew {
                     device: self.handle(device),
                     context: self.handle(context),
+                },
+            ),
+            Verb::ElementDestroy { device, element } => put(
+                call,
+                Request::ElementDestroy {
+                    device: self.handle(device),
+                    element: self.handle(element),
                 },
             ),
             Verb::ElementSet {
@@ -234,18 +222,11 @@ impl<'a> Program<'a> {
                     element: self.handle(element),
                 },
             ),
-            Verb::ElementDestroy { device, element } => put(
-                call,
-                Request::ElementDestroy {
-                    device: self.handle(device),
-                    element: self.handle(element),
-                },
-            ),
             _ => self.source_call(verb, call),
         }
     }
 
-    /// The call of a line of a context or of what is in it, if it is such a line: it is put where a call stood.
+    /// The call of a line of the subject contexts or of a later one, if it is such a line: it is put where a call stood.
     fn context_call(&self, verb: &'a Verb, call: &mut Request) -> bool
         ensures { IsPut (context_call (handle self.now) verb.now) (call_of call.new) result }
     {
@@ -262,6 +243,13 @@ impl<'a> Program<'a> {
                 Request::StreamContext {
                     device: self.handle(device),
                     stream: self.handle(stream),
+                },
+            ),
+            Verb::ContextDestroy { device, context } => put(
+                call,
+                Request::ContextDestroy {
+                    device: self.handle(device),
+                    context: self.handle(context),
                 },
             ),
             Verb::ContextSet {
@@ -309,13 +297,6 @@ impl<'a> Program<'a> {
             Verb::Deactivate { device, context } => put(
                 call,
                 Request::Deactivate {
-                    device: self.handle(device),
-                    context: self.handle(context),
-                },
-            ),
-            Verb::ContextDestroy { device, context } => put(
-                call,
-                Request::ContextDestroy {
                     device: self.handle(device),
                     context: self.handle(context),
                 },

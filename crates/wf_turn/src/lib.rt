@@ -10,6 +10,7 @@ mod laws;
 mod names;
 mod player;
 mod program;
+mod puts;
 mod quotas;
 mod replaying;
 mod setup;

@@ -1,127 +1,57 @@
-//! The calls that lines stand for, in the words of scripts, with a number for each handle.
+//! The calls that lines of cases stand for, with a number for each handle. tools/calls writes this file.
 
-use crate::display::display_call;
-use wf_calls::{Call, StatWord};
+use crate::words::{pipe_attr, port_attr, stat_word, transition_word};
+use wf_calls::Call;
 use wf_cases::{context_attr, element_attr, format, number, value, word};
 
 /// The call of a line that gives nothing back.
 pub(crate) fn call_of(words: &[&str]) -> Option<Call> {
-    let call = word(words, 0);
-    match words.len() {
-        0 => None,
-        1 | 2 => short_call(words, call),
-        _ => object_call(words, call)
-            .or(attribute_call(words, call))
-            .or(display_call(words, call)),
-    }
+    of_streams(words)
+        .or(of_contexts(words))
+        .or(of_elements(words))
+        .or(of_sources(words))
+        .or(of_display(words))
+        .or(of_frames(words))
 }
 
-/// A call with no argument or one.
-fn short_call(words: &[&str], call: &str) -> Option<Call> {
-    let handle: u32 = number(words, 1);
-    let (stream, device) = (handle, handle);
-    let call = match call {
+/// A call of the subject streams.
+fn of_streams(words: &[&str]) -> Option<Call> {
+    let stream = number(words, 1);
+    let device = number(words, 1);
+    let call = match word(words, 0) {
+        "stream" => Call::StreamNew {
+            width: number(words, 1),
+            height: number(words, 2),
+            format: format(words, 3),
+            buffers: number(words, 4),
+        },
         "del_stream" => Call::StreamDestroy { stream },
         "acquire" => Call::Acquire { stream },
-        "stat" => {
-            let what = if word(words, 1) == "streams" {
-                StatWord::Streams
-            } else {
-                StatWord::Bytes
-            };
-            Call::Stat { what }
-        }
+        "stat" => Call::Stat {
+            what: stat_word(words, 1),
+        },
         "device" => Call::DeviceNew,
         "del_device" => Call::DeviceDestroy { device },
         "error" => Call::GetError { device },
-        "del_wsource" => Call::DisplaySourceDestroy { source: handle },
-        "commit_device" => Call::CommitDevice,
-        "commit_port" => Call::CommitPort {
-            port: number(words, 1),
-        },
-        "commit_pipe" => Call::CommitPipe {
-            pipe: number(words, 1),
-        },
-        "derror" => Call::DisplayError,
-        "begin_next" => Call::BeginNext { after: handle },
-        "begin_port" => {
-            let port = number(words, 1);
-            Call::BeginPort { port }
-        }
         _ => return None,
     };
     Some(call)
 }
 
-/// A call that makes, destroys or moves an object.
-fn object_call(words: &[&str], call: &str) -> Option<Call> {
-    let (device, object, stream) = (number(words, 1), number(words, 2), number(words, 3));
-    let (context, element) = (object, object);
-    let call = match call {
-        "screen" => {
-            let port = number(words, 2);
-            Call::ScreenContext { device, port }
-        }
+/// A call of the subject contexts.
+fn of_contexts(words: &[&str]) -> Option<Call> {
+    let device = number(words, 1);
+    let context = number(words, 2);
+    let call = match word(words, 0) {
+        "screen" => Call::ScreenContext {
+            device,
+            port: number(words, 2),
+        },
         "offscreen" => Call::StreamContext {
             device,
-            stream: object,
+            stream: number(words, 2),
         },
-        "begin_context" => Call::BeginContext { device, context },
         "del_context" => Call::ContextDestroy { device, context },
-        "element" => Call::ElementNew { device, context },
-        "del_element" => Call::ElementDestroy { device, element },
-        "source" => Call::SourceNew {
-            device,
-            context,
-            stream,
-        },
-        "del_source" => Call::SourceDestroy {
-            device,
-            source: object,
-        },
-        "mask" => Call::MaskNew {
-            device,
-            context,
-            stream,
-        },
-        "del_mask" => Call::MaskDestroy {
-            device,
-            mask: object,
-        },
-        "insert" => Call::ElementInsert {
-            device,
-            element,
-            below: number(words, 3),
-        },
-        "remove" => Call::ElementRemove { device, element },
-        "above" => Call::ElementAbove { device, element },
-        "below" => Call::ElementBelow { device, element },
-        "commit" => Call::Commit { device, context },
-        "activate" => Call::Activate { device, context },
-        "deactivate" => Call::Deactivate { device, context },
-        _ => return None,
-    };
-    Some(call)
-}
-
-/// A call on attributes, or one that makes a stream.
-fn attribute_call(words: &[&str], call: &str) -> Option<Call> {
-    let (device, object) = (number(words, 1), number(words, 2));
-    let (element, context) = (object, object);
-    let index = number(words, 4);
-    let call = match call {
-        "set" => Call::ElementSet {
-            device,
-            element,
-            attr: element_attr(words, 3),
-            value: value(words, 4),
-        },
-        "get" => Call::ElementGet {
-            device,
-            element,
-            attr: element_attr(words, 3),
-            index,
-        },
         "cset" => Call::ContextSet {
             device,
             context,
@@ -132,13 +62,146 @@ fn attribute_call(words: &[&str], call: &str) -> Option<Call> {
             device,
             context,
             attr: context_attr(words, 3),
+            index: number(words, 4),
+        },
+        "commit" => Call::Commit { device, context },
+        "activate" => Call::Activate { device, context },
+        "deactivate" => Call::Deactivate { device, context },
+        _ => return None,
+    };
+    Some(call)
+}
+
+/// A call of the subject elements.
+fn of_elements(words: &[&str]) -> Option<Call> {
+    let device = number(words, 1);
+    let element = number(words, 2);
+    let call = match word(words, 0) {
+        "element" => Call::ElementNew {
+            device,
+            context: number(words, 2),
+        },
+        "del_element" => Call::ElementDestroy { device, element },
+        "set" => Call::ElementSet {
+            device,
+            element,
+            attr: element_attr(words, 3),
+            value: value(words, 4),
+        },
+        "get" => Call::ElementGet {
+            device,
+            element,
+            attr: element_attr(words, 3),
+            index: number(words, 4),
+        },
+        "insert" => Call::ElementInsert {
+            device,
+            element,
+            below: number(words, 3),
+        },
+        "remove" => Call::ElementRemove { device, element },
+        "above" => Call::ElementAbove { device, element },
+        "below" => Call::ElementBelow { device, element },
+        _ => return None,
+    };
+    Some(call)
+}
+
+/// A call of the subject sources.
+fn of_sources(words: &[&str]) -> Option<Call> {
+    let device = number(words, 1);
+    let context = number(words, 2);
+    let stream = number(words, 3);
+    let call = match word(words, 0) {
+        "source" => Call::SourceNew {
+            device,
+            context,
+            stream,
+        },
+        "del_source" => Call::SourceDestroy {
+            device,
+            source: number(words, 2),
+        },
+        "mask" => Call::MaskNew {
+            device,
+            context,
+            stream,
+        },
+        "del_mask" => Call::MaskDestroy {
+            device,
+            mask: number(words, 2),
+        },
+        _ => return None,
+    };
+    Some(call)
+}
+
+/// A call of the subject display.
+fn of_display(words: &[&str]) -> Option<Call> {
+    let port = number(words, 1);
+    let index = number(words, 3);
+    let pipe = number(words, 1);
+    let source = number(words, 1);
+    let call = match word(words, 0) {
+        "pset" => Call::PortSet {
+            port,
+            attr: port_attr(words, 2),
+            value: value(words, 3),
+        },
+        "pget" => Call::PortGet {
+            port,
+            attr: port_attr(words, 2),
             index,
         },
-        "stream" => Call::StreamNew {
-            width: number(words, 1),
-            height: number(words, 2),
-            format: format(words, 3),
-            buffers: number(words, 4),
+        "attach" => Call::Attach {
+            port,
+            on: number(words, 2),
+        },
+        "lset" => Call::PipeSet {
+            pipe,
+            attr: pipe_attr(words, 2),
+            value: value(words, 3),
+        },
+        "lget" => Call::PipeGet {
+            pipe,
+            attr: pipe_attr(words, 2),
+            index,
+        },
+        "lport" => Call::PipeBindPort {
+            pipe,
+            port: number(words, 2),
+        },
+        "wsource" => Call::DisplaySource {
+            pipe,
+            stream: number(words, 2),
+        },
+        "del_wsource" => Call::DisplaySourceDestroy { source },
+        "lsource" => Call::PipeBindSource {
+            pipe,
+            source: number(words, 2),
+            transition: transition_word(words, 3),
+        },
+        "commit_device" => Call::CommitDevice,
+        "commit_port" => Call::CommitPort { port },
+        "commit_pipe" => Call::CommitPipe { pipe },
+        "derror" => Call::DisplayError,
+        _ => return None,
+    };
+    Some(call)
+}
+
+/// A call of the subject frames.
+fn of_frames(words: &[&str]) -> Option<Call> {
+    let call = match word(words, 0) {
+        "begin_next" => Call::BeginNext {
+            after: number(words, 1),
+        },
+        "begin_port" => Call::BeginPort {
+            port: number(words, 1),
+        },
+        "begin_context" => Call::BeginContext {
+            device: number(words, 1),
+            context: number(words, 2),
         },
         _ => return None,
     };

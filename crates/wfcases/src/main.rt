@@ -3,9 +3,9 @@
 
 mod calls;
 mod clients;
-mod display;
 mod machines;
 mod rounds;
+mod words;
 
 use clients::Client;
 use std::alloc::{AllocError, Global};

@@ -1,6 +1,6 @@
 use Rattle.std.proofs.Common.{◌∙◌, None, Ok, ap, refl, sym, subst}
 use Rattle.wf_model.specs.Core.{register_number}
-use Rattle.wf_model.specs.DisplayCalls.{display_error}
+use Rattle.wf_model.specs.Registers.{display_error}
 use Rattle.wf_model.specs.DisplaySides.{on_display}
 use Rattle.wf_model.specs.State.{DisplayState}
 use Rattle.wf_display.specs.Does.{Does}

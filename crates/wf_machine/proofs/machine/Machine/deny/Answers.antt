@@ -9,9 +9,7 @@ use Rattle.wf_machine.proofs.machine.Machine.deny.Goals as goal
 -- what brings something makes nothing
 makes_nothing : (c : Call) → brings c ≡ true → is_creation c ≡ false
 makes_nothing (call.Post canvas) some = refl
-makes_nothing (call.Discard canvas) some = refl
-makes_nothing (call.End job) some = refl
-makes_nothing _ some = absurd cc
+makes_nothing _ some = cc
 
 -- so the mark says nothing to it
 same : (c : goal.After-run_bringing)

@@ -11,7 +11,4 @@ run_begin-requires c = of_call c.args.call.now refl c.requires
   where
     of_call : (x : Request) → c.args.call.now ≡ x → carries (part_of (call_of x)) ≡ true → is_begin (call_of x) ≡ true
     of_call (request.Acquire s) is takes = absurd (c.in_default.not-Acquire s is)
-    of_call (request.BeginNext after) is takes = refl
-    of_call (request.BeginPort port) is takes = refl
-    of_call (request.BeginContext d x) is takes = refl
-    of_call _ is takes = absurd cc
+    of_call _ is takes = cc

@@ -5,7 +5,7 @@ use Rattle.wf_objects.specs.Sides.{core_side_of}
 use Rattle.wf_core.proofs.Denials.{no_element}
 use Rattle.wf_objects.specs.Does.{stays}
 use Rattle.std.proofs.Common.{rules}
-use Rattle.wf_core.proofs.denying.deny_element.Goals as goal
+use Rattle.wf_core.proofs.denying.deny_element_new.Goals as goal
 
 pub returns : goal.returns
 returns c =
