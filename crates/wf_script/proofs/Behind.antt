@@ -2,13 +2,9 @@
 use Rattle.std.proofs.Common.{◌≡◌, Result, Ok, Err, List, [], ◌∷◌, ◌++◌, refl, sym, ap, append_assoc}
 use Rattle.wf_words.specs.Refusals.{◌>>=◌}
 use Rattle.wf_script.specs.declared.rule.Rule.{Rule}
+use Rattle.wf_script.specs.Items.{behind}
 
 module _ {A : Type 0} where
-  -- a list before that which is read
-  abbrev pub behind : List A → Result (List A) Rule → Result (List A) Rule
-  behind done (Ok others) = Ok (done ++ others)
-  behind done (Err broken) = Err broken
-
   pub none_before : (read : Result (List A) Rule) → behind [] read ≡ read
   none_before (Ok others) = refl
   none_before (Err broken) = refl

@@ -5,7 +5,8 @@ use Rattle.wf_pixel.specs.declared.Rgba.{Rgba}
 use Rattle.wf_script.specs.declared.rule.Rule.{Rule}
 use Rattle.wf_script.specs.declared.rule.Rule.TheVariants as rule
 use Rattle.wf_script.specs.PaintWords.{hex_pixel, hex_pixels}
-use Rattle.wf_script.proofs.Behind.{behind, joined}
+use Rattle.wf_script.proofs.Behind.{joined}
+use Rattle.wf_script.specs.Items.{behind}
 
 -- eight digits are a pixel
 eight : (word : List ℕ) → 8 ≤ length word → hex_pixels word

@@ -1,5 +1,5 @@
 -- What reading words gives where the table says which rule they break.
-use Rattle.std.proofs.Common.{◌≡◌, ◌∙◌, ℕ, suc, Bool, true, false, not, ◌||◌, ◌==◌, List, [], ◌∷◌, length}
+use Rattle.std.proofs.Common.{◌≡◌, ◌∙◌, ℕ, zero, suc, Bool, true, false, not, ◌||◌, ◌==◌, List, [], ◌∷◌, length}
 use Rattle.std.proofs.Common.{Option}
 use Rattle.std.proofs.Common.{Some, None, Result, Ok, Err, refl, sym, ap, subst, arith}
 use Rattle.std.specs.Prelude.{is_some, option_map, option_to_list, if◌then◌else◌}
@@ -10,7 +10,8 @@ use Rattle.wf_words.specs.Refusals.{◌>>=◌, refuse_if, found_or}
 use Rattle.wf_script.specs.declared.name.Name.{Name}
 use Rattle.wf_script.specs.declared.rule.Rule.{Rule}
 use Rattle.wf_script.specs.declared.rule.Rule.TheVariants as rule
-use Rattle.wf_script.specs.Breaches.{Kind, Shape, words, by_word, off_count, off_kind, off_kinds}
+use Rattle.wf_script.specs.Breaches.{Kind, off_count, off_kind, off_kinds}
+use Rattle.wf_script.specs.Fields.{Shape, by_word, words}
 use Rattle.wf_script.specs.Pick.{counted, first_as}
 use Rattle.wf_script.specs.Words.{Word, handle_of, name_of, none_word}
 use Rattle.wf_script.proofs.WordBack.{name_is}
@@ -27,11 +28,6 @@ module _ {A : Type 0} (P : A → Type 0) where
   Judged r false word = WordJudged r word
 
   -- a word of a kind, and what is behind it
-  pub found_step : {B : Type 0} (o : Option B) (h : B → Result A Rule) (more : Bool)
-      → ((x : B) → o ≡ Some x → WordJudged (h x) more) → WordJudged (found_or rule.Word o >>= h) (not (is_some o) || more)
-  found_step None h more others = refl
-  found_step (Some x) h more others = others x refl
-
   pub step : {B : Type 0} (kind : Word → Option B) (w : Word) (ws : List Word) (h : B × List Word → Result A Rule) (more : Bool)
       → ((x : B) → kind w ≡ Some x → WordJudged (h (x, ws)) more)
       → WordJudged (first_as kind (w ∷ ws) >>= h) (not (is_some (kind w)) || more)
@@ -70,12 +66,6 @@ module _ {A : Type 0} (P : A → Type 0) where
       of_test true e = others e
       of_test false e = refl
 
-  -- the same, where the words are judged from the front
-  pub counted_whole : (n : ℕ) (ws : List Word) (h : Unit {0} → Result A Rule) (word : Bool)
-      → ((length ws == n) ≡ true → WordJudged (counted n ws >>= h) word) → Judged (counted n ws >>= h) (not (length ws == n)) word
-  counted_whole n ws h word others = counted_step n ws h word
-      (λ e. subst (λ (t : Bool). WordJudged (refuse_if rule.Count (not t) >>= h) word) e (others e))
-
   -- what is judged twice the same
   pub judged_at : (r : Result A Rule) (count count' word word' : Bool) → count ≡ count' → word ≡ word' → Judged r count word
       → Judged r count' word'
@@ -105,21 +95,7 @@ judged_before Q P r (Some y) h false false found others =
     let z = others found.0 y found.2 refl in (z.0, ap (λ s. s >>= (λ x. h x y)) found.1 ∙ z.1, z.2)
 
 -- a word that decides which words there are
-module _ {A D : Type 0} (P : Shape → D → Type 0) (kind : Word → Option A) (kinds : A → List Kind) where
-  pub decided_step : (w : Word) (ws all : List Word) (h : A × List Word → Result D Rule)
-      → ((x : A) → kind w ≡ Some x
-      → Judged (P (words (kinds x))) (h (x, ws)) (off_count (words (kinds x)) all) (off_kinds (kinds x) all))
-      → Judged (P (by_word kinds (kind w))) (first_as kind (w ∷ ws) >>= h) (off_count (by_word kinds (kind w)) all)
-      (off_kind (by_word kinds (kind w)) all)
-  decided_step w ws all h others = of_kind (kind w) refl
-    where
-      of_kind : (o : Option A) → kind w ≡ o
-          → Judged (P (by_word kinds o)) ((found_or rule.Word o >>= (λ x. Ok (x, ws))) >>= h) (off_count (by_word kinds o) all)
-          (off_kind (by_word kinds o) all)
-      of_kind None e = refl
-      of_kind (Some x) e = others x e
-
-  -- the same within other steps
+module _ {A D : Type 0} (P : Shape Kind → D → Type 0) (kind : Word → Option A) (kinds : A → List Kind) where
   pub decided_in : {C : Type 0} (w : Word) (ws all : List Word) (f : A × List Word → Result C Rule) (h : C → Result D Rule)
       → ((x : A) → kind w ≡ Some x
       → Judged (P (words (kinds x))) (f (x, ws) >>= h) (off_count (words (kinds x)) all) (off_kinds (kinds x) all))
@@ -147,43 +123,14 @@ of_none : (ws : List Word) → (length ws == 0) ≡ true → (P : List Word → 
 of_none [] e P f = f
 of_none (w ∷ vs) e P f = absurd (let bad : suc (length vs) ≡ 0 = eqb-true (suc (length vs)) 0 e in omega arith)
 
-pub exactly_none : (P : List Word → Type 0) → P [] → (ws : List Word) → (length ws == 0) ≡ true → P ws
-exactly_none P f ws same = of_none ws same P f
+-- something of any n words
+abbrev pub OfWords : ℕ → (List Word → Type 0) → Type 0
+OfWords zero P = P []
+OfWords (suc n) P = (w : Word) → OfWords n (λ ws. P (w ∷ ws))
 
-pub exactly_one : (P : List Word → Type 0) → ((a : Word) → P (a ∷ [])) → (ws : List Word) → (length ws == 1) ≡ true → P ws
-exactly_one P f ws same = of_cons 0 ws same P (λ a. exactly_none (λ us. P (a ∷ us)) (f a))
-
-pub exactly_two : (P : List Word → Type 0) → ((a b : Word) → P (a ∷ b ∷ []))
-    → (ws : List Word) → (length ws == 2) ≡ true → P ws
-exactly_two P k ws same = of_cons 1 ws same P (λ a. exactly_one (λ us. P (a ∷ us)) (k a))
-
-pub exactly_three : (P : List Word → Type 0) → ((a b c : Word) → P (a ∷ b ∷ c ∷ []))
-    → (ws : List Word) → (length ws == 3) ≡ true → P ws
-exactly_three P k ws same = of_cons 2 ws same P (λ a. exactly_two (λ us. P (a ∷ us)) (k a))
-
-pub exactly_four : (P : List Word → Type 0) → ((a b c d : Word) → P (a ∷ b ∷ c ∷ d ∷ []))
-    → (ws : List Word) → (length ws == 4) ≡ true → P ws
-exactly_four P k ws same = of_cons 3 ws same P (λ a. exactly_three (λ us. P (a ∷ us)) (k a))
-
-pub exactly_five : (P : List Word → Type 0) → ((a b c d e : Word) → P (a ∷ b ∷ c ∷ d ∷ e ∷ []))
-    → (ws : List Word) → (length ws == 5) ≡ true → P ws
-exactly_five P k ws same = of_cons 4 ws same P (λ a. exactly_four (λ us. P (a ∷ us)) (k a))
-
-pub exactly_six : (P : List Word → Type 0) → ((a b c d e f : Word) → P (a ∷ b ∷ c ∷ d ∷ e ∷ f ∷ []))
-    → (ws : List Word) → (length ws == 6) ≡ true → P ws
-exactly_six P k ws same = of_cons 5 ws same P (λ a. exactly_five (λ us. P (a ∷ us)) (k a))
-
-pub exactly_seven : (P : List Word → Type 0) → ((a b c d e f g : Word) → P (a ∷ b ∷ c ∷ d ∷ e ∷ f ∷ g ∷ []))
-    → (ws : List Word) → (length ws == 7) ≡ true → P ws
-exactly_seven P k ws same = of_cons 6 ws same P (λ a. exactly_six (λ us. P (a ∷ us)) (k a))
-
-pub exactly_eight : (P : List Word → Type 0) → ((a b c d e f g h : Word) → P (a ∷ b ∷ c ∷ d ∷ e ∷ f ∷ g ∷ h ∷ []))
-    → (ws : List Word) → (length ws == 8) ≡ true → P ws
-exactly_eight P k ws same = of_cons 7 ws same P (λ a. exactly_seven (λ us. P (a ∷ us)) (k a))
-
-pub exactly_nine : (P : List Word → Type 0) → ((a b c d e f g h i : Word) → P (a ∷ b ∷ c ∷ d ∷ e ∷ f ∷ g ∷ h ∷ i ∷ []))
-    → (ws : List Word) → (length ws == 9) ≡ true → P ws
-exactly_nine P k ws same = of_cons 8 ws same P (λ a. exactly_eight (λ us. P (a ∷ us)) (k a))
+pub exactly : (n : ℕ) (P : List Word → Type 0) → OfWords n P → (ws : List Word) → (length ws == n) ≡ true → P ws
+exactly zero P f ws same = of_none ws same P f
+exactly (suc n) P f ws same = of_cons n ws same P (λ w. exactly n (λ us. P (w ∷ us)) (f w))
 
 -- two tests of one thing
 pub same_test : (a b c d : ℕ) → (a ≡ b → c ≡ d) → (c ≡ d → a ≡ b) → (a == b) ≡ (c == d)

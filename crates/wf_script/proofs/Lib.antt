@@ -11,6 +11,8 @@ mod Rows
 pub mod Sight
 pub mod SizeRow
 pub mod TableRow
+pub mod ItemRow
+pub mod ValueText
 pub mod Additions
 pub mod Tokens
 pub mod Clean
@@ -18,7 +20,8 @@ pub mod Splitting
 pub mod Numerals
 pub mod WordBack
 pub mod PaintBack
-pub mod ValueBack
+pub mod Fields
+pub mod ReadOn
 pub mod VerbBack
 pub mod LineBack
 pub mod ScriptBack

@@ -11,7 +11,7 @@ use Rattle.std.proofs.lemmas.Fmt.{decimal_by_steps, decimal_nonempty, length-dec
 use Rattle.std.proofs.lemmas.List.Sums.{fold-append}
 use Rattle.wf_pixel.specs.Choice.{is_between}
 use Rattle.wf_words.specs.Whole.{count_of}
-use Rattle.wf_script.specs.Canonical.{integer_word}
+use Rattle.wf_script.specs.Spelled.{integer_word}
 use Rattle.wf_script.specs.PaintWords.{row_number}
 use Rattle.wf_script.specs.Words.{Word, count_in, digits_of, digits_value, integer_in, integer_of, is_digit, is_word}
 use Rattle.wf_script.proofs.Clean.{all_both, all_pass, digit_is_clean, is_clean, is_clean_byte}

@@ -14,7 +14,8 @@ use Rattle.wf_script.specs.declared.paint_form.PaintForm.{PaintForm}
 use Rattle.wf_script.specs.declared.paint_form.PaintForm.TheVariants as form
 use Rattle.wf_script.specs.declared.rule.Rule.{Rule}
 use Rattle.wf_script.specs.declared.rule.Rule.TheVariants as rule
-use Rattle.wf_script.specs.Canonical.{color_words, hex_byte_word, hex_digits, hex_pixel_word, integer_word, paint_words}
+use Rattle.wf_script.specs.Canonical.{color_words, hex_byte_word, hex_digits, hex_pixel_word, paint_words}
+use Rattle.wf_script.specs.Spelled.{integer_word}
 use Rattle.wf_script.specs.PaintWords.{checker, color, fill, hex_byte, hex_digit, hex_pixel, hex_pixels, paint_count, paint_forms, paint_of}
 use Rattle.wf_script.specs.PaintWords.{painted, ramp, rectangle, row, row_number}
 use Rattle.wf_script.specs.Pick.{counted, first, first_as}

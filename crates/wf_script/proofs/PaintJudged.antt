@@ -20,7 +20,7 @@ use Rattle.wf_script.specs.PaintWords.{checker, color, fill, hex_byte, hex_digit
 use Rattle.wf_script.specs.PaintWords.{painted, ramp, rectangle, row, row_number}
 use Rattle.wf_script.specs.Pick.{counted}
 use Rattle.wf_script.specs.Words.{Word, count_in, integer_in, none_word}
-use Rattle.wf_script.proofs.Judged.{Judged, WordJudged, counted_step, exactly_eight, exactly_four, exactly_nine, exactly_two}
+use Rattle.wf_script.proofs.Judged.{Judged, WordJudged, counted_step, exactly}
 use Rattle.wf_script.proofs.Judged.{made_of, step, step_in}
 use Rattle.wf_script.proofs.Judged.{word_judged_at}
 
@@ -43,12 +43,12 @@ color_step {A = A} r g b a rest h more others =
 
 fill_judged : (ws : List Word) → (length ws == 4) ≡ true → WordJudged Any (fill ws) (off_kinds (paint_kinds form.Fill) ws)
 unfolding fill
-fill_judged = exactly_four (λ ws. WordJudged Any (fill ws) (off_kinds (paint_kinds form.Fill) ws)) (λ r g b a.
+fill_judged = exactly 4 (λ ws. WordJudged Any (fill ws) (off_kinds (paint_kinds form.Fill) ws)) (λ r g b a.
     color_step r g b a [] (λ c. Ok (paint.Fill c.0)) false (λ c. (paint.Fill c, refl, tt)))
 
 rectangle_judged : (ws : List Word) → (length ws == 8) ≡ true → WordJudged Any (rectangle ws) (off_kinds (paint_kinds form.Rectangle) ws)
 unfolding rectangle
-rectangle_judged = exactly_eight (λ ws. WordJudged Any (rectangle ws) (off_kinds (paint_kinds form.Rectangle) ws)) (λ x y w h r g b a.
+rectangle_judged = exactly 8 (λ ws. WordJudged Any (rectangle ws) (off_kinds (paint_kinds form.Rectangle) ws)) (λ x y w h r g b a.
     step Any (integer_in (negsuc 16383) (pos 16384)) x (y ∷ w ∷ h ∷ r ∷ g ∷ b ∷ a ∷ []) _ _ (λ nx _.
     step Any (integer_in (negsuc 16383) (pos 16384)) y (w ∷ h ∷ r ∷ g ∷ b ∷ a ∷ []) _ _ (λ ny _.
     step Any (count_in 0 16384) w (h ∷ r ∷ g ∷ b ∷ a ∷ []) _ _ (λ nw _.
@@ -58,14 +58,14 @@ rectangle_judged = exactly_eight (λ ws. WordJudged Any (rectangle ws) (off_kind
 
 checker_judged : (ws : List Word) → (length ws == 9) ≡ true → WordJudged Any (checker ws) (off_kinds (paint_kinds form.Checker) ws)
 unfolding checker
-checker_judged = exactly_nine (λ ws. WordJudged Any (checker ws) (off_kinds (paint_kinds form.Checker) ws)) (λ n r g b a r2 g2 b2 a2.
+checker_judged = exactly 9 (λ ws. WordJudged Any (checker ws) (off_kinds (paint_kinds form.Checker) ws)) (λ n r g b a r2 g2 b2 a2.
     step Any (count_in 1 1024) n (r ∷ g ∷ b ∷ a ∷ r2 ∷ g2 ∷ b2 ∷ a2 ∷ []) _ _ (λ k _.
     color_step r g b a (r2 ∷ g2 ∷ b2 ∷ a2 ∷ []) (λ c. color c.1 >>= (λ d. Ok (paint.Checker k c.0 d.0))) _ (λ c.
     color_step r2 g2 b2 a2 [] (λ d. Ok (paint.Checker k c d.0)) false (λ d. (paint.Checker k c d, refl, tt)))))
 
 ramp_judged : (ws : List Word) → (length ws == 8) ≡ true → WordJudged Any (ramp ws) (off_kinds (paint_kinds form.Ramp) ws)
 unfolding ramp
-ramp_judged = exactly_eight (λ ws. WordJudged Any (ramp ws) (off_kinds (paint_kinds form.Ramp) ws)) (λ r g b a r2 g2 b2 a2.
+ramp_judged = exactly 8 (λ ws. WordJudged Any (ramp ws) (off_kinds (paint_kinds form.Ramp) ws)) (λ r g b a r2 g2 b2 a2.
     color_step r g b a (r2 ∷ g2 ∷ b2 ∷ a2 ∷ []) (λ c. color c.1 >>= (λ d. Ok (paint.Ramp c.0 d.0))) _ (λ c.
     color_step r2 g2 b2 a2 [] (λ d. Ok (paint.Ramp c d.0)) false (λ d. (paint.Ramp c d, refl, tt))))
 
@@ -122,7 +122,7 @@ or_false false = refl
 
 row_judged : (ws : List Word) → (length ws == 2) ≡ true → WordJudged Any (row ws) (off_kinds (paint_kinds form.Row) ws)
 unfolding row
-row_judged = exactly_two (λ ws. WordJudged Any (row ws) (off_kinds (paint_kinds form.Row) ws)) (λ y hex.
+row_judged = exactly 2 (λ ws. WordJudged Any (row ws) (off_kinds (paint_kinds form.Row) ws)) (λ y hex.
     step Any row_number y (hex ∷ []) _ _ (λ n _. of_long n hex (nat_lt 8192 (length hex))))
   where
     of_long : (n : ℕ) (hex : Word) (t : Bool)

@@ -1,10 +1,14 @@
 -- One more line: who sees which name behind it.
 use Rattle.std.proofs.Common.{◌≡◌, ◌∙◌, ℕ, ◌==◌, Bool, true, false, ◌&&◌, ◌||◌, List, [], ◌∷◌, ◌++◌, ◌<◌, Option, Some, cond}
-use Rattle.std.proofs.Common.{slice_index_or, refl, sym, ap, arith}
+use Rattle.std.proofs.Common.{slice_index_or, refl, sym, ap, arith, ◌+◌, length, map, take, get_or}
+use Rattle.std.proofs.lemmas.List.{flat_map_more, map_more}
 use Rattle.std.proofs.lemmas.List.Folds.{list_all-append, list_any-append}
+use Rattle.wf_script.specs.declared.field.Item as item
 use Rattle.wf_script.specs.declared.line.Line.{Line}
 use Rattle.wf_script.specs.declared.name.Name.{Name}
-use Rattle.std.specs.List.{list_any}
+use Rattle.std.specs.List.{list_all, list_any}
+use Rattle.wf_script.specs.Fields.{name_in, names_in}
+use Rattle.wf_script.specs.Items.{item_of, items_of}
 use Rattle.wf_script.specs.Seen.{SeesAll, is_among, sees}
 use Rattle.wf_script.specs.declared.seen.Seen as declared
 use Rattle.wf_script.specs.Visible.{binds_for, is_name_in, is_setup, is_visible, setup_binds}
@@ -66,3 +70,12 @@ pub among_more : (client : ℕ) (hit extra : Bool) (old : Option (List Bool)) (c
     is_among client (cond hit (Some clients) old) ≡ (is_among client old || (hit && extra))
 among_more client true extra old clients here = here refl
 among_more client false extra old clients here = or_none (is_among client old)
+
+-- the names of the first items, and those of the next one
+pub seen_next : (p : Name → Bool) (items : List item.Item) (i : ℕ) (d : item.Item) → i < length items
+    → list_all p (names_in (items_of (take (i + 1) items)))
+    ≡ (list_all p (names_in (items_of (take i items))) && list_all p (name_in (item_of (get_or items i d))))
+seen_next p items i d within =
+    ap (list_all p) (ap names_in (map_more item_of items i d within)
+    ∙ sym (flat_map_more name_in [] (map item_of (take i items)) (item_of (get_or items i d))))
+    ∙ list_all-append p (names_in (items_of (take i items))) (name_in (item_of (get_or items i d)))

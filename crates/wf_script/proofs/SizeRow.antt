@@ -2,7 +2,8 @@
 use Rattle.std.proofs.Common.{◌≡◌, Some, None, Ok, Err, List, [], ◌∷◌, ◌++◌, refl, append-nil}
 use Rattle.wf_pixel.specs.declared.Size.{Size}
 use Rattle.wf_script.specs.declared.rule.Rule.TheVariants as rule
-use Rattle.wf_script.proofs.Behind.{behind, joined}
+use Rattle.wf_script.proofs.Behind.{joined}
+use Rattle.wf_script.specs.Items.{behind}
 use Rattle.wf_script.specs.Grammar.{sizes}
 use Rattle.wf_script.specs.Words.{Word, size_of}
 

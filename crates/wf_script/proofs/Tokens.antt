@@ -6,13 +6,14 @@ use Rattle.std.specs.Prelude.{ℤ, pos, negsuc, codes, decimal}
 use Rattle.std.proofs.lemmas.Grind.{flat_map-append}
 use Rattle.std.specs.Fmt.{signed_decimal}
 use Rattle.std.specs.List.{flat_map}
-use Rattle.wf_script.specs.Canonical.{canonical, event_text, integer_word, pipes_text, port_text, text_line}
+use Rattle.wf_script.specs.Canonical.{canonical, event_text, pipes_text, port_text, text_line}
+use Rattle.wf_script.specs.Spelled.{integer_word}
 use Rattle.wf_script.specs.Script.{PlainScript}
 use Rattle.wf_script.specs.Text.{Adds}
 use Rattle.wf_script.specs.Token.{spaced}
 use Rattle.wf_script.specs.Words.{Word}
 use Rattle.wf_script.specs.declared.text.Text.{Text}
-use Rattle.wf_script.proofs.Additions.{adds_both, adds_none}
+use Rattle.wf_script.proofs.Additions.{adds_both}
 
 -- the decimal text of a number is its word
 pub integer_word_signed : (z : ℤ) → signed_decimal z ≡ integer_word z
@@ -22,10 +23,6 @@ integer_word_signed (negsuc n) = ap (λ m. codes "-" ++ decimal m) (sym (add-one
 spaced-append : (v w : List Word) → spaced (v ++ w) ≡ spaced v ++ spaced w
 unfolding spaced
 spaced-append v w = flat_map-append (λ word. codes " " ++ word) v w
-
-pub no_words : {S : Type 0} (took : S → List ℕ → Type 0) (faults : S → ℕ) (t : Text) (a : S) → Adds took faults t a t a (spaced [])
-unfolding spaced
-no_words took faults t a = adds_none took faults t a
 
 -- words, and then more words
 pub words_both : {S : Type 0} (took : S → List ℕ → Type 0) (faults : S → ℕ) (t u v : Text) (a b c : S) (x y : List Word)

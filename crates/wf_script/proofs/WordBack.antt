@@ -9,16 +9,24 @@ use Rattle.std.specs.Str.{bytes_eq, byte}
 use Rattle.std.proofs.lemmas.Bool.{and_from, and_parts}
 use Rattle.std.proofs.lemmas.Bool.Decides.{nat_tests}
 use Rattle.wf_pixel.specs.declared.Format.{Format}
+use Rattle.wf_pixel.specs.declared.Format.TheVariants.{A8}
 use Rattle.wf_pixel.specs.declared.Size.{Size}
 use Rattle.wf_scene.specs.declared.attributes.ContextAttr.{ContextAttr}
+use Rattle.wf_scene.specs.declared.attributes.ContextAttr.TheVariants as context
 use Rattle.wf_scene.specs.declared.attributes.ElementAttr.{ElementAttr}
+use Rattle.wf_scene.specs.declared.attributes.ElementAttr.TheVariants as element
 use Rattle.wf_calls.specs.declared.call.StatWord.{StatWord}
+use Rattle.wf_calls.specs.declared.call.StatWord.TheVariants.{Bytes}
 use Rattle.wf_calls.specs.declared.display.PipeAttr.{PipeAttr}
+use Rattle.wf_calls.specs.declared.display.PipeAttr.TheVariants as pipe
 use Rattle.wf_calls.specs.declared.display.PortAttr.{PortAttr}
+use Rattle.wf_calls.specs.declared.display.PortAttr.TheVariants as port
 use Rattle.wf_calls.specs.declared.display.Transition.{Transition}
+use Rattle.wf_calls.specs.declared.display.Transition.TheVariants.{Now}
 use Rattle.wf_script.specs.declared.name.Name.{Name}
-use Rattle.wf_script.specs.Canonical.{context_attr_word, element_attr_word, format_word, handle_word, pipe_attr_word, port_attr_word}
-use Rattle.wf_script.specs.Canonical.{size_word, stat_word, transition_word, word_of}
+use Rattle.wf_script.specs.Canonical.{size_word}
+use Rattle.wf_script.specs.Spelled.{context_attr_word, element_attr_word, format_word, handle_word, pipe_attr_word, port_attr_word}
+use Rattle.wf_script.specs.Spelled.{stat_word, transition_word, word_of}
 use Rattle.wf_script.specs.Pick.{first_as}
 use Rattle.wf_script.specs.Words.{Word, context_attrs, count_in, element_attrs, filters, formats, handle_of, is_digit, is_letter, is_name}
 use Rattle.wf_script.specs.Words.{is_name_byte, is_word, look_up, name_of, none_word, pipe_attrs, port_attrs, sides, size_of}
@@ -102,87 +110,50 @@ module _ {A : Type 0} (P : A → Type 0) where
 
 -- each word of a table is read as what it was printed from
 module _ {A : Type 0} (rows : List (Word × A)) (word : A → Word) where
-  abbrev Again : A → Type 0
+  abbrev pub Again : A → Type 0
   Again x = (look_up rows (word x) ≡ Some x) × (is_clean (word x) ≡ true)
 
   pub row_of_table : OfRows Again rows → (w : Word) (x : A) → look_up rows w ≡ Some x → Back (look_up rows) (word x) x
   row_of_table all w x h = let both = looked_up Again rows all w x h in record { reads = both.0; clean = both.1 }
 
+  -- a kind whose values all have a word
+  pub each_back : ((x : A) → Again x) → (w : Word) (x : A) → look_up rows w ≡ Some x → Back (look_up rows) (word x) x
+  each_back again w x h = record { reads = (again x).0; clean = (again x).1 }
+
 abbrev done : Unit {0}
 done = tt
 
-pub format_back : (w : Word) (x : Format) → look_up formats w ≡ Some x → Back (look_up formats) (format_word x) x
-format_back = row_of_table formats format_word ((refl, refl), ((refl, refl), ((refl, refl), ((refl, refl), done))))
+-- the words of kinds that have a word for each of their values
 
-pub stat_back : (w : Word) (x : StatWord) → look_up stat_words w ≡ Some x → Back (look_up stat_words) (stat_word x) x
-stat_back = row_of_table stat_words stat_word ((refl, refl), ((refl, refl), done))
+pub format_again : (x : Format) → Again formats format_word x
+format_again A8 = (refl, refl)
+format_again _ = (refl, refl)
 
-pub transition_back : (w : Word) (x : Transition) → look_up transitions w ≡ Some x → Back (look_up transitions) (transition_word x) x
-transition_back = row_of_table transitions transition_word ((refl, refl), ((refl, refl), done))
+pub stat_again : (x : StatWord) → Again stat_words stat_word x
+stat_again Bytes = (refl, refl)
+stat_again _ = (refl, refl)
 
-pub element_attr_back : (w : Word) (x : ElementAttr) → look_up element_attrs w ≡ Some x
-    → Back (look_up element_attrs) (element_attr_word x) x
-element_attr_back = row_of_table element_attrs element_attr_word (
-  (refl, refl),
-  (
-    (refl, refl),
-    (
-      (refl, refl),
-      (
-        (refl, refl),
-        (
-          (refl, refl),
-          (
-            (refl, refl),
-            (
-              (refl, refl),
-              (
-                (refl, refl),
-                ((refl, refl), done),
-              ),
-            ),
-          ),
-        ),
-      ),
-    ),
-  ),
-)
+pub transition_again : (x : Transition) → Again transitions transition_word x
+transition_again Now = (refl, refl)
+transition_again _ = (refl, refl)
 
-pub context_attr_back : (w : Word) (x : ContextAttr) → look_up context_attrs w ≡ Some x
-    → Back (look_up context_attrs) (context_attr_word x) x
-context_attr_back = row_of_table context_attrs context_attr_word
-    ((refl, refl), ((refl, refl), ((refl, refl), ((refl, refl), ((refl, refl), done)))))
+pub element_attr_again : (x : ElementAttr) → Again element_attrs element_attr_word x
+element_attr_again element.Dest = (refl, refl)
+element_attr_again _ = (refl, refl)
 
-pub port_attr_back : (w : Word) (x : PortAttr) → look_up port_attrs w ≡ Some x → Back (look_up port_attrs) (port_attr_word x) x
-port_attr_back = row_of_table port_attrs port_attr_word
-    ((refl, refl), ((refl, refl), ((refl, refl), ((refl, refl), ((refl, refl), ((refl, refl), done))))))
+pub context_attr_again : (x : ContextAttr) → Again context_attrs context_attr_word x
+context_attr_again context.Width = (refl, refl)
+context_attr_again _ = (refl, refl)
 
-pub pipe_attr_back : (w : Word) (x : PipeAttr) → look_up pipe_attrs w ≡ Some x → Back (look_up pipe_attrs) (pipe_attr_word x) x
-pipe_attr_back = row_of_table pipe_attrs pipe_attr_word (
-  (refl, refl),
-  (
-    (refl, refl),
-    (
-      (refl, refl),
-      (
-        (refl, refl),
-        (
-          (refl, refl),
-          (
-            (refl, refl),
-            (
-              (refl, refl),
-              (
-                (refl, refl),
-                ((refl, refl), ((refl, refl), done)),
-              ),
-            ),
-          ),
-        ),
-      ),
-    ),
-  ),
-)
+pub port_attr_again : (x : PortAttr) → Again port_attrs port_attr_word x
+port_attr_again port.Mode = (refl, refl)
+port_attr_again _ = (refl, refl)
+
+pub pipe_attr_again : (x : PipeAttr) → Again pipe_attrs pipe_attr_word x
+pipe_attr_again pipe.Dest = (refl, refl)
+pipe_attr_again _ = (refl, refl)
+
+-- numbers that have words
 
 pub filter_back : (w : Word) (x : ℤ) → look_up filters w ≡ Some x → Back (look_up filters) (word_of filters x) x
 filter_back = row_of_table filters (word_of filters) ((refl, refl), ((refl, refl), ((refl, refl), done)))

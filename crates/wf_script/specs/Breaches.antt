@@ -1,38 +1,31 @@
 -- The rules of a line as a table: which lines break which rule. A rule is looked at only where those before it hold, so what a test
 -- says of a line that breaks an earlier rule counts for nothing.
 use Rattle.std.specs.Prelude.{ℕ, ◌+◌, Bool, true, false, not, ◌&&◌, ◌||◌, ◌==◌, nat_lt, pos, negsuc, List, [], ◌∷◌, ◌++◌, length}
-use Rattle.std.specs.Prelude.{codes, find, is_some, Option, Some, None, Result, Ok, Err, if◌then◌else◌}
+use Rattle.std.specs.Prelude.{codes, find, is_some, map, Option, Some, None, Result, Ok, Err, if◌then◌else◌}
 use Rattle.std.specs.List.{list_all, list_any, slice_get}
 use Rattle.std.specs.Str.{bytes_eq}
-use Rattle.wf_scene.specs.declared.attributes.ContextAttr.{ContextAttr}
-use Rattle.wf_scene.specs.declared.attributes.ContextAttr.TheVariants as context
-use Rattle.wf_scene.specs.declared.attributes.ElementAttr.{ElementAttr}
-use Rattle.wf_scene.specs.declared.attributes.ElementAttr.TheVariants as element
-use Rattle.wf_calls.specs.declared.display.PipeAttr.{PipeAttr}
-use Rattle.wf_calls.specs.declared.display.PipeAttr.TheVariants as pipe
-use Rattle.wf_calls.specs.declared.display.PortAttr.{PortAttr}
-use Rattle.wf_calls.specs.declared.display.PortAttr.TheVariants as port
 use Rattle.wf_script.specs.declared.fault.ScriptFault.{ScriptFault}
 use Rattle.wf_script.specs.declared.fault.ScriptFault.TheVariants as fault
+use Rattle.wf_script.specs.declared.field.Field.{Field}
+use Rattle.wf_script.specs.declared.field.Field.TheVariants as field
 use Rattle.wf_script.specs.declared.form.Form.{Form}
-use Rattle.wf_script.specs.declared.form.Form.TheVariants as form
+use Rattle.wf_script.specs.declared.form.Form.TheVariants.{Frame, Paint, Plain}
 use Rattle.wf_script.specs.declared.name.Name.{Name}
 use Rattle.wf_script.specs.declared.paint_form.PaintForm.{PaintForm}
 use Rattle.wf_script.specs.declared.paint_form.PaintForm.TheVariants as paint
 use Rattle.wf_script.specs.declared.rule.Rule.{Rule}
 use Rattle.wf_script.specs.declared.rule.Rule.TheVariants as rule
-use Rattle.wf_script.specs.Forms.{forms}
+use Rattle.wf_script.specs.Fields.{Shape, decided, missing, read, unknown, words}
+use Rattle.wf_script.specs.Forms.{forms, shape}
 use Rattle.wf_script.specs.Grammar.{Reading, has_its_name, is_header, is_its_client, is_mode_count, line_words, no_event_here}
 use Rattle.wf_script.specs.Grammar.{no_pipes_here}
 use Rattle.wf_script.specs.Grammar.{no_port_here, nothing_read, read_line}
 use Rattle.wf_script.specs.PaintWords.{hex_digit, paint_forms, row_number}
 use Rattle.wf_script.specs.Rules.{rule_number}
 use Rattle.wf_script.specs.Visible.{is_visible}
-use Rattle.wf_script.specs.Words.{Word, client_of, context_attrs, count_in, element_attrs, filters, formats, handle_of, integer_in}
-use Rattle.wf_script.specs.Words.{integer_of}
-use Rattle.wf_script.specs.Words.{is_allowed, lines_of, look_up, name_of, none_word, pipe_attrs, port_attrs, size_of, stat_words}
-use Rattle.wf_script.specs.Words.{transitions}
-use Rattle.wf_script.specs.Words.{transparencies, without_return}
+use Rattle.wf_script.specs.Words.{Word, client_of, count_in, handle_of, integer_in}
+use Rattle.wf_script.specs.Words.{is_allowed, lines_of, look_up, name_of, none_word, size_of}
+use Rattle.wf_script.specs.Words.{without_return}
 
 -- kinds of words
 
@@ -49,10 +42,11 @@ read_by read = record { is = λ w. is_some (read w); names = false }
 abbrev pub handle : Kind
 handle = record { is = λ w. is_some (handle_of w); names = true }
 
--- numbers
-abbrev pub integer : Kind
-integer = read_by integer_of
+abbrev pub names_object : Field → Bool
+names_object field.Handle = true
+names_object _ = false
 
+-- numbers of paints
 abbrev pub channel : Kind
 channel = read_by (count_in 0 255)
 
@@ -76,34 +70,6 @@ pixels = record { is = λ w. not (nat_lt 8192 (length w)) && in_eights w; names 
 abbrev pub four : Kind → List Kind
 four k = k ∷ k ∷ k ∷ k ∷ []
 
--- what an attribute is set to
-
-abbrev pub element_kinds : ElementAttr → List Kind
-element_kinds element.Dest = four integer
-element_kinds element.Source = handle ∷ []
-element_kinds element.SrcRect = four integer
-element_kinds element.Flip = integer ∷ []
-element_kinds element.Rotation = integer ∷ []
-element_kinds element.Filter = read_by (look_up filters) ∷ []
-element_kinds element.Transparency = read_by (look_up transparencies) ∷ []
-element_kinds element.Alpha = integer ∷ []
-element_kinds element.Mask = handle ∷ []
-
-abbrev pub context_kinds : ContextAttr → List Kind
-context_kinds context.Background = four integer
-context_kinds _ = integer ∷ []
-
-abbrev pub port_kinds : PortAttr → List Kind
-port_kinds port.Background = integer ∷ integer ∷ integer ∷ []
-port_kinds _ = integer ∷ []
-
-abbrev pub pipe_kinds : PipeAttr → List Kind
-pipe_kinds pipe.Dest = four integer
-pipe_kinds pipe.SrcRect = four integer
-pipe_kinds pipe.Filter = read_by (look_up filters) ∷ []
-pipe_kinds pipe.Transparency = read_by (look_up transparencies) ∷ []
-pipe_kinds _ = integer ∷ []
-
 -- the words behind a paint's own
 abbrev pub paint_kinds : PaintForm → List Kind
 paint_kinds paint.Fill = four channel
@@ -114,49 +80,23 @@ paint_kinds paint.Row = read_by row_number ∷ pixels ∷ []
 
 -- the words behind a verb
 
--- the kinds of its words; or the word that decides which they are is missing, or is not known
-pub data Shape : Type 0 where
-  words : List Kind → Shape
-  missing : Shape
-  unknown : Shape
+-- a kind that a loop reads
+abbrev pub kind : Field → Kind
+kind k = record { is = λ w. is_some (read k w); names = names_object k }
 
--- a word decides, with so many before it
-abbrev pub by_word : {A : Type 0} → (A → List Kind) → Option A → Shape
-by_word kinds None = unknown
-by_word kinds (Some x) = words (kinds x)
-
-abbrev pub decided : {A : Type 0} → (Word → Option A) → (A → List Kind) → Option Word → Shape
-decided read kinds None = missing
-decided read kinds (Some w) = by_word kinds (read w)
+abbrev pub kinds : Shape Field → Shape Kind
+kinds (words ks) = words (map kind ks)
+kinds missing = missing
+kinds unknown = unknown
 
 -- the table of forms
-abbrev pub shape_of : Form → List Word → Shape
-shape_of (form.Alone v) ws = words []
-shape_of (form.One v) ws = words (handle ∷ [])
-shape_of (form.Two v) ws = words (handle ∷ handle ∷ [])
-shape_of (form.Three v) ws = words (handle ∷ handle ∷ handle ∷ [])
-shape_of (form.Number v) ws = words (integer ∷ [])
-shape_of (form.Numbers v) ws = words (integer ∷ integer ∷ [])
-shape_of form.Stream ws = words (integer ∷ integer ∷ read_by (look_up formats) ∷ integer ∷ [])
-shape_of form.Stat ws = words (read_by (look_up stat_words) ∷ [])
-shape_of form.Paint ws = decided (look_up paint_forms) (λ p. read_by (look_up paint_forms) ∷ paint_kinds p) (slice_get ws 0)
-shape_of form.Frame ws = decided (look_up paint_forms) (λ p. handle ∷ read_by (look_up paint_forms) ∷ paint_kinds p) (slice_get ws 1)
-shape_of form.Screen ws = words (handle ∷ integer ∷ [])
-shape_of form.Set ws =
-    decided (look_up element_attrs) (λ a. handle ∷ handle ∷ read_by (look_up element_attrs) ∷ element_kinds a) (slice_get ws 2)
-shape_of form.Get ws = words (handle ∷ handle ∷ read_by (look_up element_attrs) ∷ integer ∷ [])
-shape_of form.ContextSet ws =
-    decided (look_up context_attrs) (λ a. handle ∷ handle ∷ read_by (look_up context_attrs) ∷ context_kinds a) (slice_get ws 2)
-shape_of form.ContextGet ws = words (handle ∷ handle ∷ read_by (look_up context_attrs) ∷ integer ∷ [])
-shape_of form.PortSet ws = decided (look_up port_attrs) (λ a. integer ∷ read_by (look_up port_attrs) ∷ port_kinds a) (slice_get ws 1)
-shape_of form.PortGet ws = words (integer ∷ read_by (look_up port_attrs) ∷ integer ∷ [])
-shape_of form.PipeSet ws = decided (look_up pipe_attrs) (λ a. integer ∷ read_by (look_up pipe_attrs) ∷ pipe_kinds a) (slice_get ws 1)
-shape_of form.PipeGet ws = words (integer ∷ read_by (look_up pipe_attrs) ∷ integer ∷ [])
-shape_of form.DisplaySource ws = words (integer ∷ handle ∷ [])
-shape_of form.BindSource ws = words (integer ∷ handle ∷ read_by (look_up transitions) ∷ [])
+abbrev pub shape_of : Form → List Word → Shape Kind
+shape_of (Plain p) ws = kinds (shape p ws)
+shape_of Paint ws = decided (look_up paint_forms) (λ p. read_by (look_up paint_forms) ∷ paint_kinds p) (slice_get ws 0)
+shape_of Frame ws = decided (look_up paint_forms) (λ p. handle ∷ read_by (look_up paint_forms) ∷ paint_kinds p) (slice_get ws 1)
 
 -- the number of words is not the form's
-abbrev pub off_count : Shape → List Word → Bool
+abbrev pub off_count : Shape Kind → List Word → Bool
 off_count (words kinds) ws = not (length ws == length kinds)
 off_count missing ws = true
 off_count unknown ws = false
@@ -167,7 +107,7 @@ off_kinds [] ws = false
 off_kinds (k ∷ ks) [] = false
 off_kinds (k ∷ ks) (w ∷ ws) = not (k.is w) || off_kinds ks ws
 
-abbrev pub off_kind : Shape → List Word → Bool
+abbrev pub off_kind : Shape Kind → List Word → Bool
 off_kind (words kinds) ws = off_kinds kinds ws
 off_kind missing ws = false
 off_kind unknown ws = true
@@ -181,7 +121,7 @@ used_names [] ws = []
 used_names (k ∷ ks) [] = []
 used_names (k ∷ ks) (w ∷ ws) = used_name k w ++ used_names ks ws
 
-abbrev pub used_by : Shape → List Word → List Name
+abbrev pub used_by : Shape Kind → List Word → List Name
 used_by (words kinds) ws = used_names kinds ws
 used_by missing ws = []
 used_by unknown ws = []

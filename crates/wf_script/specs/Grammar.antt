@@ -9,12 +9,12 @@ use Rattle.wf_calls.specs.declared.ports.Modes.{Modes}
 use Rattle.wf_script.specs.declared.fault.ScriptFault.{ScriptFault}
 use Rattle.wf_script.specs.declared.fault.ScriptFault.TheVariants as fault
 use Rattle.wf_script.specs.declared.form.Form.{Form}
-use Rattle.wf_script.specs.declared.form.Form.TheVariants as form
+use Rattle.wf_script.specs.declared.form.Form.TheVariants.{Plain}
+use Rattle.wf_script.specs.declared.form.Plain.TheVariants as plain
 use Rattle.wf_script.specs.declared.line.Line.{Line}
 use Rattle.wf_script.specs.declared.name.Name.{Name}
 use Rattle.wf_script.specs.declared.rule.Rule.{Rule}
 use Rattle.wf_script.specs.declared.rule.Rule.TheVariants as rule
-use Rattle.wf_script.specs.declared.verbs.NoHandle.TheVariants as zero
 use Rattle.wf_script.specs.Forms.{arguments, binds, forms}
 use Rattle.wf_script.specs.Rules.{rule_number}
 use Rattle.wf_script.specs.Script.{PlainScript}
@@ -114,7 +114,7 @@ has_its_name form (Some name) = binds form
 
 -- the clock is client 0's
 abbrev pub is_its_client : Form → ℕ → Bool
-is_its_client (form.Alone zero.Tick) client = client == 0
+is_its_client (Plain plain.Tick) client = client == 0
 is_its_client _ client = true
 
 -- the name that a line binds, if it binds one

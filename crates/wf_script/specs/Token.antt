@@ -1,27 +1,38 @@
 -- The words that are printed, and the bytes of words that stand behind another one.
 use Rattle.std.specs.Prelude.{ℕ, Bool, true, nat_le, List, ◌++◌, codes, decimal, flat_map, length}
+use Rattle.wf_script.specs.declared.token.Shown.{Shown}
+use Rattle.wf_script.specs.declared.token.Shown.TheVariants as shown
 use Rattle.wf_script.specs.declared.token.Token.{Token}
 use Rattle.wf_script.specs.declared.token.Token.TheVariants as token
-use Rattle.wf_script.specs.Canonical.{context_attr_word, element_attr_word, format_word, handle_word, hex_pixel_word, integer_word}
-use Rattle.wf_script.specs.Canonical.{pipe_attr_word, port_attr_word, size_word, stat_word, transition_word, word_of}
-use Rattle.wf_script.specs.Words.{Word, filters, transparencies}
+use Rattle.wf_script.specs.Canonical.{hex_pixel_word, size_word}
+use Rattle.wf_script.specs.Fields.{Item, context_attr, element_attr, filter, format, handle, item_word, number, pipe_attr, port_attr}
+use Rattle.wf_script.specs.Fields.{stat, transition, transparency}
+use Rattle.wf_script.specs.Spelled.{integer_word}
+use Rattle.wf_script.specs.Words.{Word}
+
+-- the item of a word whose kind forms have
+abbrev pub shown_item : Shown → Item
+shown_item (shown.Handle x) = handle x.now
+shown_item (shown.Number x) = number x.now
+shown_item (shown.Format x) = format x
+shown_item (shown.Stat x) = stat x
+shown_item (shown.ElementAttr x) = element_attr x
+shown_item (shown.ContextAttr x) = context_attr x
+shown_item (shown.PortAttr x) = port_attr x
+shown_item (shown.PipeAttr x) = pipe_attr x
+shown_item (shown.Filter x) = filter x
+shown_item (shown.Transparency x) = transparency x
+shown_item (shown.Transition x) = transition x
+
+abbrev pub shown_word : Shown → Word
+shown_word x = item_word (shown_item x)
 
 abbrev pub token_word : Token → Word
 token_word (token.Letters letters) = letters.now
-token_word (token.Handle handle) = handle_word handle.now
-token_word (token.Number number) = integer_word number.now
+token_word (token.Shown x) = shown_word x
 token_word (token.Count count) = decimal count
 token_word (token.Place place) = integer_word place
 token_word (token.Size size) = size_word size
-token_word (token.Format format) = format_word format
-token_word (token.Stat what) = stat_word what
-token_word (token.ElementAttr attr) = element_attr_word attr
-token_word (token.ContextAttr attr) = context_attr_word attr
-token_word (token.PortAttr attr) = port_attr_word attr
-token_word (token.PipeAttr attr) = pipe_attr_word attr
-token_word (token.Filter number) = word_of filters number
-token_word (token.Transparency number) = word_of transparencies number
-token_word (token.Transition transition) = transition_word transition
 token_word (token.Pixels pixels) = flat_map hex_pixel_word pixels.now
 
 -- the longest words are the letters of a verb, and a row of pixels

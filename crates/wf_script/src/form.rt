@@ -1,108 +1,121 @@
 //! The forms of event lines.
 
-ghost use Rattle.std.specs.Prelude.{◌≡◌};
-ghost use Rattle.wf_script.specs.Forms.{binds, forms};
-ghost use Rattle.wf_script.specs.Verbs.{creates};
+ghost use Rattle.std.specs.Prelude.{◌≡◌, ◌≤◌, length};
+ghost use Rattle.wf_script.specs.Forms.{binds, fields, forms};
 ghost use Rattle.wf_script.specs.Words.{look_up};
 
-use crate::line::Verb;
+use crate::field::Field;
+use crate::making::verb_of;
 use crate::table::look_up;
-use crate::verbs::{
-    Destroyed, NoHandle, OneHandle, OneNumber, ThreeHandles, TwoHandles, TwoNumbers,
-};
 
-/// The forms of event lines: verbs whose words are handles alone, or numbers alone, and each other verb.
+/// The verbs but for those that paint, each with the name of the verb that it makes.
 #[derive(Clone, Copy)]
-pub(crate) enum Form {
-    Alone(NoHandle),
-    One(OneHandle),
-    Two(TwoHandles),
-    Three(ThreeHandles),
-    Number(OneNumber),
-    Numbers(TwoNumbers),
-    Stream,
+pub(crate) enum Plain {
+    StreamNew,
+    Acquire,
+    Post,
+    Discard,
     Stat,
-    Paint,
-    Frame,
-    Screen,
-    Set,
-    Get,
+    Tick,
+    DeviceNew,
+    GetError,
+    ScreenContext,
+    StreamContext,
+    ElementNew,
+    SourceNew,
+    MaskNew,
+    ElementSet,
+    ElementGet,
+    ElementInsert,
+    ElementRemove,
+    ElementAbove,
+    ElementBelow,
     ContextSet,
     ContextGet,
+    Commit,
+    Activate,
+    Deactivate,
+    Compose,
+    TryCompose,
+    StreamDestroy,
+    DeviceDestroy,
+    ContextDestroy,
+    ElementDestroy,
+    SourceDestroy,
+    MaskDestroy,
     PortSet,
     PortGet,
+    Attach,
     PipeSet,
     PipeGet,
+    PipeBindPort,
     DisplaySource,
-    BindSource,
+    DisplaySourceDestroy,
+    PipeBindSource,
+    CommitDevice,
+    CommitPort,
+    CommitPipe,
+    DisplayError,
+}
+
+/// The forms of event lines: those that paint, and each other verb.
+#[derive(Clone, Copy)]
+pub(crate) enum Form {
+    Paint,
+    Frame,
+    Plain(Plain),
 }
 
 /// The verbs.
 const FORMS: [(&[u8], Form); 47] = [
-    (b"stream", Form::Stream),
-    (b"acquire", Form::One(OneHandle::Acquire)),
-    (b"post", Form::Alone(NoHandle::Post)),
-    (b"discard", Form::Alone(NoHandle::Discard)),
-    (b"stat", Form::Stat),
+    (b"stream", Form::Plain(Plain::StreamNew)),
+    (b"acquire", Form::Plain(Plain::Acquire)),
+    (b"post", Form::Plain(Plain::Post)),
+    (b"discard", Form::Plain(Plain::Discard)),
+    (b"stat", Form::Plain(Plain::Stat)),
     (b"paint", Form::Paint),
     (b"frame", Form::Frame),
-    (b"tick", Form::Alone(NoHandle::Tick)),
-    (b"device", Form::Alone(NoHandle::Device)),
-    (b"error", Form::One(OneHandle::Error)),
-    (b"screen", Form::Screen),
-    (b"offscreen", Form::Two(TwoHandles::Offscreen)),
-    (b"element", Form::Two(TwoHandles::Element)),
-    (b"source", Form::Three(ThreeHandles::Source)),
-    (b"mask", Form::Three(ThreeHandles::Mask)),
-    (b"set", Form::Set),
-    (b"get", Form::Get),
-    (b"insert", Form::Three(ThreeHandles::Insert)),
-    (b"remove", Form::Two(TwoHandles::Remove)),
-    (b"above", Form::Two(TwoHandles::Above)),
-    (b"below", Form::Two(TwoHandles::Below)),
-    (b"cset", Form::ContextSet),
-    (b"cget", Form::ContextGet),
-    (b"commit", Form::Two(TwoHandles::Commit)),
-    (b"activate", Form::Two(TwoHandles::Activate)),
-    (b"deactivate", Form::Two(TwoHandles::Deactivate)),
-    (b"compose", Form::Two(TwoHandles::Compose)),
-    (b"trycompose", Form::Two(TwoHandles::TryCompose)),
-    (b"del_stream", Form::One(OneHandle::DestroyStream)),
-    (b"del_device", Form::One(OneHandle::DestroyDevice)),
-    (
-        b"del_context",
-        Form::Two(TwoHandles::Destroy(Destroyed::Context)),
-    ),
-    (
-        b"del_element",
-        Form::Two(TwoHandles::Destroy(Destroyed::Element)),
-    ),
-    (
-        b"del_source",
-        Form::Two(TwoHandles::Destroy(Destroyed::Source)),
-    ),
-    (b"del_mask", Form::Two(TwoHandles::Destroy(Destroyed::Mask))),
-    (b"pset", Form::PortSet),
-    (b"pget", Form::PortGet),
-    (b"attach", Form::Numbers(TwoNumbers::Attach)),
-    (b"lset", Form::PipeSet),
-    (b"lget", Form::PipeGet),
-    (b"lport", Form::Numbers(TwoNumbers::BindPort)),
-    (b"wsource", Form::DisplaySource),
-    (b"del_wsource", Form::One(OneHandle::DestroyDisplaySource)),
-    (b"lsource", Form::BindSource),
-    (b"commit_device", Form::Alone(NoHandle::CommitDevice)),
-    (b"commit_port", Form::Number(OneNumber::CommitPort)),
-    (b"commit_pipe", Form::Number(OneNumber::CommitPipe)),
-    (b"derror", Form::Alone(NoHandle::DisplayError)),
+    (b"tick", Form::Plain(Plain::Tick)),
+    (b"device", Form::Plain(Plain::DeviceNew)),
+    (b"error", Form::Plain(Plain::GetError)),
+    (b"screen", Form::Plain(Plain::ScreenContext)),
+    (b"offscreen", Form::Plain(Plain::StreamContext)),
+    (b"element", Form::Plain(Plain::ElementNew)),
+    (b"source", Form::Plain(Plain::SourceNew)),
+    (b"mask", Form::Plain(Plain::MaskNew)),
+    (b"set", Form::Plain(Plain::ElementSet)),
+    (b"get", Form::Plain(Plain::ElementGet)),
+    (b"insert", Form::Plain(Plain::ElementInsert)),
+    (b"remove", Form::Plain(Plain::ElementRemove)),
+    (b"above", Form::Plain(Plain::ElementAbove)),
+    (b"below", Form::Plain(Plain::ElementBelow)),
+    (b"cset", Form::Plain(Plain::ContextSet)),
+    (b"cget", Form::Plain(Plain::ContextGet)),
+    (b"commit", Form::Plain(Plain::Commit)),
+    (b"activate", Form::Plain(Plain::Activate)),
+    (b"deactivate", Form::Plain(Plain::Deactivate)),
+    (b"compose", Form::Plain(Plain::Compose)),
+    (b"trycompose", Form::Plain(Plain::TryCompose)),
+    (b"del_stream", Form::Plain(Plain::StreamDestroy)),
+    (b"del_device", Form::Plain(Plain::DeviceDestroy)),
+    (b"del_context", Form::Plain(Plain::ContextDestroy)),
+    (b"del_element", Form::Plain(Plain::ElementDestroy)),
+    (b"del_source", Form::Plain(Plain::SourceDestroy)),
+    (b"del_mask", Form::Plain(Plain::MaskDestroy)),
+    (b"pset", Form::Plain(Plain::PortSet)),
+    (b"pget", Form::Plain(Plain::PortGet)),
+    (b"attach", Form::Plain(Plain::Attach)),
+    (b"lset", Form::Plain(Plain::PipeSet)),
+    (b"lget", Form::Plain(Plain::PipeGet)),
+    (b"lport", Form::Plain(Plain::PipeBindPort)),
+    (b"wsource", Form::Plain(Plain::DisplaySource)),
+    (b"del_wsource", Form::Plain(Plain::DisplaySourceDestroy)),
+    (b"lsource", Form::Plain(Plain::PipeBindSource)),
+    (b"commit_device", Form::Plain(Plain::CommitDevice)),
+    (b"commit_port", Form::Plain(Plain::CommitPort)),
+    (b"commit_pipe", Form::Plain(Plain::CommitPipe)),
+    (b"derror", Form::Plain(Plain::DisplayError)),
 ];
-
-/// Whether a verb that is made for the question makes something.
-fn creates(verb: Verb) -> bool
-    ensures { result ≡ creates verb }
-{
-    verb.creates()
-}
 
 impl Form {
     /// The form of a verb's word.
@@ -117,25 +130,74 @@ impl Form {
         ensures { result ≡ binds self }
     {
         match self {
-            Form::Alone(verb) => creates(verb.verb()),
-            Form::One(verb) => creates(verb.verb(None)),
-            Form::Two(verb) => creates(verb.verb(None, None)),
-            Form::Three(verb) => creates(verb.verb(None, None, None)),
-            Form::Number(verb) => creates(verb.verb(0)),
-            Form::Numbers(verb) => creates(verb.verb(0, 0)),
-            Form::Stream | Form::Screen | Form::DisplaySource => true,
-            Form::Stat
-            | Form::Paint
-            | Form::Frame
-            | Form::Set
-            | Form::Get
-            | Form::ContextSet
-            | Form::ContextGet
-            | Form::PortSet
-            | Form::PortGet
-            | Form::PipeSet
-            | Form::PipeGet
-            | Form::BindSource => false,
+            Form::Plain(plain) => verb_of(plain, &[]).creates(),
+            Form::Paint | Form::Frame => false,
+        }
+    }
+}
+
+impl Plain {
+    /// The kinds of the words behind the verb; where the last one decides what follows it, up to that.
+    pub(crate) fn fields(self) -> &'static [Field]
+        ensures fields { result.now ≡ fields self }
+        ensures few { length result.now ≤ 4 }
+    {
+        match self {
+            Plain::StreamNew => &[Field::Number, Field::Number, Field::Format, Field::Number],
+            Plain::Acquire
+            | Plain::GetError
+            | Plain::StreamDestroy
+            | Plain::DeviceDestroy
+            | Plain::DisplaySourceDestroy => &[Field::Handle],
+            Plain::Post
+            | Plain::Discard
+            | Plain::Tick
+            | Plain::DeviceNew
+            | Plain::CommitDevice
+            | Plain::DisplayError => &[],
+            Plain::Stat => &[Field::Stat],
+            Plain::ScreenContext => &[Field::Handle, Field::Number],
+            Plain::StreamContext
+            | Plain::ElementNew
+            | Plain::ElementRemove
+            | Plain::ElementAbove
+            | Plain::ElementBelow
+            | Plain::Commit
+            | Plain::Activate
+            | Plain::Deactivate
+            | Plain::Compose
+            | Plain::TryCompose
+            | Plain::ContextDestroy
+            | Plain::ElementDestroy
+            | Plain::SourceDestroy
+            | Plain::MaskDestroy => &[Field::Handle, Field::Handle],
+            Plain::SourceNew | Plain::MaskNew | Plain::ElementInsert => &[
+                Field::Handle,
+                Field::Handle,
+                Field::Handle,
+            ],
+            Plain::ElementSet => &[Field::Handle, Field::Handle, Field::ElementAttr],
+            Plain::ElementGet => &[
+                Field::Handle,
+                Field::Handle,
+                Field::ElementAttr,
+                Field::Number,
+            ],
+            Plain::ContextSet => &[Field::Handle, Field::Handle, Field::ContextAttr],
+            Plain::ContextGet => &[
+                Field::Handle,
+                Field::Handle,
+                Field::ContextAttr,
+                Field::Number,
+            ],
+            Plain::PortSet => &[Field::Number, Field::PortAttr],
+            Plain::PortGet => &[Field::Number, Field::PortAttr, Field::Number],
+            Plain::Attach | Plain::PipeBindPort => &[Field::Number, Field::Number],
+            Plain::PipeSet => &[Field::Number, Field::PipeAttr],
+            Plain::PipeGet => &[Field::Number, Field::PipeAttr, Field::Number],
+            Plain::DisplaySource => &[Field::Number, Field::Handle],
+            Plain::PipeBindSource => &[Field::Number, Field::Handle, Field::Transition],
+            Plain::CommitPort | Plain::CommitPipe => &[Field::Number],
         }
     }
 }

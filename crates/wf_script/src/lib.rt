@@ -1,17 +1,16 @@
 //! Scripts: what one is, and how it is read, printed and made.
 #![tactic(auto)]
 
-mod attributes;
-mod composition;
-mod display;
 mod fault;
+mod field;
 mod form;
-mod form_text;
 mod generator;
 mod given;
 mod hex;
+mod items;
 mod laws;
 mod line;
+mod making;
 mod name;
 mod names;
 mod numbers;
@@ -26,14 +25,16 @@ mod reading;
 mod rule;
 mod script;
 mod seen;
+mod shapes;
 mod spelled;
 mod streams;
 mod table;
 mod text;
 mod token;
+mod told;
 mod value_text;
 mod verb_text;
-mod verbs;
+mod word_tables;
 mod words;
 
 pub use fault::ScriptFault;

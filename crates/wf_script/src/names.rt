@@ -1,8 +1,7 @@
 //! Words that stand for names.
 
-ghost use Rattle.std.specs.Prelude.{◌≡◌, ◌&&◌, IfSome, option_map};
+ghost use Rattle.std.specs.Prelude.{◌≡◌, ◌&&◌, true, Some, option_map};
 ghost use Rattle.std.specs.List.{list_all};
-ghost use Rattle.wf_script.specs.Taken.{AreLetters};
 ghost use Rattle.wf_script.specs.Words.{handle_of, is_name, is_name_byte, name_of, starts_as_name};
 
 use crate::name::Name;
@@ -57,28 +56,43 @@ pub(crate) fn name_of(word: &[u8]) -> Option<Name>
     Some(Name::new(text))
 }
 
-/// A handle's word: the name that it is, with the name's letters, or none.
-#[derive(Drop)]
-pub(crate) struct Handle<'a> {
-    pub name: Option<Name>,
-    pub letters: Option<&'a [u8]>,
+/// The letters of a name, where they stand in a text.
+#[derive(Clone, Copy)]
+pub(crate) struct Letters<'a> {
+    pub word: &'a [u8],
+    ghost is_name: { is_name word.now ≡ true },
 }
 
-/// The handle that a word is, which is none for `none`.
+impl<'a> Letters<'a> {
+    /// The name.
+    #[tactic(auto, unfolding(crate::specs::Words::name_of))]
+    pub(crate) fn name(self) -> Option<Name>
+        ensures { result ≡ Some self.entry.word.now }
+    {
+        name_of(self.word)
+    }
+}
+
+/// The name of a handle's letters, where it has some.
+pub(crate) fn named(letters: Option<Letters<'_>>) -> Option<Name>
+    ensures { result ≡ option_map (λ l. l.word.now) letters.entry }
+{
+    match letters {
+        Some(letters) => letters.name(),
+        None => None,
+    }
+}
+
+/// The letters of a handle's word, which has none where it is `none`.
 #[tactic(auto, unfolding(crate::specs::Words::handle_of, crate::specs::Words::name_of))]
-pub(crate) fn handle_of(word: &[u8]) -> Option<Handle<'_>>
-    ensures name { option_map (λ h. h.name) result ≡ handle_of word.now }
-    ensures letters { IfSome result (λ h. AreLetters h.letters h.name) }
+pub(crate) fn handle_of(word: &[u8]) -> Option<Option<Letters<'_>>>
+    ensures { option_map (λ letters. option_map (λ l. l.word.now) letters) result ≡ handle_of word.now }
 {
     if word == NONE {
-        return Some(Handle {
-            name: None,
-            letters: None,
-        });
+        return Some(None);
     }
-    let name = name_of(word)?;
-    Some(Handle {
-        name: Some(name),
-        letters: Some(word),
-    })
+    if !is_name(word) {
+        return None;
+    }
+    Some(Some(Letters { word }))
 }

@@ -5,11 +5,10 @@ ghost use Rattle.wf_script.specs.Grammar.{bound_name, has_its_name, is_its_clien
 ghost use Rattle.wf_script.specs.Reader.{FindsParts};
 ghost use Rattle.wf_script.specs.Words.{words_in};
 
-use crate::form::Form;
+use crate::form::{Form, Plain};
 use crate::name::Name;
 use crate::names::name_of;
 use crate::rule::Rule;
-use crate::verbs::NoHandle;
 use crate::words::next_word;
 
 /// The words of an event line behind its client: the word before `=`, where there is one, the verb, and what is behind
@@ -64,7 +63,7 @@ pub(crate) fn is_its_client(form: Form, client: u8) -> bool
     ensures { result ≡ is_its_client form client }
 {
     match form {
-        Form::Alone(NoHandle::Tick) => client == 0,
+        Form::Plain(Plain::Tick) => client == 0,
         _ => true,
     }
 }

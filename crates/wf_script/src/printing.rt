@@ -115,7 +115,11 @@ fn add_binding<K: Sink>(text: &mut Text, k: &mut K, name: &Option<Name>)
     ensures most { extent text.new ≤ extent text.old + 16386 }
 {
     match name {
-        Some(_) => add_words(text, k, &[Token::Handle(name), Token::Letters(b"=")]),
+        Some(name) => add_words(
+            text,
+            k,
+            &[Token::Letters(name.as_bytes()), Token::Letters(b"=")],
+        ),
         None => {}
     }
 }

@@ -179,7 +179,7 @@ impl<'a> Reader<'a> {
         }
         let given = arguments(alloc, form, parts.arguments)?;
         let name = bound_name(parts.name)?;
-        if !self.names.sees(client, given.used) {
+        if !self.names.sees(client, given.items.as_slice()) {
             return Err(LineFault::Breaks(Rule::Name));
         }
         if self.names.take_line(client, parts.name)? {

@@ -1,13 +1,15 @@
 //! The names that are bound so far, and who sees them.
 
 ghost use Rattle.std.specs.Prelude.{◌≡◌, ◌<◌, ◌++◌, ◌∷◌, ◌==◌, ◌||◌, ◌&&◌, [], ℕ, List, false, length, slice_index_or, IfOk, IfSome};
-ghost use Rattle.std.specs.Prelude.{OnOk, map, option_map, option_to_list};
+ghost use Rattle.std.specs.Prelude.{OnOk, option_map, option_to_list};
 ghost use Rattle.std.specs.List.{list_all, list_any};
 ghost use Rattle.wf_script.specs.declared.line.Line.{Line};
-ghost use Rattle.wf_script.specs.Given.{names_among};
+ghost use Rattle.wf_script.specs.Fields.{name_in, names_in};
+ghost use Rattle.wf_script.specs.Items.{item_of, items_of};
 ghost use Rattle.wf_script.specs.Seen.{SeesAll, clients_of, is_among, sees};
 ghost use Rattle.wf_script.specs.Visible.{is_name_in};
 
+use crate::field::Item;
 use std::alloc::Global;
 use wf_names::NameMap;
 use wf_words::NoMemory;
@@ -68,26 +70,28 @@ impl<'a> Seen<'a> {
         is_among(client, self.clients_of(name))
     }
 
-    /// Whether a client sees the name, if there is one.
-    fn sees_one(&self, client: u8, name: Option<&'a [u8]>) -> bool
+    /// Whether a client sees the name that an item uses, if it uses one.
+    fn sees_one(&self, client: u8, item: Item<'a>) -> bool
         requires { client < CLIENTS }
-        ensures { result ≡ list_all (sees self.now client) (option_to_list (option_map (λ w. w.now) name.entry)) }
+        ensures { result ≡ list_all (sees self.now client) (name_in (item_of item.entry)) }
     {
-        match name {
-            Some(name) => self.is_visible(client, name),
-            None => true,
+        match item {
+            Item::Handle(Some(letters)) => self.is_visible(client, letters.word),
+            _ => true,
         }
     }
 
-    /// Whether a client sees each of the names.
-    pub(crate) fn sees(&self, client: u8, names: [Option<&'a [u8]>; 3]) -> bool
+    /// Whether a client sees each of the names that items use.
+    #[tactic(auto, using(crate::proofs::Sight::seen_next))]
+    pub(crate) fn sees(&self, client: u8, items: &[Item<'a>]) -> bool
         requires { client < CLIENTS }
-        ensures { result ≡ list_all (sees self.now client) (names_among (map (λ o. option_map (λ w. w.now) o) names.entry)) }
+        ensures { result ≡ list_all (sees self.now client) (names_in (items_of items.now)) }
     {
-        let [first, second, third] = names;
-        self.sees_one(client, first)
-            && self.sees_one(client, second)
-            && self.sees_one(client, third)
+        let mut seen = true;
+        for item in items {
+            seen = seen && self.sees_one(client, *item);
+        }
+        seen
     }
 
     /// Takes the line of a client in, with the name that it binds. Says whether the client saw that name already.

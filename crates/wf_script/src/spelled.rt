@@ -1,8 +1,8 @@
 //! How the words of the tables are spelled.
 
 ghost use Rattle.std.specs.Prelude.{◌≡◌, ◌≤◌, length};
-ghost use Rattle.wf_script.specs.Canonical.{context_attr_word, element_attr_word, format_word, pipe_attr_word, port_attr_word, stat_word};
-ghost use Rattle.wf_script.specs.Canonical.{transition_word, word_of};
+ghost use Rattle.wf_script.specs.Spelled.{context_attr_word, element_attr_word, format_word, pipe_attr_word, port_attr_word, stat_word};
+ghost use Rattle.wf_script.specs.Spelled.{transition_word, word_of};
 ghost use Rattle.wf_script.specs.Words.{filters, transparencies};
 
 use wf_calls::{PipeAttr, PortAttr, StatWord, Transition};

@@ -1,53 +1,30 @@
-//! The words behind the verbs of streams and paints.
+//! The words behind the verbs that paint.
 
-ghost use Rattle.std.specs.Prelude.{◌≡◌};
+ghost use Rattle.std.specs.Prelude.{◌≡◌, [], ◌∷◌, option_map};
+ghost use Rattle.wf_script.specs.Fields.{handle};
 ghost use Rattle.wf_script.specs.Given.{given};
-ghost use Rattle.wf_script.specs.Rules.{Finds, Gives};
-ghost use Rattle.wf_script.specs.Streams.{frame_words, paint_words, stat_words_of, stream_words};
+ghost use Rattle.wf_script.specs.Items.{items_of};
+ghost use Rattle.wf_script.specs.Rules.{Gives};
+ghost use Rattle.wf_script.specs.Streams.{frame_words, paint_words};
 ghost use Rattle.wf_script.specs.Words.{words_in};
 
+use crate::field::Item;
 use crate::given::Given;
 use crate::line::Verb;
-use crate::names::handle_of;
+use crate::names::{Letters, handle_of, named};
 use crate::paints::paint_of;
-use crate::pick::{counted, first, format, number, stat_word};
+use crate::pick::first;
 use crate::rule::{LineFault, Rule};
+use arrayvec::ArrayVec;
 use std::alloc::Global;
 
-/// A new stream's sides, format and number of buffers.
-#[tactic(auto, unfolding(crate::specs::Streams::stream_words))]
-pub(crate) fn stream(words: &[u8]) -> Result<Given<'_>, Rule>
-    ensures { Finds given result (stream_words (words_in words.now)) }
+/// One handle.
+fn one_item<'a>(letters: Option<Letters<'a>>) -> ArrayVec<Item<'a>, 8>
+    ensures { items_of result.items ≡ handle (option_map (λ l. l.word.now) letters.entry) ∷ [] }
 {
-    counted(4, words)?;
-    let (width, words) = number(words)?;
-    let (height, words) = number(words)?;
-    let (format, words) = format(words)?;
-    let (buffers, _) = number(words)?;
-    let verb = Verb::StreamNew {
-        width,
-        height,
-        format,
-        buffers,
-    };
-    Ok(Given {
-        verb,
-        used: [None; 3],
-    })
-}
-
-/// What is counted.
-#[tactic(auto, unfolding(crate::specs::Streams::stat_words_of))]
-pub(crate) fn stat(words: &[u8]) -> Result<Given<'_>, Rule>
-    ensures { Finds given result (stat_words_of (words_in words.now)) }
-{
-    counted(1, words)?;
-    let (what, _) = stat_word(words)?;
-    let verb = Verb::Stat { what };
-    Ok(Given {
-        verb,
-        used: [None; 3],
-    })
+    let mut items = ArrayVec::new();
+    items.push(Item::Handle(letters));
+    items
 }
 
 /// What is painted into the write buffer that was taken last.
@@ -59,7 +36,7 @@ pub(crate) fn painting(alloc: Global, words: &[u8]) -> Result<Given<'_>, LineFau
     let verb = Verb::Paint(paint);
     Ok(Given {
         verb,
-        used: [None; 3],
+        items: ArrayVec::new(),
     })
 }
 
@@ -72,11 +49,11 @@ pub(crate) fn frame(alloc: Global, words: &[u8]) -> Result<Given<'_>, LineFault>
     let paint = paint_of(alloc, words)?;
     let stream = handle_of(word).ok_or(Rule::Word)?;
     let verb = Verb::Frame {
-        stream: stream.name,
+        stream: named(stream),
         paint,
     };
     Ok(Given {
         verb,
-        used: [stream.letters, None, None],
+        items: one_item(stream),
     })
 }

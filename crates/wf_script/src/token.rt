@@ -2,9 +2,11 @@
 
 ghost use Rattle.std.specs.Prelude.{◌≡◌, ◌+◌, ◌*◌, ◌≤◌, ◌++◌, codes, decimal, flat_map, length, map, IsTrue};
 ghost use Rattle.std.specs.List.{list_all};
-ghost use Rattle.wf_script.specs.Canonical.{handle_word, hex_pixel_word, integer_word, size_word};
+ghost use Rattle.wf_script.specs.Canonical.{hex_pixel_word, size_word};
+ghost use Rattle.wf_script.specs.Fields.{item_word};
+ghost use Rattle.wf_script.specs.Spelled.{handle_word, integer_word};
 ghost use Rattle.wf_script.specs.Text.{Adds, extent};
-ghost use Rattle.wf_script.specs.Token.{is_short, spaced, token_word};
+ghost use Rattle.wf_script.specs.Token.{is_short, shown_item, shown_word, spaced, token_word};
 
 use crate::hex::hex_of;
 use crate::name::Name;
@@ -19,16 +21,11 @@ use wf_io::Sink;
 use wf_pixel::{Format, Rgba, Size};
 use wf_scene::{ContextAttr, ElementAttr};
 
-/// A word, by what it says.
+/// A word of a kind that forms have, by what it says.
 #[derive(Clone, Copy)]
-pub(crate) enum Token<'a> {
-    /// Just these letters.
-    Letters(&'a [u8]),
+pub(crate) enum Shown<'a> {
     Handle(&'a Option<Name>),
     Number(&'a i64),
-    Count(u32),
-    Place(i32),
-    Size(Size),
     Format(Format),
     Stat(StatWord),
     ElementAttr(ElementAttr),
@@ -38,6 +35,17 @@ pub(crate) enum Token<'a> {
     Filter(i64),
     Transparency(i64),
     Transition(Transition),
+}
+
+/// A word, by what it says.
+#[derive(Clone, Copy)]
+pub(crate) enum Token<'a> {
+    /// Just these letters.
+    Letters(&'a [u8]),
+    Shown(Shown<'a>),
+    Count(u32),
+    Place(i32),
+    Size(Size),
     Pixels(&'a [Rgba]),
 }
 
@@ -91,6 +99,26 @@ fn add_pixels<K: Sink>(text: &mut Text, k: &mut K, pixels: &[Rgba])
     }
 }
 
+/// Adds a word of a kind that forms have.
+fn add_shown<K: Sink>(text: &mut Text, k: &mut K, shown: Shown<'_>)
+    ensures adds { Adds K.took K.faults text.old k.old text.new k.new (item_word (shown_item shown.entry)) }
+    ensures most { extent text.new ≤ extent text.old + 64 }
+{
+    match shown {
+        Shown::Handle(handle) => add_handle(text, k, handle),
+        Shown::Number(number) => add_number(text, k, *number),
+        Shown::Format(format) => text.add(k, format_word(format)),
+        Shown::Stat(what) => text.add(k, stat_word(what)),
+        Shown::ElementAttr(attr) => text.add(k, element_attr_word(attr)),
+        Shown::ContextAttr(attr) => text.add(k, context_attr_word(attr)),
+        Shown::PortAttr(attr) => text.add(k, port_attr_word(attr)),
+        Shown::PipeAttr(attr) => text.add(k, pipe_attr_word(attr)),
+        Shown::Filter(number) => text.add(k, filter_word(number)),
+        Shown::Transparency(number) => text.add(k, transparency_word(number)),
+        Shown::Transition(transition) => text.add(k, transition_word(transition)),
+    }
+}
+
 /// Adds a word.
 fn add_token<K: Sink>(text: &mut Text, k: &mut K, token: &Token<'_>)
     requires { IsTrue (is_short token.now) }
@@ -99,20 +127,10 @@ fn add_token<K: Sink>(text: &mut Text, k: &mut K, token: &Token<'_>)
 {
     match token {
         Token::Letters(letters) => text.add(k, letters),
-        Token::Handle(handle) => add_handle(text, k, handle),
-        Token::Number(number) => add_number(text, k, **number),
+        Token::Shown(shown) => add_shown(text, k, *shown),
         Token::Count(count) => add_count(text, k, *count),
         Token::Place(place) => add_number(text, k, i64::from(*place)),
         Token::Size(size) => add_size(text, k, *size),
-        Token::Format(format) => text.add(k, format_word(*format)),
-        Token::Stat(what) => text.add(k, stat_word(*what)),
-        Token::ElementAttr(attr) => text.add(k, element_attr_word(*attr)),
-        Token::ContextAttr(attr) => text.add(k, context_attr_word(*attr)),
-        Token::PortAttr(attr) => text.add(k, port_attr_word(*attr)),
-        Token::PipeAttr(attr) => text.add(k, pipe_attr_word(*attr)),
-        Token::Filter(number) => text.add(k, filter_word(*number)),
-        Token::Transparency(number) => text.add(k, transparency_word(*number)),
-        Token::Transition(transition) => text.add(k, transition_word(*transition)),
         Token::Pixels(pixels) => add_pixels(text, k, pixels),
     }
 }
@@ -137,5 +155,16 @@ pub(crate) fn add_words<K: Sink>(text: &mut Text, k: &mut K, tokens: &[Token<'_>
 {
     for token in tokens {
         add_word(text, k, token);
+    }
+}
+
+/// Adds words of kinds that forms have, each behind a space.
+#[tactic(auto, using(crate::proofs::Additions::adds_none), unfolding(crate::specs::Token::spaced))]
+pub(crate) fn add_all_shown<K: Sink>(text: &mut Text, k: &mut K, shown: &[Shown<'_>])
+    ensures adds { Adds K.took K.faults text.old k.old text.new k.new (spaced (map shown_word shown.now)) }
+    ensures most { extent text.new ≤ extent text.old + 8193 * length shown.now }
+{
+    for one in shown {
+        add_word(text, k, &Token::Shown(*one));
     }
 }

@@ -1,6 +1,6 @@
 use Rattle.std.proofs.Common.{◌≡◌, ◌∙◌, ◌<◌, ◌≤◌, length, sym, ap, arith}
 use Rattle.std.proofs.lemmas.Bool.Decides.{nat_tests}
-use Rattle.wf_script.proofs.Behind.{behind}
+use Rattle.wf_script.specs.Items.{behind}
 use Rattle.wf_script.proofs.HexRow.{no_pixel, pixel_more, pixels_end, too_short}
 use Rattle.wf_script.proofs.hex.hex_pixels.Goals as goal
 

@@ -1,6 +1,6 @@
 use Rattle.std.proofs.Common.{◌≡◌, length}
 use Rattle.wf_script.specs.PaintWords.{hex_pixels}
-use Rattle.wf_script.proofs.Behind.{behind}
+use Rattle.wf_script.specs.Items.{behind}
 use Rattle.wf_script.proofs.hex.hex_pixels.Given as goal
 
 -- the pixels so far stand before those of the digits that are left

@@ -1,7 +1,7 @@
 use Rattle.std.proofs.Common.{◌∙◌, List, length, sym, ap, arith}
 use Rattle.wf_script.specs.Grammar.{sizes}
 use Rattle.wf_script.specs.Words.{Word, words_in}
-use Rattle.wf_script.proofs.Behind.{behind}
+use Rattle.wf_script.specs.Items.{behind}
 use Rattle.wf_script.proofs.SizeRow.{no_size, size_more, sizes_end}
 use Rattle.wf_script.proofs.reader.sizes.Goals as goal
 

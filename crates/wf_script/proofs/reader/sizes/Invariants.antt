@@ -1,7 +1,7 @@
 use Rattle.std.proofs.Common.{◌≡◌, ◌+◌, ◌≤◌, length}
 use Rattle.wf_script.specs.Grammar.{sizes}
 use Rattle.wf_script.specs.Words.{words_in}
-use Rattle.wf_script.proofs.Behind.{behind}
+use Rattle.wf_script.specs.Items.{behind}
 use Rattle.wf_script.proofs.reader.sizes.Given as goal
 
 -- the sizes so far stand before those of the words that are left

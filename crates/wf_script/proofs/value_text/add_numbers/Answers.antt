@@ -1,5 +1,5 @@
 use Rattle.std.proofs.Common.{arith, pos}
-use Rattle.wf_script.specs.Canonical.{integer_word}
+use Rattle.wf_script.specs.Spelled.{integer_word}
 use Rattle.wf_script.proofs.Tokens.{words_next}
 use Rattle.wf_script.proofs.value_text.add_numbers.Goals as goal
 

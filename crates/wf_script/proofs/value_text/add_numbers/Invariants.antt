@@ -1,5 +1,5 @@
 use Rattle.std.proofs.Common.{◌+◌, ◌*◌, ◌≤◌, map, take}
-use Rattle.wf_script.specs.Canonical.{integer_word}
+use Rattle.wf_script.specs.Spelled.{integer_word}
 use Rattle.wf_script.specs.Token.{spaced}
 use Rattle.wf_script.specs.Text.{Adds, extent}
 use Rattle.wf_script.proofs.value_text.add_numbers.Given as goal
