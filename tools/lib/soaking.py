@@ -21,6 +21,8 @@ class Kind(NamedTuple):
 NAMED = {"make_stream": 2, "end_stream": 1, "make_window": 24, "make_plane": 12, "end_source": 1, "end_element": 1, "end_device": 0}
 KINDS = (Kind(30, (1, 3, 6), (1, 2, 3), {}), Kind(25, (8, 20, 40), (1, 2, 3), {}), Kind(25, (40, 62, 70), (1, 2), {}),
          Kind(12, (2, 4, 12), (1, 2), NAMED), Kind(8, (10, 40, 70), (1, 900, 1024), {"make_stream": 12}))
+# Runs whose streams are large, and soon dropped, which come where they are asked for.
+LARGE = Kind(0, (4, 8, 16), (500, 1024), {"make_stream": 60, "end_stream": 40, "end_source": 20, "end_context": 20})
 # After so many deeds a run has another number of streams about.
 SPELL = 150
 # What is done next, each with how often: the functions of these names.
@@ -38,16 +40,18 @@ EVENT, HAND, LOOK = "event", "hand", "look"
 
 
 class Soaking:
-    """A run of calls, which is written line by line, by a source of random numbers."""
+    """A run of calls, which is written line by line, by a source of random numbers. It is of a kind, or of one at random."""
 
-    def __init__(self, chance):
+    def __init__(self, chance, kind=None):
         self.chance = chance
-        self.kind = chance.choices(KINDS, [kind.often for kind in KINDS])[0]
+        self.kind = kind or chance.choices(KINDS, [kind.often for kind in KINDS])[0]
         self.aim = 0
         width, height, ports = chance.randint(1, 3), chance.randint(1, 3), chance.choice((1, 2, 4))
         self.machine = Counted([[(width, height)]] * ports, 2)
         self.canvas = None
         self.deeds = self.events = self.refusals = self.greatest = 0
+        # The bytes of all streams that were made.
+        self.bytes = 0
         self.lines = []
         # Which calls were answered with which codes.
         self.reached = set()
@@ -153,7 +157,8 @@ class Soaking:
         form, buffers = self.chance.choice(FORMATS), self.chance.choice((2, 2, 3, 4))
         if self.is_astray():
             width, buffers = self.chance.choice(((0, 2), (1025, 2), (1, 1), (1, 5)))
-        self.call("stream", width, height, form, buffers)
+        if self.call("stream", width, height, form, buffers) is not None:
+            self.bytes += bytes_of(self.machine.streams[-1])
 
     def end_stream(self):
         self.call("del_stream", self.handle_of(self.thing("stream")))

@@ -19,13 +19,13 @@ use std::rt::{Env, Files};
 use std::{env, fs, io};
 pub use words::{number, value, word, words_of};
 
-/// What the calls of a file are made on.
-pub trait Stage: Drop {
+/// What the calls of a file are made on, by a runtime of type `R`.
+pub trait Stage<R: AllocGlobal>: Drop {
     /// What stands at the beginning of each file.
     fn opened(alloc: Global) -> Self;
 
     /// Makes a call and tells its answer. Spaces round it do not count.
-    fn answer(&mut self, alloc: Global, call: &str) -> Result<String, AllocError>;
+    fn answer(&mut self, rt: &R, call: &str) -> Result<String, AllocError>;
 }
 
 /// How much was played.
@@ -58,16 +58,20 @@ fn repeated(call: &str) -> (u32, &str) {
 }
 
 /// The last answer to a call.
-fn answered<S: Stage>(alloc: Global, stage: &mut S, call: &str) -> Result<String, AllocError> {
+fn answered<S: Stage<R>, R: AllocGlobal>(
+    rt: &R,
+    stage: &mut S,
+    call: &str,
+) -> Result<String, AllocError> {
     let (count, call) = repeated(call);
     for _ in 1..count {
-        let _ = stage.answer(alloc, call)?;
+        let _ = stage.answer(rt, call)?;
     }
-    stage.answer(alloc, call)
+    stage.answer(rt, call)
 }
 
 /// Plays the cases of a text, and prints each line that is answered otherwise.
-fn play_text<S: Stage, R: Print + AllocGlobal>(
+fn play_text<S: Stage<R>, R: Print + AllocGlobal>(
     rt: &R,
     name: &str,
     text: &str,
@@ -79,7 +83,7 @@ fn play_text<S: Stage, R: Print + AllocGlobal>(
             continue;
         };
         tally.cases = tally.cases.saturating_add(1);
-        let answer = answered(rt.alloc(), &mut stage, call)?;
+        let answer = answered(rt, &mut stage, call)?;
         let came = answer.trim();
         if came != want {
             tally.wrong = tally.wrong.saturating_add(1);
@@ -93,7 +97,7 @@ fn play_text<S: Stage, R: Print + AllocGlobal>(
 /// Plays the files that the command line names. Prints each line that is answered otherwise with its number, and then how
 /// many cases were played. The status is 0 where each answer was the one that is wanted, and 1 elsewhere. An error is that
 /// of a file or of the output.
-pub fn play<S: Stage, R: Files + Env + Print + AllocGlobal>(rt: &R) -> io::Result<ExitCode> {
+pub fn play<S: Stage<R>, R: Files + Env + Print + AllocGlobal>(rt: &R) -> io::Result<ExitCode> {
     let names: Vec<String> = env::args(rt)?.skip(1).collect(rt.alloc())?;
     let mut tally = Tally::default();
     for name in names.iter() {

@@ -27,7 +27,7 @@ fn main(rt: HostRuntime) -> io::Result<ExitCode> {
     wf_cases::play::<Cases, HostRuntime>(&rt)
 }
 
-impl Stage for Cases {
+impl<R: AllocGlobal> Stage<R> for Cases {
     fn opened(_alloc: Global) -> Cases {
         Cases {
             machine: None,
@@ -35,7 +35,8 @@ impl Stage for Cases {
         }
     }
 
-    fn answer(&mut self, alloc: Global, call: &str) -> Result<String, AllocError> {
+    fn answer(&mut self, rt: &R, call: &str) -> Result<String, AllocError> {
+        let alloc = rt.alloc();
         let words = words_of(alloc, call)?;
         let words = words.as_slice();
         if word(words, 0) == "ports" {

@@ -35,7 +35,7 @@ fn main(rt: HostRuntime) -> io::Result<ExitCode> {
     wf_cases::play::<Films, HostRuntime>(&rt)
 }
 
-impl Stage for Films {
+impl<R: AllocGlobal> Stage<R> for Films {
     fn opened(alloc: Global) -> Films {
         Films {
             form: FilmForm::One,
@@ -47,7 +47,8 @@ impl Stage for Films {
         }
     }
 
-    fn answer(&mut self, alloc: Global, call: &str) -> Result<String, AllocError> {
+    fn answer(&mut self, rt: &R, call: &str) -> Result<String, AllocError> {
+        let alloc = rt.alloc();
         let words = words_of(alloc, call)?;
         let words = words.as_slice();
         match word(words, 0) {

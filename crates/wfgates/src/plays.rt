@@ -6,48 +6,7 @@ use std::io;
 use std::sync::Wait;
 use std::thread::Threads;
 use wf_calls::Order;
-use wf_io::{MemorySink, MemorySource};
-use wf_play::{Gate, Open, Status, play};
-
-/// The most bytes of a film here.
-const ROOM: usize = 16_777_216;
-
-/// What a play came to.
-#[derive(Drop)]
-pub(crate) struct Played {
-    pub(crate) status: Status,
-    pub(crate) order: Order,
-    pub(crate) film: MemorySink,
-    pub(crate) notes: MemorySink,
-}
-
-/// Plays an input by these words, under a gate.
-pub(crate) fn play_by<R: Threads + Wait + Sync + AllocGlobal, G: Gate>(
-    rt: &R,
-    bytes: Vec<u8>,
-    asked: &[&str],
-    gate: &G,
-) -> io::Result<Played> {
-    let alloc = rt.alloc();
-    let mut words = Vec::new(alloc);
-    for word in asked.iter() {
-        words.push(String::from_str(alloc, word)?)?;
-    }
-    let mut input = MemorySource::new(bytes, 4096, Vec::new(alloc));
-    let (Ok(mut film), Ok(mut notes)) = (
-        MemorySink::new(alloc, ROOM, Vec::new(alloc)),
-        MemorySink::new(alloc, 4096, Vec::new(alloc)),
-    ) else {
-        return Err(io::ErrorKind::OutOfMemory.into());
-    };
-    let report = play(rt, alloc, &words, &mut input, &mut film, &mut notes, gate);
-    Ok(Played {
-        status: report.status,
-        order: report.order,
-        film,
-        notes,
-    })
-}
+use wf_plays::{check, play_by};
 
 /// What a check of a film behind its script puts into the notes.
 fn checked<R: Threads + Wait + Sync + AllocGlobal>(
@@ -55,9 +14,7 @@ fn checked<R: Threads + Wait + Sync + AllocGlobal>(
     script: &str,
     film: &[u8],
 ) -> io::Result<String> {
-    let mut bytes = Vec::from_slice(rt.alloc(), script.as_bytes())?;
-    bytes.extend_from_slice(film)?;
-    let told = play_by(rt, bytes, &["check"], &Open)?;
+    let told = check(rt, script, film)?;
     let mut note = String::new(rt.alloc());
     for byte in told.notes.bytes() {
         if *byte != b'\n' {

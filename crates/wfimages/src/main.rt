@@ -21,7 +21,7 @@ fn main(rt: HostRuntime) -> io::Result<ExitCode> {
     wf_cases::play::<Images, HostRuntime>(&rt)
 }
 
-impl Stage for Images {
+impl<R: AllocGlobal> Stage<R> for Images {
     fn opened(_alloc: Global) -> Images {
         Images {
             canvas: None,
@@ -29,7 +29,8 @@ impl Stage for Images {
         }
     }
 
-    fn answer(&mut self, alloc: Global, call: &str) -> Result<String, AllocError> {
+    fn answer(&mut self, rt: &R, call: &str) -> Result<String, AllocError> {
+        let alloc = rt.alloc();
         let words = words_of(alloc, call)?;
         let words = words.as_slice();
         match word(words, 0) {

@@ -1,15 +1,35 @@
-//! A sink that takes little, and a writer that fails.
+//! A source and sinks that count their calls, and a writer that fails.
 
-ghost use Rattle.std.specs.Prelude.{◌≡◌};
+ghost use Rattle.std.specs.Prelude.{◌≡◌, Some};
 
 use std::io;
 use std::io::Write;
-use wf_io::{Failed, MemorySink, Sink};
+use wf_io::{Failed, MemorySink, MemorySource, Sink, Source};
 
-/// A sink that takes at most two bytes in a call.
+/// A source that counts its calls. Behind a call that failed it gives on.
+#[derive(Drop)]
+pub(crate) struct Counted {
+    pub(crate) source: MemorySource,
+    pub(crate) calls: u64,
+}
+
+impl Source for Counted {
+    ghost left = { λ s. Some s.source.left };
+
+    ghost faults = { λ s. s.source.faults };
+
+    fn take(&mut self, into: &mut [u8]) -> Result<usize, Failed> {
+        self.calls = self.calls.saturating_add(1);
+        self.source.take(into)
+    }
+}
+
+/// A sink that counts its calls, and takes at most two bytes in a call where it is narrow. Behind a call that failed it takes on.
 #[derive(Drop)]
 pub(crate) struct Narrow {
     pub(crate) sink: MemorySink,
+    pub(crate) is_narrow: bool,
+    pub(crate) calls: u64,
 }
 
 impl Sink for Narrow {
@@ -18,7 +38,9 @@ impl Sink for Narrow {
     ghost faults = { λ s. s.sink.faults };
 
     fn put(&mut self, bytes: &[u8]) -> Result<usize, Failed> {
-        self.sink.put(&bytes[..bytes.len().min(2)])
+        self.calls = self.calls.saturating_add(1);
+        let most = if self.is_narrow { 2 } else { bytes.len() };
+        self.sink.put(&bytes[..bytes.len().min(most)])
     }
 }
 

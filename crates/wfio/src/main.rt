@@ -3,7 +3,7 @@
 
 mod doubles;
 
-use doubles::{Broken, Narrow};
+use doubles::{Broken, Counted, Narrow};
 use std::alloc::{AllocError, Global};
 use std::io;
 use std::process::ExitCode;
@@ -21,18 +21,19 @@ fn main(rt: HostRuntime) -> io::Result<ExitCode> {
     wf_cases::play::<Parts, HostRuntime>(&rt)
 }
 
-impl Stage for Parts {
+impl<R: AllocGlobal> Stage<R> for Parts {
     fn opened(_alloc: Global) -> Parts {
         Parts
     }
 
-    fn answer(&mut self, alloc: Global, call: &str) -> Result<String, AllocError> {
+    fn answer(&mut self, rt: &R, call: &str) -> Result<String, AllocError> {
+        let alloc = rt.alloc();
         let words = words_of(alloc, call)?;
         let words = words.as_slice();
         match word(words, 0) {
             "read" => read(alloc, words),
-            "write" => write(alloc, words),
-            "narrow" => narrow(alloc, words),
+            "write" => write(alloc, words, false),
+            "narrow" => write(alloc, words, true),
             "tally" => tally(alloc, words),
             "adapted" => adapted(alloc),
             "broken" => broken(alloc, word(words, 1) == "flush"),
@@ -47,7 +48,7 @@ fn numbers(alloc: Global, count: u8) -> Result<Vec<u8>, AllocError> {
 }
 
 /// Reads all of a source, `read COUNT STEP FAILING LIMIT`: how many bytes it has and gives in a call, which call fails, and the
-/// limit.
+/// limit. Tells what came, in how many calls.
 fn read(alloc: Global, words: &[&str]) -> Result<String, AllocError> {
     let step: usize = number(words, 2);
     if step == 0 {
@@ -55,62 +56,59 @@ fn read(alloc: Global, words: &[&str]) -> Result<String, AllocError> {
     }
     let bytes = numbers(alloc, number(words, 1))?;
     let failing = Vec::from_slice(alloc, &[number(words, 3)])?;
-    let mut source = MemorySource::new(bytes.clone()?, step, failing);
-    let got = read_all(alloc, &mut source, number(words, 4));
-    let faults = source.faults();
+    let mut counted = Counted {
+        source: MemorySource::new(bytes.clone()?, step, failing),
+        calls: 0,
+    };
+    let got = read_all(alloc, &mut counted, number(words, 4));
+    let (calls, faults) = (counted.calls, counted.source.faults());
     match got {
         Ok(read) if read.as_slice() == bytes.as_slice() => format!(in alloc;
-            "all, {faults} faults"
+            "all in {calls} calls, {faults} faults"
         ),
         Ok(_) => format!(in alloc; "other bytes"),
-        Err(ReadStop::TooLong) => format!(in alloc; "too long, {faults} faults"),
-        Err(ReadStop::Fault) => format!(in alloc; "fault, {faults} faults"),
+        Err(ReadStop::TooLong) => format!(in alloc; "too long in {calls} calls, {faults} faults"),
+        Err(ReadStop::Fault) => format!(in alloc; "fault in {calls} calls, {faults} faults"),
         Err(ReadStop::NoMemory) => Err(AllocError),
     }
 }
 
-/// What writing came to, and whether the sink holds just what was written.
+/// What writing came to, in how many calls, and whether the sink holds just what was written.
 fn told(
     alloc: Global,
     written: Result<(), WriteStop>,
-    sink: &MemorySink,
+    narrow: &Narrow,
     bytes: &[u8],
 ) -> Result<String, AllocError> {
-    let (held, faults) = (sink.bytes(), sink.faults());
+    let (held, calls, faults) = (narrow.sink.bytes(), narrow.calls, narrow.sink.faults());
     if bytes.get(..held.len()) != Some(held) {
         return format!(in alloc; "other bytes");
     }
     let count = held.len();
     match written {
-        Ok(()) => format!(in alloc; "all, holds {count}, {faults} faults"),
+        Ok(()) => format!(in alloc; "all in {calls} calls, holds {count}, {faults} faults"),
         Err(stop) => format!(in alloc;
-            "stop after {}, holds {count}, {faults} faults",
+            "stop after {} in {calls} calls, holds {count}, {faults} faults",
             stop.written
         ),
     }
 }
 
-/// Writes all bytes, `write COUNT ROOM FAILING`: how many, the room of the sink, and which call fails.
-fn write(alloc: Global, words: &[&str]) -> Result<String, AllocError> {
-    let bytes = numbers(alloc, number(words, 1))?;
-    let failing = Vec::from_slice(alloc, &[number(words, 3)])?;
-    let Ok(mut sink) = MemorySink::new(alloc, number(words, 2), failing) else {
-        return Err(AllocError);
-    };
-    let written = write_all(&mut sink, &bytes);
-    told(alloc, written, &sink, &bytes)
-}
-
-/// The same through a sink that takes at most two bytes in a call, `narrow COUNT ROOM FAILING`.
-fn narrow(alloc: Global, words: &[&str]) -> Result<String, AllocError> {
+/// Writes all bytes, `write COUNT ROOM FAILING`: how many, the room of the sink, and which call fails; or `narrow ..`, into a sink
+/// that takes at most two bytes in a call.
+fn write(alloc: Global, words: &[&str], is_narrow: bool) -> Result<String, AllocError> {
     let bytes = numbers(alloc, number(words, 1))?;
     let failing = Vec::from_slice(alloc, &[number(words, 3)])?;
     let Ok(sink) = MemorySink::new(alloc, number(words, 2), failing) else {
         return Err(AllocError);
     };
-    let mut narrow = Narrow { sink };
+    let mut narrow = Narrow {
+        sink,
+        is_narrow,
+        calls: 0,
+    };
     let written = write_all(&mut narrow, &bytes);
-    told(alloc, written, &narrow.sink, &bytes)
+    told(alloc, written, &narrow, &bytes)
 }
 
 /// Counts bytes, `tally BYTE COUNT TIMES`: which byte a piece has, how often, and how often the piece is put.

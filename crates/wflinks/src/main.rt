@@ -19,12 +19,13 @@ fn main(rt: HostRuntime) -> io::Result<ExitCode> {
     wf_cases::play::<Lists, HostRuntime>(&rt)
 }
 
-impl Stage for Lists {
+impl<R: AllocGlobal> Stage<R> for Lists {
     fn opened(_alloc: Global) -> Lists {
         Lists { linked: None }
     }
 
-    fn answer(&mut self, alloc: Global, call: &str) -> Result<String, AllocError> {
+    fn answer(&mut self, rt: &R, call: &str) -> Result<String, AllocError> {
+        let alloc = rt.alloc();
         let words = words_of(alloc, call)?;
         let words = words.as_slice();
         if word(words, 0) == "new" {

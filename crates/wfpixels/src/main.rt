@@ -15,12 +15,13 @@ fn main(rt: HostRuntime) -> io::Result<ExitCode> {
     wf_cases::play::<Pixels, HostRuntime>(&rt)
 }
 
-impl Stage for Pixels {
+impl<R: AllocGlobal> Stage<R> for Pixels {
     fn opened(_alloc: Global) -> Pixels {
         Pixels
     }
 
-    fn answer(&mut self, alloc: Global, call: &str) -> Result<String, AllocError> {
+    fn answer(&mut self, rt: &R, call: &str) -> Result<String, AllocError> {
+        let alloc = rt.alloc();
         let words = words_of(alloc, call)?;
         let words = words.as_slice();
         match word(words, 0) {

@@ -22,14 +22,15 @@ fn main(rt: HostRuntime) -> io::Result<ExitCode> {
     wf_cases::play::<Reader, HostRuntime>(&rt)
 }
 
-impl Stage for Reader {
+impl<R: AllocGlobal> Stage<R> for Reader {
     fn opened(alloc: Global) -> Reader {
         Reader {
             before: Vec::new(alloc),
         }
     }
 
-    fn answer(&mut self, alloc: Global, call: &str) -> Result<String, AllocError> {
+    fn answer(&mut self, rt: &R, call: &str) -> Result<String, AllocError> {
+        let alloc = rt.alloc();
         let (call, text) = call.split_once(' ').unwrap_or((call, ""));
         match call {
             "script" => {

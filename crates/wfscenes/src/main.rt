@@ -26,12 +26,13 @@ fn main(rt: HostRuntime) -> io::Result<ExitCode> {
     wf_cases::play::<Scenes, HostRuntime>(&rt)
 }
 
-impl Stage for Scenes {
+impl<R: AllocGlobal> Stage<R> for Scenes {
     fn opened(_alloc: Global) -> Scenes {
         Scenes { cached: None }
     }
 
-    fn answer(&mut self, alloc: Global, call: &str) -> Result<String, AllocError> {
+    fn answer(&mut self, rt: &R, call: &str) -> Result<String, AllocError> {
+        let alloc = rt.alloc();
         let words = words_of(alloc, call)?;
         let words = words.as_slice();
         let call = word(words, 0);

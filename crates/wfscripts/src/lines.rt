@@ -3,13 +3,14 @@
 use crate::checks::told_check;
 use crate::events::{Journal, is_code};
 use crate::films::{frame_of, told_film, told_frame};
-use crate::plays::{OF_ONE, Played, Plays};
+use crate::plays::{OF_ONE, Plays};
 use std::alloc::{AllocError, Global};
 use std::io;
 use std::sync::Wait;
 use std::thread::Threads;
 use wf_cases::{word, words_of};
 use wf_play::Status;
+use wf_plays::Played;
 
 /// How many comments were compared, and how many were wrong.
 #[derive(Clone, Copy, Default)]

@@ -18,14 +18,15 @@ fn main(rt: HostRuntime) -> io::Result<ExitCode> {
     wf_cases::play::<Streams, HostRuntime>(&rt)
 }
 
-impl Stage for Streams {
+impl<R: AllocGlobal> Stage<R> for Streams {
     fn opened(alloc: Global) -> Streams {
         let mut store = Store::new(alloc);
         let _ = store.screen(Size { w: 1, h: 1 });
         Streams { store }
     }
 
-    fn answer(&mut self, alloc: Global, call: &str) -> Result<String, AllocError> {
+    fn answer(&mut self, rt: &R, call: &str) -> Result<String, AllocError> {
+        let alloc = rt.alloc();
         let words = words_of(alloc, call)?;
         let words = words.as_slice();
         match word(words, 0) {
