@@ -1,6 +1,7 @@
--- The numbers of the codes, answers and replies, who answers a call, which calls make an object, which bring nothing, and which ports
--- may be declared.
+-- The numbers of the codes, the entries of orders, answers and replies, who answers a call, which calls make an object, which bring
+-- nothing, and which ports may be declared.
 pub mod Codes
+pub mod Orders
 pub mod Replies
 pub mod Places
 pub mod Parts

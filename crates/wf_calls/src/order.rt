@@ -1,6 +1,8 @@
 //! The journal's entries, and the order that they make.
 
 ghost use Rattle.std.specs.Prelude.{◌≡◌};
+ghost use Rattle.std.specs.List.{AllByRecursion};
+ghost use Rattle.wf_calls.specs.Orders.{IsEntry};
 
 use std::marker::Model;
 
@@ -28,17 +30,35 @@ impl Model for Order {
 }
 
 impl Order {
-    /// The order of these turns. Nothing is copied.
+    /// Makes the order of these `turns`. Nothing is copied.
     pub fn new(turns: Vec<Turn>) -> Order
-        ensures { result ≡ turns.items }
+        ensures turns { result ≡ turns.items }
+        ensures values { AllByRecursion IsEntry result }
     {
+        prove_values(&turns);
         Order { turns }
     }
 
-    /// The turns, the first event first.
+    /// Returns the turns, the first event first.
     pub fn turns(&self) -> &[Turn]
         ensures { result.now ≡ self.now }
     {
         &self.turns
     }
+}
+
+/// Shows that the values of all `turns` are in the range of their type. It changes nothing.
+fn prove_values(turns: &[Turn])
+    ensures { AllByRecursion IsEntry turns.now }
+{
+    for turn in turns {
+        prove_value(turn);
+    }
+}
+
+/// Shows that the value of `turn` is in the range of its type. It changes nothing.
+fn prove_value(turn: &Turn)
+    ensures { IsEntry turn.now }
+{
+    let _value = turn.value;
 }

@@ -1,3 +1,4 @@
 pub mod Places
 pub mod Findings
 pub mod OneVerdict
+pub mod WrittenFilms

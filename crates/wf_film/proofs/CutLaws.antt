@@ -10,11 +10,12 @@ use Rattle.byteorder.specs.Endian.{big_bytes}
 use Rattle.byteorder.specs.Numbers.{length-bytes_high_first}
 use Rattle.wf_words.specs.Refusals.{◌>>=◌}
 use Rattle.wf_calls.specs.declared.order.Turn.{Turn}
+use Rattle.wf_calls.specs.Orders.{IsTurn}
 use Rattle.wf_film.specs.declared.form.FilmForm.{FilmForm}
 use Rattle.wf_film.specs.declared.form.FilmForm.TheVariants as forms
 use Rattle.wf_film.specs.declared.rule.Rule.TheVariants as rule
 use Rattle.wf_film.specs.Film.{Frame, PlainFilm, begin_bytes, film_bytes, frame_bytes, magic, turn_bytes}
-use Rattle.wf_film.specs.Stands.{IsFilm, IsFrame, IsTurn}
+use Rattle.wf_film.specs.Stands.{IsFilm, IsFrame}
 use Rattle.wf_film.specs.Reading.{Read, begin_at, byte_at, byte_within, end_at, fault_of, film_at, film_fault, form_at}
 use Rattle.wf_film.specs.Reading.{frame_at, frames_at, journal_at, number_at, pixels_at, read_film, side_at, turn_at, turns_at}
 use Rattle.wf_film.specs.Rules.{breach, ends_here}

@@ -1,18 +1,20 @@
 -- The frames of a film: what is read stands at the front, and what stands there is read.
 use Rattle.std.proofs.Common.{◌≡◌, ◌∙◌, ℕ, zero, suc, ◌*◌, ◌<◌, ◌≤◌, ◌==◌, Bool, true, false, not, List, [], ◌∷◌, ◌++◌, length}
 use Rattle.std.proofs.Common.{Ok, refl, sym, ap, subst, append_assoc, arith, length-append}
-use Rattle.std.specs.Prelude.{if◌then◌else◌}
+use Rattle.std.specs.Prelude.{if◌then◌else◌, ◌^◌, nat_le}
 use Rattle.std.specs.List.{flat_map, AllByRecursion}
 use Rattle.std.specs.Str.{byte}
-use Rattle.std.proofs.lemmas.Bool.{eqb-true}
+use Rattle.std.proofs.lemmas.Bool.{and_parts, eqb-true, leb-true}
 use Rattle.byteorder.specs.Endian.{big_bytes}
 use Rattle.wf_words.specs.Refusals.{◌>>=◌, refuse_if}
 use Rattle.wf_pixel.specs.declared.Size.{Size}
+use Rattle.wf_pixel.specs.Choice.{has_sides, is_side}
+use Rattle.wf_image.specs.Bitmap.{Bitmap, image_bytes, pixel_bytes}
 use Rattle.wf_film.specs.declared.form.FilmForm.{FilmForm}
 use Rattle.wf_film.specs.declared.form.FilmForm.TheVariants as forms
 use Rattle.wf_film.specs.declared.rule.Rule.TheVariants as rule
-use Rattle.wf_film.specs.Film.{Frame, begin_bytes, frame_bytes}
-use Rattle.wf_film.specs.Stands.{IsFrame}
+use Rattle.wf_film.specs.Film.{Frame, begin_bytes, frame_bytes, frame_of}
+use Rattle.wf_film.specs.Stands.{IsFrame, IsFrameIn, IsSide, MayBegin, frame_in}
 use Rattle.wf_film.specs.Reading.{begin_at, behind, byte_at, byte_within, frame_at, frames_at, number_at, pixels_at, side_at}
 use Rattle.wf_film.specs.Rules.{breach}
 use Rattle.wf_film.proofs.FieldLaws.{begin_again, begin_takes, byte_takes, four_come_back, number_again, number_takes, pixels_again}
@@ -83,6 +85,44 @@ frame_again form f rest is =
       side_again f.size.h (f.pixels ++ rest) is.height,
       pixels_again (4 * (f.size.w * f.size.h)) f.pixels rest is.pixels,
     ) refl
+
+-- the frame that shows an image of 4 bytes a pixel
+
+side_is : (n : ℕ) → is_side n ≡ true → IsSide n
+side_is n is =
+    let both = and_parts (nat_le 1 n) (nat_le n 1024) is in
+    record { low = leb-true 1 n both.0; high = leb-true n 1024 both.1 }
+
+pub image_stands : (form : FilmForm) (port tick begin : ℕ) (image : Bitmap) → 1 ≤ port → port ≤ 4 → tick < 2 ^ 32 → begin < 2 ^ 32
+    → has_sides image.size ≡ true → pixel_bytes image.format ≡ 4 → length image.bytes ≡ image_bytes image.size image.format
+    → IsFrameIn form (frame_of port tick begin image)
+image_stands form port tick begin image low high ticks begins sides four bytes = of_form form
+  where
+    size : Size
+    size = image.size
+
+    both : (is_side size.w ≡ true) × (is_side size.h ≡ true)
+    both = and_parts (is_side size.w) (is_side size.h) sides
+
+    pixels : length image.bytes ≡ 4 * (size.w * size.h)
+    pixels = omega (arith, bytes, ap (λ n. size.w * size.h * n) four)
+
+    of_begin : (form : FilmForm) (begin_is : MayBegin form (frame_in form (frame_of port tick begin image)).begin)
+        → IsFrame form (record (frame_of port tick begin image) { begin = (frame_in form (frame_of port tick begin image)).begin })
+    of_begin form begin_is =
+        record {
+          low_port = low;
+          high_port = high;
+          tick = ticks;
+          begin = begin_is;
+          width = side_is size.w both.0;
+          height = side_is size.h both.1;
+          pixels = pixels;
+        }
+
+    of_form : (form : FilmForm) → IsFrameIn form (frame_of port tick begin image)
+    of_form forms.One = of_begin forms.One refl
+    of_form forms.Two = of_begin forms.Two begins
 
 -- frames
 

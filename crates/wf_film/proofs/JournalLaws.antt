@@ -6,9 +6,9 @@ use Rattle.std.specs.List.{flat_map, AllByRecursion}
 use Rattle.byteorder.specs.Endian.{big_bytes}
 use Rattle.wf_words.specs.Refusals.{◌>>=◌}
 use Rattle.wf_calls.specs.declared.order.Turn.{Turn}
+use Rattle.wf_calls.specs.Orders.{IsTurn}
 use Rattle.wf_film.specs.declared.rule.Breach.{Breach}
 use Rattle.wf_film.specs.Film.{turn_bytes}
-use Rattle.wf_film.specs.Stands.{IsTurn}
 use Rattle.wf_film.specs.Reading.{Read, byte_within, journal_at, number_at, turn_at, turns_at}
 use Rattle.wf_film.proofs.FieldLaws.{four_come_back, number_again, number_takes, within_again, within_takes}
 use Rattle.wf_film.proofs.Steps.{AreBytes, Takes, bind_ok, ok_is, takes_both}

@@ -3,6 +3,7 @@ pub mod Steps
 pub mod FieldLaws
 pub mod FrameLaws
 pub mod FrameSteps
+pub mod PutFrames
 pub mod JournalLaws
 pub mod FilmLaws
 pub mod PlaceLaws

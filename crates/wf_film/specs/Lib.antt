@@ -1,5 +1,6 @@
 -- Films as bytes, and how they are read.
 pub mod Film
 pub mod Stands
+pub mod Frames
 pub mod Rules
 pub mod Reading

@@ -2,6 +2,7 @@
 use Rattle.std.specs.Prelude.{◌≡◌, ℕ, ◌<◌, ◌≤◌, ◌*◌, ◌^◌, List, [], ◌++◌, length, map}
 use Rattle.std.specs.List.{AllByRecursion}
 use Rattle.wf_calls.specs.declared.order.Turn.{Turn}
+use Rattle.wf_calls.specs.Orders.{IsTurn}
 use Rattle.wf_film.specs.declared.form.FilmForm.{FilmForm}
 use Rattle.wf_film.specs.declared.form.FilmForm.TheVariants as forms
 use Rattle.wf_film.specs.Film.{Frame, PlainFilm, film_bytes}
@@ -35,11 +36,6 @@ pub record IsFrame (form : FilmForm) (f : Frame) : Type 0 where
   pub height : IsSide f.size.h
   pub pixels : length f.pixels ≡ 4 * (f.size.w * f.size.h)
 
-pub record IsTurn (t : Turn) : Type 0 where
-  pub client : t.client ≤ 7
-  pub code : t.code ≤ 12
-  pub value : t.value < 2 ^ 32
-
 pub record IsFilm (film : PlainFilm) : Type 0 where
   pub frames : AllByRecursion (IsFrame film.form) film.frames
   pub turns : AllByRecursion IsTurn film.order
@@ -61,6 +57,10 @@ pub record IsWhole (bytes : List ℕ) : Type 0 where
 abbrev pub frame_in : FilmForm → Frame → Frame
 frame_in forms.One f = record f { begin = 0 }
 frame_in forms.Two f = f
+
+-- a frame stands in a film of a form
+abbrev pub IsFrameIn : FilmForm → Frame → Type 0
+IsFrameIn form f = IsFrame form (frame_in form f)
 
 abbrev pub as_read : PlainFilm → PlainFilm
 as_read film = record film { frames = map (frame_in film.form) film.frames }

@@ -5,6 +5,7 @@ ghost use Rattle.wf_io.specs.Bytes.{Puts, PutsPart};
 ghost use Rattle.wf_io.specs.Causes.{HasCause};
 ghost use Rattle.wf_image.specs.Bitmap.{pixel_bytes};
 ghost use Rattle.wf_film.specs.Film.{magic, frame_of, frame_bytes, frame_head, turn_bytes, tail_bytes};
+ghost use Rattle.wf_film.specs.Stands.{IsFrameIn};
 
 use crate::form::FilmForm;
 use crate::pieces::{
@@ -67,8 +68,10 @@ impl Writer {
         ensures part { IfErr result (λ stop. PutsPart K.took k.old k.new self.old.written
             (frame_bytes self.old.form (frame_of port tick begin image.now)) stop.written) }
         ensures stopped { IfErr result (λ stop. self.new.written ≡ stop.written) }
+        ensures stands { IsFrameIn self.old.form (frame_of port tick begin image.now) }
         ensures cause { HasCause (K.faults k.old) (K.faults k.new) result }
     {
+        prove_frame(self.form, port, tick, begin, image);
         self.put_head(k, port, tick, begin, image)?;
         self.put(k, image.bytes())
     }
@@ -153,4 +156,17 @@ impl Writer {
             }
         }
     }
+}
+
+/// Shows that all numbers of the frame of `image` at `port`, in `tick`, as begun at `begin`, are in the ranges of a film of `form`.
+/// It changes nothing.
+fn prove_frame(form: FilmForm, port: u8, tick: u32, begin: u32, image: &Image)
+    requires low_port { 1 ≤ port }
+    requires high_port { port ≤ 4 }
+    requires pixels { pixel_bytes image.now.format ≡ 4 }
+    ensures { IsFrameIn form (frame_of port tick begin image.now) }
+{
+    let _form = form;
+    let _sides = image.size();
+    let _bytes = image.bytes();
 }

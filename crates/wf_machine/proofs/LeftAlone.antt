@@ -117,8 +117,8 @@ module _ (h : State) (c : Call) (x : State × Reply) (f : Running) (runs : h.fra
 
   frame_left : Effect h c x → x.0.frame ≡ h.frame
   frame_left (refuses honest left) = ap (λ s. s.frame) left ∙ (offered_leaves (register_of c) x.1.code).0
-  frame_left (composes made core value is) = ap (λ y. y.0.frame) is
-  frame_left (displays made display value is) = ap (λ y. y.0.frame) is
+  frame_left (composes m w value does is) = ap (λ y. y.0.frame) is
+  frame_left (displays m w value does is) = ap (λ y. y.0.frame) is
   frame_left (makes new is) = ap (λ y. y.0.frame) is
   frame_left (unnames handle is) = ap (λ y. y.0.frame) is
   frame_left (acquires handle s at is) = ap (λ y. y.0.frame) is
@@ -138,9 +138,9 @@ module _ (h : State) (c : Call) (x : State × Reply) (f : Running) (runs : h.fra
     read_left (refuses honest left) =
         by_streams h.streams (ap (λ t. t.streams) left ∙ (offered_leaves (register_of c) x.1.code).1)
         (same_read n s h.streams found)
-    read_left (composes made core value is) =
+    read_left (composes m w value does is) =
         by_streams h.streams (ap (λ y. y.0.streams) is) (same_read n s h.streams found)
-    read_left (displays made display value is) =
+    read_left (displays m w value does is) =
         by_streams h.streams (ap (λ y. y.0.streams) is) (same_read n s h.streams found)
     read_left (makes new is) =
         let made : KeptStream = record { number = h.numbered + 1; handle = h.made + 1; buffers = new } in

@@ -54,8 +54,8 @@ module _ (h : State) (c : Call) (x : State × Reply) (free : h.frame ≡ None) (
 
   by_effect : Effect h c x → TakesOnce f
   by_effect (refuses honest left) = not_so (ap (λ s. s.frame) left ∙ offered_frame (register_of c) x.1.code)
-  by_effect (composes made core value is) = not_so (ap (λ y. y.0.frame) is)
-  by_effect (displays made display value is) = not_so (ap (λ y. y.0.frame) is)
+  by_effect (composes m w value does is) = not_so (ap (λ y. y.0.frame) is)
+  by_effect (displays m w value does is) = not_so (ap (λ y. y.0.frame) is)
   by_effect (makes new is) = not_so (ap (λ y. y.0.frame) is)
   by_effect (unnames handle is) = not_so (ap (λ y. y.0.frame) is)
   by_effect (acquires handle s at is) = not_so (ap (λ y. y.0.frame) is)

@@ -1,6 +1,6 @@
 //! The machine.
 
-ghost use Rattle.std.specs.Prelude.{◌≡◌, ◌<◌, ◌&&◌, IfOk, IfSome, IsSome, IsTrue, length, not, true};
+ghost use Rattle.std.specs.Prelude.{◌≡◌, ◌<◌, ◌&&◌, IfOk, IfSome, IsSome, IsTrue, None, length, not, true};
 ghost use Rattle.std.specs.Option.{IfNone};
 ghost use Rattle.wf_stream.specs.Streams.{held};
 ghost use Rattle.wf_calls.specs.Creations.{is_creation};
@@ -73,14 +73,14 @@ impl Machine {
         self.parts.act_plain(call)
     }
 
-    /// Begins a frame as `run` does for a call that begins one. The Job that comes is written in this place, which is empty where none
-    /// comes: so no Job is moved.
+    /// Begins a frame as `run` does for a `call` that begins one. The Job that comes is written in `place`, which stays empty where none
+    /// comes: so no Job is moved, and none is lost.
     pub fn begin(&mut self, client: u8, call: &Request, place: &mut JobPlace) -> Answer
-        requires { IsTrue (is_begin (call_of call.now)) }
+        requires begins { IsTrue (is_begin (call_of call.now)) }
+        requires empty { job_in place.old ≡ None }
         ensures step { IsStep self.old client (call_of call.now) self.new (with_job result (job_in place.new)) }
         ensures lifetime { self.new.streams ≡ kept self.new }
     {
-        place.clear();
         self.parts.act_begin(call, place)
     }
 

@@ -16,7 +16,7 @@ use Rattle.wf_model.specs.Names.{names}
 use Rattle.wf_model.specs.State.{State, opening}
 use Rattle.wf_model.specs.Step.{act, step}
 
-abbrev one : Size
+abbrev pub one : Size
 one = record { w = 1; h = 1 }
 
 -- one port of 1 by 1, whose screen is stream 1
@@ -24,18 +24,18 @@ abbrev opened : State
 opened = opening (record { modes = record { items = record { sizes = record { items = one ∷ [] } } ∷ [] }; pipes = 0 })
 
 -- what calls of one client leave, one after another
-after : State → List Call → State
+unfoldable pub after : State → List Call → State
 after h [] = h
 after h (c ∷ rest) = after (step h 0 c false).0 rest
 
 -- their codes and values
-answers : State → List Call → List (ℕ × ℕ)
+unfoldable pub answers : State → List Call → List (ℕ × ℕ)
 answers h [] = []
 answers h (c ∷ rest) =
     let done : State × Reply = step h 0 c false in
     (code_number done.1.code, done.1.value) ∷ answers done.0 rest
 
-abbrev four : ℤ → ℤ → ℤ → ℤ → List ℤ
+abbrev pub four : ℤ → ℤ → ℤ → ℤ → List ℤ
 four a b c d = a ∷ b ∷ c ∷ d ∷ []
 
 -- device 1 with context 2 of the port, and stream 3 (which is numbered 2), that element 5 shows through source 4
@@ -62,7 +62,7 @@ posted n = call.Acquire 3 ∷ call.Post (record { stream = 2; image = grey n }) 
 abbrev shown : State
 shown = after (after opened setup) (posted 9)
 
-job_of : Payload → Option Job
+unfoldable pub job_of : Payload → Option Job
 job_of (payload.Job job) = Some job
 job_of _ = None
 

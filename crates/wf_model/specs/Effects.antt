@@ -145,10 +145,11 @@ pub data Effect (h : State) (c : Call) (x : State × Reply) : Type 0 where
   -- it was refused: its register is offered the code, and nothing else changes; what it carried comes back
   refuses : is_ok_code x.1.code ≡ false → x.0 ≡ offered (register_of c) x.1.code h → Effect h c x
   -- it was carried out on the objects of composition: no stream changes
-  composes : (made : ℕ) (core : CoreState) (value : ℕ) → x ≡ (record h { made = made; core = core }, bare (done value)) → Effect h c x
+  composes : (m : Bool) (w : CoreSide) (value : ℕ) → core_call (screen_of c h) m c (core_side h) ≡ Ok (w, value)
+      → x ≡ (record h { made = w.made; core = w.core }, bare (done value)) → Effect h c x
   -- it was carried out on the objects of the display: no stream changes
-  displays : (made : ℕ) (display : DisplayState) (value : ℕ) → x ≡ (record h { made = made; display = display }, bare (done value))
-      → Effect h c x
+  displays : (m : Bool) (w : DisplaySide) (value : ℕ) → display_call m c (display_side h) ≡ Ok (w, value)
+      → x ≡ (record h { made = w.made; display = w.display }, bare (done value)) → Effect h c x
   -- it made a stream
   makes : (new : Buffers) → x ≡ ((streams.stream_made new h).0, bare (done (streams.stream_made new h).1)) → Effect h c x
   -- it ended the life of a stream's handle
@@ -188,7 +189,7 @@ composed_effect h c d m is =
     of_outcome : (o : Outcome CoreSide) → does (core_side h) ≡ o → Leaves (λ (x : CoreSide). x.streams) h.streams o → IsHonest o
         → Effect h c (composed d does h)
     of_outcome (Ok x) at leaves honest =
-        composes x.0.made x.0.core x.1
+        composes m x.0 x.1 at
         (ap (λ (o : Outcome CoreSide). composed d (λ _. o) h) at
         ∙ ap (λ (ss : List KeptStream). (record h { made = x.0.made; streams = ss; core = x.0.core }, bare (done x.1))) leaves)
     of_outcome (Err r) at leaves honest =
@@ -207,7 +208,7 @@ displayed_effect h c m is =
     of_outcome : (o : Outcome DisplaySide) → does (display_side h) ≡ o → Leaves (λ (x : DisplaySide). x.streams) h.streams o → IsHonest o
         → Effect h c (displayed does h)
     of_outcome (Ok x) at leaves honest =
-        displays x.0.made x.0.display x.1
+        displays m x.0 x.1 at
         (ap (λ (o : Outcome DisplaySide). displayed (λ _. o) h) at
         ∙ ap (λ (ss : List KeptStream). (record h { made = x.0.made; streams = ss; display = x.0.display }, bare (done x.1))) leaves)
     of_outcome (Err r) at leaves honest =
@@ -370,8 +371,8 @@ effect h c m = of_part (part_of c) refl
 pub carried_or_refused : (h : State) (c : Call) (x : State × Reply) → Effect h c x
     → (is_ok_code x.1.code ≡ true) ⊎ (x.0 ≡ offered (register_of c) x.1.code h)
 carried_or_refused h c x (refuses honest left) = inr left
-carried_or_refused h c x (composes made core value is) = inl (ap (λ (y : State × Reply). is_ok_code y.1.code) is)
-carried_or_refused h c x (displays made display value is) = inl (ap (λ (y : State × Reply). is_ok_code y.1.code) is)
+carried_or_refused h c x (composes m w value does is) = inl (ap (λ (y : State × Reply). is_ok_code y.1.code) is)
+carried_or_refused h c x (displays m w value does is) = inl (ap (λ (y : State × Reply). is_ok_code y.1.code) is)
 carried_or_refused h c x (makes new is) = inl (ap (λ (y : State × Reply). is_ok_code y.1.code) is)
 carried_or_refused h c x (unnames handle is) = inl (ap (λ (y : State × Reply). is_ok_code y.1.code) is)
 carried_or_refused h c x (acquires handle s at is) = inl (ap (λ (y : State × Reply). is_ok_code y.1.code) is)
@@ -413,8 +414,8 @@ begins_none h _ still = refl
 -- any other call leaves the running frame as it is
 pub frame_stays : (h : State) (c : Call) (x : State × Reply) → Effect h c x → moves_frame c ≡ false → x.0.frame ≡ h.frame
 frame_stays h c x (refuses honest left) still = ap (λ (s : State). s.frame) left ∙ offered_frame (register_of c) x.1.code h
-frame_stays h c x (composes made core value is) still = ap (λ (y : State × Reply). y.0.frame) is
-frame_stays h c x (displays made display value is) still = ap (λ (y : State × Reply). y.0.frame) is
+frame_stays h c x (composes m w value does is) still = ap (λ (y : State × Reply). y.0.frame) is
+frame_stays h c x (displays m w value does is) still = ap (λ (y : State × Reply). y.0.frame) is
 frame_stays h c x (makes new is) still = ap (λ (y : State × Reply). y.0.frame) is
 frame_stays h c x (unnames handle is) still = ap (λ (y : State × Reply). y.0.frame) is
 frame_stays h c x (acquires handle s at is) still = ap (λ (y : State × Reply). y.0.frame) is

@@ -21,6 +21,7 @@ pub mod Composing
 pub mod Registers
 pub mod Calls
 pub mod Step
+pub mod Reached
 pub mod Beginnings
 pub mod Effects
 pub mod Kept

@@ -50,6 +50,17 @@ abbrev pub at_place : {A : Type 0} → Result ℕ Refusal → List A → Result 
 at_place (Ok place) xs = found code.BadHandle (slice_get xs place)
 at_place (Err r) xs = Err r
 
+-- this holds of what a call leaves, if it leaves anything
+abbrev pub Keeps : {S : Type 0} → (S → Type 0) → Outcome S → Type 0
+Keeps Holds (Ok x) = Holds x.0
+Keeps Holds (Err r) = Unit {0}
+
+-- so it is behind a step that may refuse
+pub keeps_behind : {A S : Type 0} (Holds : S → Type 0) (r : Result A Refusal) (f : A → Outcome S) → ((x : A) → Keeps Holds (f x))
+    → Keeps Holds (r >>= f)
+keeps_behind Holds (Ok x) f keeps = keeps x
+keeps_behind Holds (Err r) f keeps = tt
+
 -- what a call leaves, if it leaves anything, has this value
 abbrev pub Leaves : {S V : Type 0} → (S → V) → V → Outcome S → Type 0
 Leaves of value (Ok x) = of x.0 ≡ value

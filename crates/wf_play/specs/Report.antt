@@ -7,7 +7,9 @@ use Rattle.wf_script.specs.Canonical.{canonical}
 use Rattle.wf_script.specs.Grammar.{Stands}
 use Rattle.wf_script.specs.Script.{PlainScript}
 use Rattle.wf_film.specs.declared.form.FilmForm.{FilmForm}
+use Rattle.wf_check.specs.Verdicts.{IsSame}
 use Rattle.wf_show.specs.Ends.{OthersThrough}
+use Rattle.wf_turn.specs.declared.player.PlayStop.{PlayStop}
 use Rattle.wf_turn.specs.declared.player.PlayStop.TheVariants as stop
 use Rattle.wf_turn.specs.Films.{IsCutFilm}
 use Rattle.wf_turn.specs.Play.{IsComplete as IsWholeOrder, film, marks, serial_order}
@@ -33,7 +35,7 @@ exit_of (status.BadFilm at rule) = 9
 exit_of status.NoMemory = 10
 
 -- the bytes that were put are the plain film, in a form, of the script that the input's bytes stand for, under the order,
--- which is legal and complete; without threads it is the serial order
+-- which is legal and complete; without threads it is the serial order; and a check of that film says that it is the same
 pub record IsPlainFilm {O : Type 0} (took : O → List ℕ → Type 0) (old new : O) (form : FilmForm) (threads : Bool) (bytes : List ℕ)
     (order : List Turn) : Type 0 where
   pub script : PlainScript
@@ -41,6 +43,12 @@ pub record IsPlainFilm {O : Type 0} (took : O → List ℕ → Type 0) (old new 
   pub put : Puts took old new (film form script order)
   pub complete : IsWholeOrder script order
   pub serial : threads ≡ false → order ≡ serial_order script (marks order)
+  pub checked : IsSame script (film form script order)
+
+-- a check of the film of what a play answers says that it is the same
+abbrev pub IsFoundSame : FilmForm → PlainScript → Result (List Turn) PlayStop → Type 0
+IsFoundSame form script (Ok order) = IsSame script (film form script order)
+IsFoundSame form script (Err _) = Unit {0}
 
 -- The first `written` bytes of a film of that script were put. Without threads the order begins the serial one; with threads each
 -- program but the clock's is through, where the setup is.

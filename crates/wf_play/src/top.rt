@@ -11,7 +11,8 @@ ghost use Rattle.wf_play.specs.Big.{SaysOfBig};
 ghost use Rattle.wf_play.specs.Check.{IsChecked};
 ghost use Rattle.wf_play.specs.Notes.{IsSame, PutsOrFront, note_of};
 ghost use Rattle.wf_play.specs.Refusals.{refusal_of};
-ghost use Rattle.wf_play.specs.Report.{CompletesIn, IsCaused, IsPlainFilm, IsPrinted, IsReadStop, ReadsScript, SaysOfFilm, SaysOfInput};
+ghost use Rattle.wf_play.specs.Report.{CompletesIn, IsCaused, IsFoundSame, IsPlainFilm, IsPrinted, IsReadStop, ReadsScript, SaysOfFilm};
+ghost use Rattle.wf_play.specs.Report.{SaysOfInput};
 
 use crate::big::play_big;
 use crate::checked::play_check;
@@ -42,6 +43,7 @@ fn play_script<R: Threads + Wait + Sync, O: Sink, G: Gate>(
     requires some { 1 ≤ asked.rows }
     requires most { asked.rows ≤ 16 }
     ensures plays { PlaysFilm O.took film.old film.new asked.form script.now result }
+    ensures checked { IsFoundSame asked.form script.now result }
     ensures order { asked.threads ≡ false → IsInFileOrder script.now result }
     ensures others { asked.threads ≡ true → OthersThrough script.now result }
     ensures caused { IsCausedPlay (O.faults film.old) (O.faults film.new) result }

@@ -48,7 +48,7 @@ module _ {K : Type 0} (took : K → List ℕ → Type 0) (form : FilmForm) (scri
   abbrev order : List Turn
   order = order_of history
 
-  shown_all : (shown : List Frame) → frames_by 0 0 p history ≡ shown → frames_after (replay script order) ≡ shown
+  pub shown_all : (shown : List Frame) → frames_by 0 0 p history ≡ shown → frames_after (replay script order) ≡ shown
   shown_all shown is = (fronts history [] (sym (append-nil history))).frames ∙ is
 
   -- the whole film

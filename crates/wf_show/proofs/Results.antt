@@ -2,7 +2,9 @@
 use Rattle.std.proofs.Common.{◌≡◌, ◌∙◌, ◌⊎◌, inl, inr, ℕ, ◌<◌, ◌^◌, List, [], ◌++◌, length, take, drop, true, None, Ok, Err, sym, ap, subst}
 use Rattle.std.proofs.Common.{arith}
 use Rattle.std.proofs.Common.{append-nil}
-use Rattle.std.specs.List.{list_all}
+use Rattle.std.specs.List.{list_all, AllByRecursion}
+use Rattle.wf_calls.specs.Orders.{IsEntry}
+use Rattle.wf_film.specs.Stands.{IsFilm, IsFrameIn, as_read}
 use Rattle.atomic_table.specs.Seated.{TableId}
 use Rattle.wf_calls.specs.declared.order.Turn.{Turn}
 use Rattle.wf_desk.specs.History.{events_of}
@@ -13,12 +15,13 @@ use Rattle.wf_script.specs.Script.{PlainScript, may_tick}
 use Rattle.wf_turn.specs.declared.player.PlayStop.{PlayStop}
 use Rattle.wf_turn.specs.declared.player.PlayStop.TheVariants as stop
 use Rattle.wf_turn.specs.Films.{CutsFrame, CutsJournal, CutsMagic, PlaysFilm}
-use Rattle.wf_turn.specs.Play.{IsLegal}
+use Rattle.wf_turn.specs.Play.{IsLegal, plain_film}
+use Rattle.wf_turn.proofs.Ranges.{film_stands}
 use Rattle.wf_turn.specs.Program.{Program, place_of}
 use Rattle.wf_show.specs.declared.players.Players.{Players}
 use Rattle.wf_show.specs.declared.player.Player.{Player}
 use Rattle.wf_show.specs.Opened.{ArePlayers}
-use Rattle.wf_show.specs.Clocks.{IsClock}
+use Rattle.wf_show.specs.Clocks.{IsClock, shown_to}
 use Rattle.wf_show.specs.Ends.{AllPlay, AreEnded, IsCut, IsFilmed, IsHistory, OthersThrough}
 use Rattle.wf_show.specs.Played.{Happening}
 use Rattle.wf_show.specs.Players.{AreFresh, IsFresh}
@@ -27,7 +30,7 @@ use Rattle.wf_show.specs.Shown.{order_of}
 use Rattle.wf_show.proofs.Assembling.{clock_apart, completes, each_front, shown_is, through_behind}
 use Rattle.wf_show.proofs.Fronts.{EachFront}
 use Rattle.wf_show.proofs.Seating.{few_in_all, few_turns}
-use Rattle.wf_show.proofs.Filming.{cut_frame, cut_journal, cut_magic, whole}
+use Rattle.wf_show.proofs.Filming.{cut_frame, cut_journal, cut_magic, shown_all, whole}
 use Rattle.wf_show.proofs.Passes.{written_back}
 
 module _ (desk : TableId) (script : PlainScript) (ticks : list_all may_tick script.lines ≡ true) (clock : Player) (old new : List Player)
@@ -54,6 +57,15 @@ module _ (desk : TableId) (script : PlainScript) (ticks : list_all may_tick scri
           whole took form script history fronts a b c writer clock filmed shown tail,
           completes desk script ticks clock old new history is_clock script_is fresh seven as_many behind all through,
         )
+
+    pub whole_stands : (a b : K) (writer : Writing) → AllPlay desk clock old new → IsFilmed took a b form writer clock
+        → AllByRecursion IsEntry order → length order < 2 ^ 32 → IsFilm (as_read (plain_film form script order))
+    whole_stands a b writer all filmed values few =
+        let fronts = each_front desk script ticks clock old new history is_clock script_is fresh seven as_many behind (inl all) in
+        let shown = shown_is desk script ticks clock old new history is_clock script_is fresh seven as_many behind in
+        film_stands form script order (legal (inl all))
+        (subst (AllByRecursion (IsFrameIn form)) (sym (shown_all took form script history fronts (shown_to clock) shown)) filmed.each)
+        values few
 
     pub cut_tail : (a b c : K) (writer : Writing) (written : ℕ) → AllPlay desk clock old new → place_of clock.program ≡ None
         → IsFilmed took a b form writer clock → PutsPart took b c writer.written (tail_bytes order) written
@@ -162,6 +174,16 @@ module _ (script : PlainScript) (opened : Players) (clock : Player) (old new : L
       (whole_film desk script over.are_players.ticks clock old new closed.0 over.is_clock of_script fresh_old seven_old seven_new behind
       took form
       a b c writer all through filmed put)
+
+  pub stands_well : {K : Type 0} (took : K → List ℕ → Type 0) (form : FilmForm) (a b : K) (writer : Writing)
+      → AllPlay desk clock old new → IsFilmed took a b form writer clock → AllByRecursion IsEntry order
+      → IsFilm (as_read (plain_film form script order))
+  stands_well took form a b writer all filmed values =
+      let few = few_turns_in_all (inl all) in
+      subst (λ o. IsFilm (as_read (plain_film form script o))) (sym closed.1.1)
+      (whole_stands desk script over.are_players.ticks clock old new closed.0 over.is_clock of_script fresh_old seven_old seven_new behind
+      took form a b writer all filmed (subst (AllByRecursion IsEntry) closed.1.1 values)
+      (subst (λ o. length o < 2 ^ 32) closed.1.1 few))
 
   pub ends_in_tail : {K : Type 0} (took : K → List ℕ → Type 0) (form : FilmForm) (a b c : K) (writer : Writing) (written : ℕ)
       → AllPlay desk clock old new → place_of clock.program ≡ None → IsFilmed took a b form writer clock

@@ -4,6 +4,7 @@ use Rattle.std.proofs.Common.{refl, sym, ap, subst}
 use Rattle.std.proofs.Common.{arith, append-nil, append_assoc}
 use Rattle.std.specs.Prelude.{flat_map}
 use Rattle.std.specs.Option.{IsSome}
+use Rattle.std.specs.List.{AllByRecursion}
 use Rattle.std.proofs.lemmas.List.{length-append}
 use Rattle.std.proofs.lemmas.Grind.{flat_map-append}
 use Rattle.atomic_table.specs.Seated.{TableId}
@@ -12,7 +13,10 @@ use Rattle.wf_calls.specs.declared.call.JobKind.{JobKind}
 use Rattle.wf_calls.specs.declared.call.JobKind.TheVariants as kind
 use Rattle.wf_desk.specs.History.{IsPrefix}
 use Rattle.wf_film.specs.declared.form.FilmForm.{FilmForm}
-use Rattle.wf_film.specs.Film.{Frame, frame_bytes, frame_of}
+use Rattle.wf_film.specs.Film.{Frame, Writing, frame_bytes, frame_of, head_bytes, magic}
+use Rattle.wf_film.specs.Frames.{PutsFrames}
+use Rattle.wf_film.specs.Stands.{IsFrameIn}
+use Rattle.wf_film.proofs.PutFrames.{both_frames, no_frames}
 use Rattle.wf_io.specs.Bytes.{Puts, PutsPart}
 use Rattle.wf_io.specs.Parts.{puts_both, stops_late}
 use Rattle.wf_turn.specs.Playing.{frames_if, job_frames}
@@ -21,7 +25,9 @@ use Rattle.wf_turn.specs.Ready.{IsFit}
 use Rattle.wf_turn.specs.Turns.{frames_of, shown}
 use Rattle.wf_turn.proofs.Turnings.{work_frames}
 use Rattle.wf_show.specs.declared.player.Player.{Player}
-use Rattle.wf_show.specs.Clocks.{Advanced, Cuts, IsClock, SetsUp, Shows, ShowsSoFar, shown_to}
+use Rattle.wf_show.specs.Clocks.{Advanced, Cuts, IsClock, SetsUp, Shows, ShowsSoFar, shown_to, start}
+use Rattle.wf_show.specs.Shown.{frames_by}
+use Rattle.wf_show.specs.Ends.{IsFilmed}
 use Rattle.wf_show.specs.Played.{Happening}
 use Rattle.wf_show.proofs.Endings.{at_line, end_shows, inside_still, is_ending, to_end}
 
@@ -82,8 +88,7 @@ module _ {K : Type 0} (bytes : K → List ℕ → Type 0) (form : FilmForm) wher
         goes_on = no_more a.pass.seen;
         frames = [];
         adds = sym (append-nil (shown_to a));
-        put = λ before t. subst (bytes k) (sym (append-nil before)) t;
-        written_is = omega arith;
+        put = no_frames bytes form k was;
       }
 
   pub both_shown : (k m n : K) (was middle written : ℕ) (a b c : Player) → Shows bytes k m form was middle a b
@@ -96,8 +101,7 @@ module _ {K : Type 0} (bytes : K → List ℕ → Type 0) (form : FilmForm) wher
         goes_on = longer a.pass.seen b.pass.seen c.pass.seen first.goes_on second.goes_on;
         frames = xs ++ ys;
         adds = second.adds ∙ ap (λ (fs : List Frame). fs ++ ys) first.adds ∙ append_assoc (shown_to a) xs ys;
-        put = subst (λ bs. Puts bytes k n bs) (sym (joined xs ys)) (puts_both bytes k m n (film xs) (film ys) first.put second.put);
-        written_is = omega (arith, first.written_is, second.written_is, ap length (joined xs ys), length-append (film xs) (film ys));
+        put = both_frames bytes form k m n was middle written xs ys first.put second.put;
       }
 
   -- a call without a Job, and one with a Job, whose frame was put where it is a port's
@@ -108,21 +112,34 @@ module _ {K : Type 0} (bytes : K → List ℕ → Type 0) (form : FilmForm) wher
         goes_on = sees_more a b false one;
         frames = [];
         adds = one.shows;
-        put = λ before t. subst (bytes k) (sym (append-nil before)) t;
-        written_is = omega arith;
+        put = no_frames bytes form k was;
       }
 
   pub one_shown : (k n : K) (was written : ℕ) (a b : Player) → Advanced a b true
-      → Puts bytes k n (film (job_frames b.pass.place b.program)) → written ≡ was + length (film (job_frames b.pass.place b.program))
-      → Shows bytes k n form was written a b
-  one_shown k n was written a b one put count =
+      → PutsFrames bytes k n form was written (job_frames b.pass.place b.program) → Shows bytes k n form was written a b
+  one_shown k n was written a b one put =
       record {
         script = one.script;
         goes_on = sees_more a b true one;
         frames = job_frames b.pass.place b.program;
         adds = one.shows;
         put = put;
-        written_is = count;
+      }
+
+  -- the magic, and then all frames of a clock that saw nothing before
+  pub all_filmed : (k m n : K) (writer : Writing) (first last : Player) → first.pass.seen ≡ [] → Puts bytes k m (magic form)
+      → Shows bytes m n form (length (magic form)) writer.written first last → writer.written < 2 ^ 62
+      → IsFilmed bytes k n form writer last
+  all_filmed k m n writer first last fresh head all few =
+      let nothing : shown_to first ≡ [] = ap (frames_by 0 0 (start first)) fresh in
+      let shown : shown_to last ≡ all.frames = all.adds ∙ ap (λ (fs : List Frame). fs ++ all.frames) nothing in
+      record {
+        put = subst (λ fs. Puts bytes k n (head_bytes form fs)) (sym shown)
+            (puts_both bytes k m n (magic form) (film all.frames) head all.put.put);
+        writer_is = subst (λ fs. writer.written ≡ length (head_bytes form fs)) (sym shown)
+            (all.put.written_is ∙ sym (length-append (magic form) (film all.frames)));
+        few = few;
+        each = subst (AllByRecursion (IsFrameIn form)) (sym shown) all.put.stand;
       }
 
   -- a frame of which a part was put is one
@@ -187,8 +204,8 @@ module _ {K : Type 0} (bytes : K → List ℕ → Type 0) (form : FilmForm) wher
         shows = cuts.shows;
         quiet = cuts.quiet;
         put = subst (λ bs. PutsPart bytes k n was bs written) (sym all)
-            (stops_late bytes k m n was middle (film xs) (film (ys ++ zs)) written first.put first.written_is cuts.put);
-        least = omega (arith, first.written_is, cuts.least, ap length (joined xs ys), length-append (film xs) (film ys));
+            (stops_late bytes k m n was middle (film xs) (film (ys ++ zs)) written first.put.put first.put.written_is cuts.put);
+        least = omega (arith, first.put.written_is, cuts.least, ap length (joined xs ys), length-append (film xs) (film ys));
       }
 
   -- so far

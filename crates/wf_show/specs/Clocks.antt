@@ -4,7 +4,8 @@ use Rattle.atomic_table.specs.Seated.{TableId}
 use Rattle.wf_desk.specs.History.{IsPrefix, events_of}
 use Rattle.wf_film.specs.declared.form.FilmForm.{FilmForm}
 use Rattle.wf_film.specs.Film.{Frame, frame_bytes}
-use Rattle.wf_io.specs.Bytes.{Puts, PutsPart}
+use Rattle.wf_film.specs.Frames.{PutsFrames}
+use Rattle.wf_io.specs.Bytes.{PutsPart}
 use Rattle.wf_machine.specs.Object.{IsPaintable}
 use Rattle.wf_turn.specs.Playing.{frames_if}
 use Rattle.wf_turn.specs.Program.{Program, in_setup, is_work, program, took}
@@ -67,8 +68,7 @@ module _ {K : Type 0} (took : K → List ℕ → Type 0) (old new : K) (form : F
     pub goes_on : IsPrefix a.pass.seen b.pass.seen
     pub frames : List Frame
     pub adds : shown_to b ≡ shown_to a ++ frames
-    pub put : Puts took old new (flat_map (frame_bytes form) frames)
-    pub written_is : written ≡ was + length (flat_map (frame_bytes form) frames)
+    pub put : PutsFrames took old new form was written frames
 
   -- calls whose frames were put, one whose frame was not put whole, and the end of that frame
   pub record Cuts (a b : Player) : Type 0 where

@@ -1,11 +1,13 @@
 -- How the programs of a script were played on threads, and what is in the film when they are.
 use Rattle.std.specs.Prelude.{◌≡◌, ◌⊎◌, ℕ, ◌+◌, ◌<◌, ◌^◌, true, false, List, [], length, slice_get, slice_index_or, Some, None, Result, Err}
 use Rattle.std.specs.Prelude.{suc}
+use Rattle.std.specs.List.{AllByRecursion}
 use Rattle.atomic_table.specs.Seated.{TableId}
 use Rattle.wf_calls.specs.declared.order.Turn.{Turn}
 use Rattle.wf_desk.specs.History.{IsLegal, IsPrefix, events_of}
 use Rattle.wf_film.specs.declared.form.FilmForm.{FilmForm}
 use Rattle.wf_film.specs.Film.{Writing, head_bytes, magic}
+use Rattle.wf_film.specs.Stands.{IsFrameIn}
 use Rattle.wf_io.specs.Bytes.{Puts, PutsPart}
 use Rattle.wf_machine.specs.Object.{MayAnswer, after}
 use Rattle.wf_model.specs.State.{opening}
@@ -42,11 +44,12 @@ module _ (desk : TableId) (clock : Player) (old new : List Player) where
   AreEnded = AllPlay ⊎ IsAlone
 
 module _ {K : Type 0} (took : K → List ℕ → Type 0) (old new : K) (form : FilmForm) where
-  -- the magic and the clock's frames were put
+  -- the magic and the clock's frames were put, each of which stands in the film
   pub record IsFilmed (writer : Writing) (clock : Player) : Type 0 where
     pub put : Puts took old new (head_bytes form (shown_to clock))
     pub writer_is : writer.written ≡ length (head_bytes form (shown_to clock))
     pub few : writer.written < 2 ^ 62
+    pub each : AllByRecursion (IsFrameIn form) (shown_to clock)
 
   -- the magic was put, and then the clock's frames up to one that was not put whole
   pub record IsCutLate (written : ℕ) (first clock : Player) : Type 0 where

@@ -2,7 +2,8 @@
 
 ghost use Rattle.std.specs.Prelude.{◌≡◌, ◌+◌, ◌*◌, ◌<◌, ◌≤◌, ◌^◌, ℕ, length, flat_map, None, IfErr, IsSome, IsSomeAnd, OnOk, false, true};
 ghost use Rattle.wf_film.specs.Film.{frame_bytes};
-ghost use Rattle.wf_io.specs.Bytes.{Puts, PutsPart};
+ghost use Rattle.wf_film.specs.Frames.{PutsFrames};
+ghost use Rattle.wf_io.specs.Bytes.{PutsPart};
 ghost use Rattle.wf_io.specs.Causes.{HasCause};
 ghost use Rattle.wf_machine.specs.Object.{IsPaintable};
 ghost use Rattle.wf_turn.specs.Playing.{job_frames};
@@ -50,9 +51,8 @@ fn put_frame<K: Sink>(
 ) -> Result<(), WriteStop>
     requires paintable { IsSomeAnd program.now.job IsPaintable }
     requires few { writer.old.written < 2 ^ 62 }
-    ensures all { OnOk result (Puts K.took k.old k.new (flat_map (frame_bytes writer.old.form) (job_frames begin program.now))) }
-    ensures written { OnOk result (writer.new.written
-        ≡ writer.old.written + length (flat_map (frame_bytes writer.old.form) (job_frames begin program.now))) }
+    ensures all { OnOk result (PutsFrames K.took k.old k.new writer.old.form writer.old.written writer.new.written
+        (job_frames begin program.now)) }
     ensures form { writer.new.form ≡ writer.old.form }
     ensures most { OnOk result (writer.new.written ≤ writer.old.written + 4194318) }
     ensures part { IfErr result (λ stop. PutsPart K.took k.old k.new writer.old.written

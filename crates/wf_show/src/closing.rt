@@ -1,6 +1,8 @@
 //! The end of a desk.
 
 ghost use Rattle.std.specs.Prelude.{◌≡◌, ◌≤◌, [], List, length, vec_capacity};
+ghost use Rattle.std.specs.List.{AllByRecursion};
+ghost use Rattle.wf_calls.specs.Orders.{IsEntry};
 ghost use Rattle.wf_model.specs.State.{opening};
 ghost use Rattle.wf_show.specs.Opened.{AreSeated, passes_of};
 ghost use Rattle.wf_show.specs.Ends.{IsHistory};
@@ -26,7 +28,7 @@ fn gather(mut ended: Vec<Pass<Machine>>, clock: Player, others: Vec<Player>) -> 
     ended
 }
 
-/// Ends the desk, when all players have given their passes back. It gives the order of all events.
+/// Ends `desk`, when all players have given their passes back. Returns the order of all events.
 #[inline(never)]
 pub(crate) fn close(
     desk: Desk<Machine>,
@@ -40,8 +42,9 @@ pub(crate) fn close(
     requires none { ended.items ≡ [] }
     requires room { 8 ≤ vec_capacity ended }
     requires seated { AreSeated desk.id clock others.items }
-    ensures { (history : List Happening)
+    ensures closed { (history : List Happening)
         × (IsHistory clock.entry.program.script clock.entry others.entry.items history × (result ≡ order_of history)) }
+    ensures values { AllByRecursion IsEntry result }
 {
     let (_, journal) = desk.close(gather(ended, clock, others));
     Order::new(journal.into_entries())

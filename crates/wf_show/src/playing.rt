@@ -1,8 +1,10 @@
 //! Plays a script with its clients on threads, and writes the film of the order that came about.
 
 ghost use Rattle.std.specs.Prelude.{◌≡◌, ◌≤◌, ◌<◌, IfErr, IfOk, None, OnErr, OnOk, length};
+ghost use Rattle.wf_film.specs.Stands.{IsFilm, as_read};
 ghost use Rattle.wf_io.specs.Causes.{HasCause};
 ghost use Rattle.wf_turn.specs.Films.{IsCaused, PlaysFilm};
+ghost use Rattle.wf_turn.specs.Play.{plain_film};
 ghost use Rattle.wf_turn.specs.Program.{place_of};
 ghost use Rattle.wf_show.specs.Clocks.{AreBands, IsClock, start};
 ghost use Rattle.wf_show.specs.Ends.{AllPlay, AreEnded, IsCut, IsFilmed, OthersThrough};
@@ -108,6 +110,7 @@ pub fn threaded<R: Threads + Wait + Sync, K: Sink, G: Gate>(
     requires some { 1 ≤ rows }
     requires rows { rows ≤ 16 }
     ensures plays { PlaysFilm K.took k.old k.new form script.now result }
+    ensures stands { IfOk result (λ order. IsFilm (as_read (plain_film form script.now order))) }
     ensures others { OthersThrough script.now result }
     ensures caused { IsCaused (K.faults k.old) (K.faults k.new) result }
 {

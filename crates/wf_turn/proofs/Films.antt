@@ -6,7 +6,9 @@ use Rattle.wf_turn.proofs.Common.{puts_both, stops_late, Line, PlainScript, Some
 use Rattle.wf_turn.proofs.Common.{with_frames, Program, lines_from, place_of, program, all_left, left, line_quota, lines_left, most_turns}
 use Rattle.wf_turn.proofs.Common.{quota, quota_of, IsRun, Show, FilmForm, opening_show}
 use Rattle.std.proofs.Common.{Err}
-use Rattle.std.specs.List.{list_all}
+use Rattle.std.specs.List.{list_all, AllByRecursion}
+use Rattle.wf_calls.specs.Orders.{IsEntry}
+use Rattle.wf_film.specs.Stands.{IsFilm, IsFrameIn, as_read}
 use Rattle.wf_film.specs.declared.form.FilmForm.TheVariants as forms
 use Rattle.wf_film.specs.Film.{Writing, head_bytes, magic}
 use Rattle.wf_script.specs.Script.{may_tick}
@@ -16,8 +18,9 @@ use Rattle.wf_turn.specs.declared.stage.Stage.TheVariants as stage
 use Rattle.wf_turn.proofs.Lefts.{left_before}
 use Rattle.wf_turn.proofs.QuotaSums.{most_40}
 use Rattle.wf_turn.specs.Films.{PlaysSerially, clock_turns}
-use Rattle.wf_turn.specs.Play.{film, head}
+use Rattle.wf_turn.specs.Play.{film, head, plain_film}
 use Rattle.wf_turn.specs.Played.{Replays}
+use Rattle.wf_turn.proofs.Ranges.{film_stands}
 use Rattle.wf_turn.proofs.Clocks.{opening_clocked, run_clocked, shows_alone}
 use Rattle.wf_turn.proofs.Serials.{begins_serial, complete, is_serial, legal, replayed, run_more}
 
@@ -101,7 +104,7 @@ module _ {K : Type 0} (took : K → List ℕ → Type 0) (form : FilmForm) (scri
 
     pub head_put : (k : K) → Puts took k a (magic form) → Puts took k b (head form script order)
     head_put k first = subst (λ fs. Puts took k b (head_bytes form fs)) (sym frames_are)
-        (puts_both took k a b (magic form) (flat_map (frame_bytes form) plays.frames) first plays.put)
+        (puts_both took k a b (magic form) (flat_map (frame_bytes form) plays.frames) first plays.put.put)
 
     pub film_put : (k c : K) → Puts took k a (magic form) → Puts took b c (tail_bytes order) → Puts took k c (film form script order)
     film_put k c first tail = puts_both took k b c (head form script order) (tail_bytes order) (head_put k first) tail
@@ -125,8 +128,13 @@ module _ {K : Type 0} (took : K → List ℕ → Type 0) (form : FilmForm) (scri
       frames = plays.frames;
       run = replayed script last order plays.run few;
       put = plays.put;
-      written_is = plays.written_is;
     }
+
+    pub stands : AllByRecursion IsEntry order → length script.lines ≤ 16384 → IsFilm (as_read (plain_film form script order))
+    stands values small =
+        film_stands form script order (legal script last order plays.run few)
+        (subst (AllByRecursion (IsFrameIn form)) (sym (frames_are a b was written now order as_replay)) plays.put.stand) values
+        (omega (arith, few, small))
 
     pub whole : (k c : K) → Puts took k a (magic form) → first_client (map place_of now.programs) ≡ None → Puts took b c (tail_bytes order)
         → PlaysSerially took k c form script (Ok order)
@@ -140,7 +148,7 @@ module _ {K : Type 0} (took : K → List ℕ → Type 0) (form : FilmForm) (scri
         → PlaysSerially took k c form script (Err (stop.WriteFault stopped order))
     cut_journal k c stopped was_is first over part =
         let at : written ≡ 0 + length (head form script order) =
-        omega (arith, plays.written_is, was_is, head_length a b was written now order as_replay) in (
+        omega (arith, plays.put.written_is, was_is, head_length a b was written now order as_replay) in (
           record {
             legal = legal script last order plays.run few;
             cut = inr (inr (record {

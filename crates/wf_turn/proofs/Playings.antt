@@ -1,7 +1,7 @@
 -- Turns that are played one after another, and their frames.
 use Rattle.wf_turn.proofs.Common.{◌≡◌, ◌∙◌, ℕ, ◌+◌, ◌*◌, ◌<◌, ◌≤◌, Bool, true, false, ◌⊎◌, inl, inr, List, [], ◌∷◌, ◌++◌, length, Option}
 use Rattle.wf_turn.proofs.Common.{Some, None, refl, sym, ap, subst, arith, append_assoc, append-nil, flat_map, slice_get, IsSome}
-use Rattle.wf_turn.proofs.Common.{length-append, Turn, Job, JobKind, FilmForm, Frame, frame_bytes, frame_of, Puts, PutsPart, puts_both}
+use Rattle.wf_turn.proofs.Common.{Turn, Job, JobKind, FilmForm, Frame, frame_bytes, frame_of, PutsPart}
 use Rattle.wf_turn.proofs.Common.{stops_late, Running, EndsNext, IsCast, Plays, PlaysTurn, Shows, StopsTurns, TurnedFirst, frames_if}
 use Rattle.wf_turn.proofs.Common.{shown_by}
 use Rattle.wf_turn.proofs.Common.{with_frames, Program, all_left, IsNextTurn, IsRun, Show, shown}
@@ -9,6 +9,7 @@ use Rattle.std.proofs.Common.{◌^◌}
 use Rattle.std.proofs.lemmas.Grind.{flat_map-append}
 use Rattle.wf_calls.specs.declared.call.JobKind.TheVariants as kind
 use Rattle.wf_film.specs.Film.{Writing}
+use Rattle.wf_film.proofs.PutFrames.{both_frames, no_frames}
 use Rattle.wf_turn.specs.Played.{StopsTurn}
 use Rattle.wf_turn.specs.Playing.{job_frames}
 
@@ -24,8 +25,7 @@ module _ {K : Type 0} (took : K → List ℕ → Type 0) where
       record {
         frames = [];
         run = nothing;
-        put = λ before taken. subst (took k) (sym (append-nil before)) taken;
-        written_is = omega arith;
+        put = no_frames took form k was;
       }
 
   -- one turn more
@@ -39,15 +39,7 @@ module _ {K : Type 0} (took : K → List ℕ → Type 0) where
         frames = so_far.frames ++ one.frames;
         run = more (with_frames [] start) (with_frames so_far.frames last) (with_frames (so_far.frames ++ one.frames) now) ts t so_far.run
             (one.next so_far.frames);
-        put = subst (λ bytes. Puts took a c bytes) (sym (flat_one form so_far.frames one.frames))
-            (puts_both took a b c (flat_map (frame_bytes form) so_far.frames) (flat_map (frame_bytes form) one.frames) so_far.put one.put);
-        written_is = omega (
-          arith,
-          so_far.written_is,
-          one.written_is,
-          ap length (flat_one form so_far.frames one.frames),
-          length-append (flat_map (frame_bytes form) so_far.frames) (flat_map (frame_bytes form) one.frames),
-        );
+        put = both_frames took form a b c was middle written so_far.frames one.frames so_far.put one.put;
       }
 
   -- turns of serial play were played, and there is room for those that are left
@@ -86,9 +78,9 @@ module _ {K : Type 0} (took : K → List ℕ → Type 0) where
         part =
             subst (λ bytes. PutsPart took a c was bytes written)
             (sym (flat_one form so_far.frames (stop.frame ∷ []) ∙ ap (λ bytes. flat_map (frame_bytes form) so_far.frames ++ bytes) one))
-            (stops_late took a b c was middle (flat_map (frame_bytes form) so_far.frames) (frame_bytes form stop.frame) written so_far.put
-            so_far.written_is stop.part);
-        least = omega (arith, so_far.written_is, stop.part.least);
+            (stops_late took a b c was middle (flat_map (frame_bytes form) so_far.frames) (frame_bytes form stop.frame) written
+            so_far.put.put so_far.put.written_is stop.part);
+        least = omega (arith, so_far.put.written_is, stop.part.least);
       }
 
 -- what is shown is one frame at most

@@ -129,9 +129,9 @@ module _ (n : ℕ) (Composed : ℕ → Bitmap → Type 0) where
   -- of every kind of effect
   effect_keeps : (h : State) (c : Call) (x : State × Reply) → Effect h c x → Carries c → AreScreens h → AreScreens x.0
   effect_keeps h c x (refuses honest left) carries are = subst AreScreens (sym left) (offered_keeps (register_of c) x.1.code h are)
-  effect_keeps h c x (composes made core value is) carries are =
+  effect_keeps h c x (composes m w value does is) carries are =
       subst (λ y. AreScreens y.0) (sym is) (record { streams = are.streams; numbered = are.numbered })
-  effect_keeps h c x (displays made display value is) carries are =
+  effect_keeps h c x (displays m w value does is) carries are =
       subst (λ y. AreScreens y.0) (sym is) (record { streams = are.streams; numbered = are.numbered })
   effect_keeps h c x (makes new is) carries are = subst (λ y. AreScreens y.0) (sym is) (made_keeps new h are)
   effect_keeps h c x (unnames handle is) carries are =

@@ -1,4 +1,5 @@
 -- One turn of a show: that of its client's program, behind which the setup's names are handed on.
+use Rattle.std.proofs.lemmas.List.{length-set}
 use Rattle.wf_turn.proofs.Common.{◌≡◌, ◌∙◌, ℕ, zero, suc, ◌+◌, ◌<◌, ◌≤◌, ◌==◌, Bool, true, false, not, cond, ◌&&◌, List, [], ◌∷◌, ◌++◌}
 use Rattle.wf_turn.proofs.Common.{length, Option, Some, None, refl, sym, ap, subst, arith, set, slice_get, and_parts, ltb-true}
 use Rattle.wf_turn.proofs.Common.{All, All-cons, All-nil, IsSomeAnd, nat_lt, get_set, entry, Turn, Frame, IsPaintable, Reply}
@@ -113,11 +114,6 @@ module _ (s : Show) (client : ℕ) (cast : IsCast s) (may : MayTurn s client) wh
       abbrev placed : List Program
       placed = set s.programs client q
 
-      length_set : (ps : List Program) (i : ℕ) → length (set ps i q) ≡ length ps
-      length_set [] i = refl
-      length_set (p ∷ ps) zero = refl
-      length_set (p ∷ ps) (suc i) = ap suc (length_set ps i)
-
       are_placed : AreOf cast.script 0 placed
       are_placed =
           are_set cast.script 0 s.programs client may.program q cast.programs may.found
@@ -126,7 +122,7 @@ module _ (s : Show) (client : ℕ) (cast : IsCast s) (may : MayTurn s client) wh
 
       -- the clock's program can hand names on
       pub can_hand_on : AreOfOne placed
-      can_hand_on = of_one placed are_placed (omega (arith, length_set s.programs client, cast.eight))
+      can_hand_on = of_one placed are_placed (omega (arith, length-set s.programs client q, cast.eight))
         where
           each : (own : PlainScript) (k : ℕ) (rs : List Program) → own ≡ cast.script → AreOf cast.script k rs → All (λ r. r.script ≡ own) rs
           each own k [] same are = All-nil (λ r. r.script ≡ own)
@@ -151,7 +147,7 @@ module _ (s : Show) (client : ℕ) (cast : IsCast s) (may : MayTurn s client) wh
             script = cast.script;
             programs = are_inherited cast.script s.programs placed are_placed;
             eight = length_map (λ r. r.script) programs_now placed (inherited_same (λ r. r.script) (λ clock r. refl) s.programs placed)
-                ∙ length_set s.programs client ∙ cast.eight;
+                ∙ length-set s.programs client q ∙ cast.eight;
           }
 
       pub turned : Turned s client m show_now t painted

@@ -5,7 +5,7 @@ use Rattle.std.specs.List.{enumerate_from}
 use Rattle.wf_words.specs.Keyed.{is_in}
 use Rattle.wf_calls.specs.declared.order.Turn.{Turn}
 use Rattle.wf_film.specs.declared.form.FilmForm.{FilmForm}
-use Rattle.wf_film.specs.Film.{Frame, film_bytes, head_bytes}
+use Rattle.wf_film.specs.Film.{Frame, PlainFilm, film_bytes, head_bytes}
 use Rattle.wf_script.specs.Script.{PlainScript}
 use Rattle.wf_turn.specs.Program.{place_of}
 use Rattle.wf_turn.specs.Turns.{Show, is_over, opening_show, turn}
@@ -50,9 +50,12 @@ IsComplete script order = IsTrue (over_after (replay script order))
 abbrev pub head : FilmForm → PlainScript → List Turn → List ℕ
 head form script order = head_bytes form (frames_after (replay script order))
 
--- the film of an order, in a form
+-- the film of an order, in a form, and its bytes
+abbrev pub plain_film : FilmForm → PlainScript → List Turn → PlainFilm
+plain_film form script order = record { form = form; frames = frames_after (replay script order); order = order }
+
 abbrev pub film : FilmForm → PlainScript → List Turn → List ℕ
-film form script order = film_bytes (record { form = form; frames = frames_after (replay script order); order = order })
+film form script order = film_bytes (plain_film form script order)
 
 -- the places of an order at which a creation had no memory
 abbrev pub marks : List Turn → List ℕ

@@ -3,7 +3,8 @@ use Rattle.std.specs.Prelude.{◌≡◌, ℕ, ◌+◌, ◌≤◌, Bool, List, []
 use Rattle.wf_calls.specs.declared.order.Turn.{Turn}
 use Rattle.wf_film.specs.declared.form.FilmForm.{FilmForm}
 use Rattle.wf_film.specs.Film.{Frame, frame_bytes}
-use Rattle.wf_io.specs.Bytes.{Puts, PutsPart}
+use Rattle.wf_film.specs.Frames.{PutsFrames}
+use Rattle.wf_io.specs.Bytes.{PutsPart}
 use Rattle.wf_turn.specs.Playing.{EndsNext, Turned, may_turn, shown_by, with_frames}
 use Rattle.wf_turn.specs.Quota.{all_left}
 use Rattle.wf_turn.specs.Serial.{IsFirst, IsNextTurn, IsRun}
@@ -40,15 +41,13 @@ module _ {K : Type 0} (took : K → List ℕ → Type 0) (old new : K) (form : F
   pub record PlaysTurn (Next : Show → Turn → Show → Type 0) (show now : Show) (t : Turn) : Type 0 where
     pub frames : List Frame
     pub next : Shows Next show t frames now
-    pub put : Puts took old new (flat_map (frame_bytes form) frames)
-    pub written_is : written ≡ was + length (flat_map (frame_bytes form) frames)
+    pub put : PutsFrames took old new form was written frames
 
   -- entries lead from a show to another, and their frames are put
   pub record Plays (Run : Show → List Turn → Show → Type 0) (start now : Show) (ts : List Turn) : Type 0 where
     pub frames : List Frame
     pub run : Run (with_frames [] start) ts (with_frames frames now)
-    pub put : Puts took old new (flat_map (frame_bytes form) frames)
-    pub written_is : written ≡ was + length (flat_map (frame_bytes form) frames)
+    pub put : PutsFrames took old new form was written frames
 
   -- one turn of serial play more
   pub record PlaysNext (show now : Show) (played after : List Turn) : Type 0 where

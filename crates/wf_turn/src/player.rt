@@ -4,9 +4,10 @@ ghost use Rattle.std.specs.Prelude.{◌≡◌, ◌+◌, ◌-◌, ◌*◌, ◌<�
 ghost use Rattle.std.specs.Prelude.{IfErr, IfOk, IsTrue, None, OnOk};
 ghost use Rattle.std.specs.List.{list_all};
 ghost use Rattle.wf_io.specs.Causes.{HasCause};
+ghost use Rattle.wf_film.specs.Stands.{IsFilm, as_read};
 ghost use Rattle.wf_script.specs.Script.{may_tick};
 ghost use Rattle.wf_turn.specs.Films.{IsCaused, PlaysFilm, PlaysSerially};
-ghost use Rattle.wf_turn.specs.Play.{first_client};
+ghost use Rattle.wf_turn.specs.Play.{first_client, plain_film};
 ghost use Rattle.wf_turn.specs.Played.{Plays, PlaysNext, StopsTurn, StopsTurns, TurnedFirst};
 ghost use Rattle.wf_turn.specs.Playing.{EndsNext, IsCast, may_turn, script_of};
 ghost use Rattle.wf_turn.specs.Program.{place_of};
@@ -54,6 +55,7 @@ pub fn serial<K: Sink>(
 ) -> Result<Order, PlayStop>
     ensures plays { PlaysFilm K.took k.old k.new form script.now result }
     ensures file_order { IsInFileOrder script.now result }
+    ensures stands { IfOk result (λ order. IsFilm (as_read (plain_film form script.now order))) }
     ensures caused { IsCaused (K.faults k.old) (K.faults k.new) result }
 {
     serial_by(alloc, script, form, k, &mut Plain)
@@ -70,6 +72,7 @@ pub fn serial_by<K: Sink, P: Painter>(
 ) -> Result<Order, PlayStop>
     ensures plays { PlaysFilm K.took k.old k.new form script.now result }
     ensures file_order { IsInFileOrder script.now result }
+    ensures stands { IfOk result (λ order. IsFilm (as_read (plain_film form script.now order))) }
     ensures caused { IsCaused (K.faults k.old) (K.faults k.new) result }
 {
     // The show stays where it was opened: it is large.
@@ -96,6 +99,7 @@ fn write_opened<K: Sink, P: Painter>(
     requires cast { IfOk opened.old IsCast }
     ensures plays { PlaysFilm K.took k.old k.new form script.now result }
     ensures file_order { IsInFileOrder script.now result }
+    ensures stands { IfOk result (λ order. IsFilm (as_read (plain_film form script.now order))) }
     ensures caused { IsCaused (K.faults k.old) (K.faults k.new) result }
 {
     let most = quota_of_all(script.lines());
@@ -123,6 +127,7 @@ fn write_film<K: Sink, P: Painter>(
     requires none { played.items ≡ [] }
     requires room { most_turns (script_of show.old).lines ≤ vec_capacity played }
     ensures plays { PlaysSerially K.took k.old k.new form (script_of show.old) result }
+    ensures stands { IfOk result (λ order. IsFilm (as_read (plain_film form (script_of show.old) order))) }
     ensures caused { IsCaused (K.faults k.old) (K.faults k.new) result }
 {
     let mut writer = match Writer::new(k, form) {

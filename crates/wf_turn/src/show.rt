@@ -3,7 +3,8 @@
 ghost use Rattle.std.specs.Prelude.{◌≡◌, ◌+◌, ◌-◌, ◌*◌, ◌<◌, ◌≤◌, ◌^◌, ◌&&◌, ◌||◌, ◌==◌, nat_lt, not, map, option_map, length};
 ghost use Rattle.std.specs.Prelude.{flat_map, IfOk, IfErr, IfSome, IsTrue, MatchOption, OnOk};
 ghost use Rattle.wf_film.specs.Film.{frame_bytes};
-ghost use Rattle.wf_io.specs.Bytes.{Puts, PutsPart};
+ghost use Rattle.wf_film.specs.Frames.{PutsFrames};
+ghost use Rattle.wf_io.specs.Bytes.{PutsPart};
 ghost use Rattle.wf_io.specs.Causes.{HasCause};
 ghost use Rattle.wf_machine.specs.Object.{IsPaintable};
 ghost use Rattle.wf_turn.specs.Play.{first_client, is_marked};
@@ -147,10 +148,8 @@ impl<'a> Show<'a> {
         requires within { client < 8 }
         requires paintable { IsTrue painted → HoldsPaintable self.now.programs client }
         requires few { writer.old.written < 2 ^ 62 }
-        ensures all { OnOk result (Puts K.took k.old k.new
-            (flat_map (frame_bytes writer.old.form) (shown_by begin painted self.now.programs client))) }
-        ensures written { OnOk result (writer.new.written
-            ≡ writer.old.written + length (flat_map (frame_bytes writer.old.form) (shown_by begin painted self.now.programs client))) }
+        ensures all { OnOk result (PutsFrames K.took k.old k.new writer.old.form writer.old.written writer.new.written
+            (shown_by begin painted self.now.programs client)) }
         ensures form { writer.new.form ≡ writer.old.form }
         ensures most { OnOk result (writer.new.written ≤ writer.old.written + 14 + 4 * 1024 * 1024) }
         ensures part { IfErr result (λ stop. PutsPart K.took k.old k.new writer.old.written
@@ -178,10 +177,8 @@ pub fn put_job<K: Sink>(
 ) -> Result<(), WriteStop>
     requires paintable { IsPaintable job.now }
     requires few { writer.old.written < 2 ^ 62 }
-    ensures all { OnOk result (Puts K.took k.old k.new
-        (flat_map (frame_bytes writer.old.form) (shown job.now.kind tick begin job.now))) }
-    ensures written { OnOk result (writer.new.written
-        ≡ writer.old.written + length (flat_map (frame_bytes writer.old.form) (shown job.now.kind tick begin job.now))) }
+    ensures all { OnOk result (PutsFrames K.took k.old k.new writer.old.form writer.old.written writer.new.written
+        (shown job.now.kind tick begin job.now)) }
     ensures form { writer.new.form ≡ writer.old.form }
     ensures most { OnOk result (writer.new.written ≤ writer.old.written + 14 + 4 * 1024 * 1024) }
     ensures part { IfErr result (λ stop. PutsPart K.took k.old k.new writer.old.written

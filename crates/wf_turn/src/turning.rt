@@ -172,6 +172,7 @@ fn take_begin(machine: &mut Machine, program: &mut Program, client: u8, call: &R
     requires begins { takes_job program.old ≡ true }
     ensures { Answers (is_marked result) client machine.old machine.new (call_of call.now) program.old program.new result }
 {
+    program.job.clear();
     let answer = machine.begin(client, call, &mut program.job);
     program.took_begun(answer);
     answer.entry(client)

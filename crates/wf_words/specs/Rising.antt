@@ -202,3 +202,18 @@ pub rises_to_more : {A : Type 0} (f : A → ℕ) (low high top : ℕ) (xs : List
     → RisesTo f low (xs ++ y ∷ []) top
 rises_to_more f low high top [] y over le rising = (omega (arith, rising, over), le)
 rises_to_more f low high top (x ∷ xs) y over le rising = (rising.0, rises_to_more f (f x) high top xs y over le rising.1)
+
+pub rises_to_higher : {A : Type 0} (f : A → ℕ) (low high top : ℕ) (xs : List A) → high ≤ top → RisesTo f low xs high → RisesTo f low xs top
+rises_to_higher f low high top [] le rising = omega (arith, le, rising)
+rises_to_higher f low high top (x ∷ xs) le rising = (rising.0, rises_to_higher f (f x) high top xs le rising.1)
+
+-- a change that keeps the numbers
+pub rises_to_change : {A : Type 0} (f : A → ℕ) (h : A → A) (n low high : ℕ) (xs : List A) → ((x : A) → f (h x) ≡ f x)
+    → RisesTo f low xs high → RisesTo f low (change f n h xs) high
+rises_to_change f h n low high [] keeps rising = rising
+rises_to_change f h n low high (x ∷ xs) keeps rising =
+    let later : RisesTo f (f x) (change f n h xs) high = rises_to_change f h n (f x) high xs keeps rising.1 in
+    elim (f x == n) as (λ b. RisesTo f low (cond b (h x) x ∷ change f n h xs) high) [
+      | true ↦ (subst (λ m. low < m) (sym (keeps x)) rising.0, subst (λ m. RisesTo f m (change f n h xs) high) (sym (keeps x)) later)
+      | false ↦ (rising.0, later)
+    ]

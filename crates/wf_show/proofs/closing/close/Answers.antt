@@ -13,8 +13,8 @@ close-journal-requires-clause-passes c κs =
     (all_passes c.args.desk.id c.args.clock c.args.others.items
     (length c.args.desk.quotas) c.requires.seated c.requires.seven c.requires.eight)
 
-pub returns : goal.returns
-returns c =
+pub returns-clause-closed : goal.returns-clause-closed
+returns-clause-closed c =
     let s = c.args.clock.program.script in
     let journal = c.close-journal.result.1 in
     let closing : IsClosing after MayAnswer entry c.args.desk
@@ -25,6 +25,6 @@ returns c =
       (
         history_is s c.args.desk c.args.clock c.args.others.items c.close-journal.result.0 journal c.requires.opening c.requires.eight
             c.requires.seated closing,
-        c.new.ensures ∙ c.into_entries.ensures ∙ closing.journal_is,
+        c.new.ensures.turns ∙ c.into_entries.ensures ∙ closing.journal_is,
       ),
     )

@@ -1,8 +1,9 @@
-use Rattle.std.proofs.Common.{◌∙◌, inl, inr, sym, ap, subst}
-use Rattle.wf_film.specs.Film.{Writing}
+use Rattle.std.proofs.Common.{◌∙◌, inl, inr, length, sym, ap, subst}
+use Rattle.wf_film.specs.Film.{Writing, magic}
 use Rattle.wf_show.specs.Clocks.{Cuts, IsClock, Shows}
 use Rattle.wf_show.specs.declared.player.Player.{Player}
-use Rattle.wf_show.proofs.Showings.{cut_later, cut_script, cut_sees}
+use Rattle.wf_show.specs.Running.{PlainPass}
+use Rattle.wf_show.proofs.Showings.{all_filmed, both_shown, cut_later, cut_script, cut_sees}
 use Rattle.wf_show.proofs.Telling.{all_play, first_clock, first_setting}
 use Rattle.wf_show.proofs.playing.play_all.Goals as goal
 
@@ -31,6 +32,26 @@ returns-clause-played g c =
     all_play d m end c.args.others.now c.teach.new.others c.play_together.new.others c.in_default.ensures.clock setting
     c.in_default.ensures.over
     (sym last.script) last.goes_on c.teach.ensures.told c.play_together.ensures.others
+
+pub returns-clause-film : goal.returns-clause-film
+returns-clause-film g c =
+    let took = g.K.Sink.took in
+    let middle = c.set_up.new in
+    let end = c.play_together.new in
+    let first = c.args.clock.now in
+    let begun = c.in-Ok.ensures.begun in
+    let form_is = c.in_default.ensures.form ∙ ap (λ (w : Writing). w.form) begun in
+    let head : Shows took c.new.new.k middle.k c.args.form (length (magic c.args.form)) middle.writer.written first middle.clock =
+    subst (λ (w : Writing). Shows took c.new.new.k middle.k w.form w.written middle.writer.written first middle.clock) begun
+    c.in_default.ensures.all in
+    let rest : Shows took middle.k end.k c.args.form middle.writer.written end.writer.written middle.clock end.clock =
+    subst (λ f. Shows took middle.k end.k f middle.writer.written end.writer.written middle.clock end.clock) form_is
+    (subst (λ (p : Player). Shows took middle.k end.k middle.writer.form middle.writer.written end.writer.written p end.clock)
+    c.teach.ensures.clock c.in_default-play_together.ensures.all) in
+    all_filmed took c.args.form c.args.k.now c.new.new.k end.k end.writer first end.clock
+    (ap (λ (p : PlainPass). p.seen) c.requires.clock.pass) c.in-Ok.ensures.all
+    (both_shown took c.args.form c.new.new.k middle.k end.k (length (magic c.args.form)) middle.writer.written end.writer.written
+    first middle.clock end.clock head rest) c.in_default-play_together.ensures.few
 
 pub returns-in-Err-play_together-clause-ended : goal.returns-in-Err-play_together-clause-ended
 returns-in-Err-play_together-clause-ended g c =
