@@ -5,7 +5,7 @@ ghost use Rattle.wf_pixel.specs.Choice.{has_sides};
 
 use crate::words::{number, word};
 use std::alloc::{AllocError, Global};
-use wf_pixel::{Format, Rect, Rgba, Rotation, Size, Transparency};
+use wf_pixel::{Format, MOST_SIDE, Rect, Rgba, Rotation, Size, Transparency};
 
 /// A colour, from the four words at a place and behind it.
 pub fn color(words: &[&str], at: usize) -> Rgba {
@@ -35,7 +35,7 @@ pub fn size(words: &[&str], at: usize) -> Option<Size>
 {
     let at = at.min(10_000);
     let (w, h) = (number::<u32>(words, at), number::<u32>(words, at + 1));
-    if 1 <= w && w <= 1024 && 1 <= h && h <= 1024 {
+    if 1 <= w && w <= MOST_SIDE && 1 <= h && h <= MOST_SIDE {
         Some(Size { w, h })
     } else {
         None

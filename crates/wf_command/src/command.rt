@@ -173,7 +173,7 @@ fn stop_of(error: &Error) -> WordsStop
     }
 }
 
-/// What the words, without the program's name, ask for: they are accepted exactly where they are matches of the command
+/// Returns what `words`, without the program's name, ask for: they are accepted exactly where they are matches of the command
 /// and name a mode that there is.
 pub fn asked_by(alloc: Global, words: &[String]) -> Result<Asked, WordsStop>
     ensures asked { IfOk result (λ a. AskFor a words.now) }

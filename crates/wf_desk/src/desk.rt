@@ -44,8 +44,8 @@ impl<O: Object> Model for Desk<O> {
 }
 
 impl<O: Object> Desk<O> {
-    /// A desk for the object, with one pass for each quota, the i-th for the client i. It takes the memory of the whole
-    /// journal. Where memory runs out, the object is dropped.
+    /// Opens a desk for `object`, with one pass for each of `quotas`, the i-th for the client i. It takes the memory of the
+    /// whole journal. Where memory runs out, the object is dropped.
     pub fn open(
         alloc: Global,
         object: O,
@@ -71,7 +71,7 @@ impl<O: Object> Desk<O> {
         Ok((Desk { board }, passes))
     }
 
-    /// Runs the call at one point of the history. It may wait.
+    /// Runs `call` for the client of `pass` at one point of the history. It may wait.
     pub fn call<R: Wait>(&self, rt: &R, pass: &mut Pass<O>, call: O::Call) -> O::Reply
         requires desk { pass.old.desk ≡ self.now.id }
         requires left { 0 < pass.old.left }
@@ -85,8 +85,8 @@ impl<O: Object> Desk<O> {
         reply
     }
 
-    /// Runs the call at a point of the history where the object is ready for it. It may wait, for the object and for
-    /// that point.
+    /// Runs `call` for the client of `pass` at a point of the history where the object is ready for it. It may wait, for the
+    /// object and for that point.
     pub fn call_when<R: Wait>(&self, rt: &R, pass: &mut Pass<O>, call: O::Call) -> O::Reply
         requires desk { pass.old.desk ≡ self.now.id }
         requires left { 0 < pass.old.left }
@@ -101,7 +101,7 @@ impl<O: Object> Desk<O> {
         reply
     }
 
-    /// Tells a pass all that another has seen. It is no event, and waits for nobody.
+    /// Tells `to` all that `from` has seen. It is no event, and waits for nobody.
     pub fn tell(&self, from: &mut Pass<O>, to: &mut Pass<O>)
         requires from_desk { from.old.desk ≡ self.now.id }
         requires to_desk { to.old.desk ≡ self.now.id }
@@ -122,7 +122,7 @@ impl<O: Object> Desk<O> {
             .load::<Catch<O>>(&mut to.seat, HISTORY);
     }
 
-    /// Ends the desk, with all its passes. It gives the object and the journal of all events.
+    /// Ends the desk, with `passes`, which are all of its own. It gives the object and the journal of all events.
     pub fn close(self, passes: Vec<Pass<O>>) -> (O, Journal<O>)
         requires passes { AreAll self.id (length self.quotas) passes.items }
         ensures { IsClosing O.after O.may O.entry_of self passes.items result.0 result.1 }

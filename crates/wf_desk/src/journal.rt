@@ -26,7 +26,7 @@ impl<O: Object> Journal<O> {
         Journal { entries }
     }
 
-    /// The entries as a list. It cannot lack memory.
+    /// Returns the entries as a list. It cannot lack memory.
     pub fn into_entries(self) -> Vec<O::Entry>
         ensures { result.items ≡ self }
     {

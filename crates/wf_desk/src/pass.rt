@@ -33,7 +33,7 @@ impl<O: Object> Model for Pass<O> {
 }
 
 impl<O: Object> Pass<O> {
-    /// How many calls are left.
+    /// Returns how many calls are left.
     pub fn left(&self) -> u32
         ensures left { result ≡ self.now.left }
         ensures own { IsOwn O.after O.may self.now }
@@ -41,7 +41,7 @@ impl<O: Object> Pass<O> {
         self.left
     }
 
-    /// The place in the history, counted from 0, of the last event of the pass's client.
+    /// Returns the place in the history, counted from 0, of the last event of the pass's client.
     pub fn place(&self) -> u32
         requires called { 0 < length self.now.mine }
         ensures place { result ≡ self.now.place }

@@ -19,6 +19,7 @@ use Rattle.wf_film.specs.Stands.{IsSide, MayBegin}
 use Rattle.wf_film.specs.Reading.{begin_at, byte_at, byte_within, form_at, is_within, number_at, pixels_at, side_at}
 use Rattle.wf_film.specs.Rules.{breach, ends_here}
 use Rattle.wf_film.proofs.Steps.{AreBytes, Takes, bind_ok, bytes_before, bytes_behind, is_in_range, ok_is, passed, stays_in_range}
+use Rattle.wf_pixel.specs.declared.TheConstants.{MOST_SIDE}
 
 -- a test that chose the second
 chosen : {A : Type 0} (b : Bool) (e : Breach) (x y : A) → (let r : Result A Breach = if b then Err e else Ok x in r ≡ Ok y)
@@ -90,8 +91,8 @@ pub side_takes : (bytes : List ℕ) (x : ℕ × List ℕ) → AreBytes bytes →
 unfolding side_at
 side_takes bytes x fits h =
     let side = bind_ok (number_at 2 bytes) _ x h in
-    let test = bind_ok (refuse_if (breach rule.Range bytes) (not (is_within 1 1024 side.0.0))) _ x side.2 in
-    let range = is_in_range 1 1024 side.0.0 (passed _ _ test.0 test.1) in
+    let test = bind_ok (refuse_if (breach rule.Range bytes) (not (is_within 1 MOST_SIDE side.0.0))) _ x side.2 in
+    let range = is_in_range 1 MOST_SIDE side.0.0 (passed _ _ test.0 test.1) in
     subst (λ (y : ℕ × List ℕ). Takes bytes (big_bytes 2 y.0) y.1 × IsSide y.0) (ok_is side.0 x test.2)
     ((number_takes 2 two_come_back bytes side.0 fits side.1).0, record { low = range.0; high = range.1 })
 
@@ -99,7 +100,7 @@ pub side_again : (n : ℕ) (rest : List ℕ) → IsSide n → side_at (big_bytes
 unfolding side_at
 side_again n rest is =
     let read = number_again 2 n rest (omega (arith, is.high)) in
-    let range = stays_in_range 1 1024 n is.low is.high in
+    let range = stays_in_range 1 MOST_SIDE n is.low is.high in
     rw (read, range) refl
 
 -- pixels

@@ -9,6 +9,7 @@ use Rattle.byteorder.specs.Endian.{big_bytes}
 use Rattle.wf_words.specs.Refusals.{◌>>=◌, refuse_if}
 use Rattle.wf_pixel.specs.declared.Size.{Size}
 use Rattle.wf_pixel.specs.Choice.{has_sides, is_side}
+use Rattle.wf_pixel.specs.declared.TheConstants.{MOST_SIDE}
 use Rattle.wf_image.specs.Bitmap.{Bitmap, image_bytes, pixel_bytes}
 use Rattle.wf_film.specs.declared.form.FilmForm.{FilmForm}
 use Rattle.wf_film.specs.declared.form.FilmForm.TheVariants as forms
@@ -90,8 +91,8 @@ frame_again form f rest is =
 
 side_is : (n : ℕ) → is_side n ≡ true → IsSide n
 side_is n is =
-    let both = and_parts (nat_le 1 n) (nat_le n 1024) is in
-    record { low = leb-true 1 n both.0; high = leb-true n 1024 both.1 }
+    let both = and_parts (nat_le 1 n) (nat_le n MOST_SIDE) is in
+    record { low = leb-true 1 n both.0; high = leb-true n MOST_SIDE both.1 }
 
 pub image_stands : (form : FilmForm) (port tick begin : ℕ) (image : Bitmap) → 1 ≤ port → port ≤ 4 → tick < 2 ^ 32 → begin < 2 ^ 32
     → has_sides image.size ≡ true → pixel_bytes image.format ≡ 4 → length image.bytes ≡ image_bytes image.size image.format

@@ -14,6 +14,7 @@ use Rattle.wf_film.specs.Film.{PlainFilm, magic}
 use Rattle.wf_film.specs.Reading.{Read, begin_at, byte_at, byte_within, end_at, film_at, form_at, frame_at, frames_at, is_within}
 use Rattle.wf_film.specs.Reading.{journal_at, number_at, outlined, pixels_at, read_film, side_at, turn_at, turns_at}
 use Rattle.wf_film.specs.Rules.{breach, ends_here}
+use Rattle.wf_pixel.specs.declared.TheConstants.{MOST_SIDE}
 
 -- what was read from these bytes left no more than they are
 abbrev LeavesLess : {A : Type 0} → List ℕ → Read A → Type 0
@@ -69,7 +70,7 @@ number_less n bytes =
 side_less : (bytes : List ℕ) → LeavesLess bytes (side_at bytes)
 unfolding side_at
 side_less bytes =
-    then_tested bytes (number_at 2 bytes) (breach rule.Range bytes) (λ side. not (is_within 1 1024 side.0)) _ (omega arith)
+    then_tested bytes (number_at 2 bytes) (breach rule.Range bytes) (λ side. not (is_within 1 MOST_SIDE side.0)) _ (omega arith)
     (number_less 2 bytes) (λ side. omega arith)
 
 pixels_less : (n : ℕ) (bytes : List ℕ) → LeavesLess bytes (pixels_at n bytes)

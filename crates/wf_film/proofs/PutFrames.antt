@@ -1,6 +1,7 @@
 -- Frames that are put one after another.
 use Rattle.std.proofs.Common.{◌≡◌, ℕ, ◌+◌, List, [], ◌∷◌, ◌++◌, length, map, refl, sym, ap, subst, arith, append-nil, length-append}
 use Rattle.std.specs.List.{flat_map, AllByRecursion}
+use Rattle.std.specs.Prelude.{OnOk, Result, Ok, Err}
 use Rattle.std.proofs.lemmas.Grind.{flat_map-append}
 use Rattle.wf_io.specs.Bytes.{Puts}
 use Rattle.wf_io.specs.Parts.{puts_both}
@@ -47,3 +48,10 @@ module _ {K : Type 0} (took : K → List ℕ → Type 0) (form : FilmForm) where
         written_is = omega (arith, first.written_is, second.written_is, ap length joined, length-append (bytes xs) (bytes ys));
         stand = both_stand form xs ys first.stand second.stand;
       }
+
+  -- a frame that was put, where it was put whole
+  pub frame_if_ok : {E : Type 0} (r : Result (Unit {0}) E) (a b : K) (was written : ℕ) (f : Frame)
+      → OnOk r (Puts took a b (frame_bytes form f)) → OnOk r (written ≡ was + length (frame_bytes form f)) → IsFrameIn form f
+      → OnOk r (PutsFrames took a b form was written (f ∷ []))
+  frame_if_ok (Ok x) a b was written f put written_is stands = one_frame a b was written f put written_is stands
+  frame_if_ok (Err e) a b was written f put written_is stands = tt

@@ -14,6 +14,7 @@ use Rattle.wf_film.specs.declared.rule.Rule.TheVariants as rule
 use Rattle.wf_film.specs.Film.{Frame, PlainFilm, magic}
 use Rattle.wf_film.specs.Stands.{Outline, outline}
 use Rattle.wf_film.specs.Rules.{breach, ends_here, rule_number}
+use Rattle.wf_pixel.specs.declared.TheConstants.{MOST_SIDE}
 
 -- what was read from the front of the bytes and the bytes behind it, or the rule that is broken and how many bytes are left there
 abbrev pub Read : Type 0 → Type 0
@@ -51,7 +52,7 @@ number_at n bytes = if nat_lt (length bytes) n then Err ends_here else Ok (big_n
 unfoldable pub side_at : List ℕ → Read ℕ
 side_at bytes = do
   side ← number_at 2 bytes
-  _ ← refuse_if (breach rule.Range bytes) (not (is_within 1 1024 side.0))
+  _ ← refuse_if (breach rule.Range bytes) (not (is_within 1 MOST_SIDE side.0))
   Ok side
 
 unfoldable pub pixels_at : ℕ → List ℕ → Read (List ℕ)

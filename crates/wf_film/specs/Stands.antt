@@ -6,6 +6,7 @@ use Rattle.wf_calls.specs.Orders.{IsTurn}
 use Rattle.wf_film.specs.declared.form.FilmForm.{FilmForm}
 use Rattle.wf_film.specs.declared.form.FilmForm.TheVariants as forms
 use Rattle.wf_film.specs.Film.{Frame, PlainFilm, film_bytes}
+use Rattle.wf_pixel.specs.declared.TheConstants.{MOST_SIDE}
 
 -- a film without its pixels: its form, the number of its frames, and its journal
 pub record Outline : Type 0 where
@@ -25,7 +26,7 @@ MayBegin forms.Two begin = begin < 2 ^ 32
 
 pub record IsSide (side : ℕ) : Type 0 where
   pub low : 1 ≤ side
-  pub high : side ≤ 1024
+  pub high : side ≤ MOST_SIDE
 
 pub record IsFrame (form : FilmForm) (f : Frame) : Type 0 where
   pub low_port : 1 ≤ f.port

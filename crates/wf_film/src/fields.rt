@@ -8,9 +8,10 @@ use crate::form::FilmForm;
 use crate::pieces::{MAGIC, MAGIC_OF_TWO};
 use crate::rule::{Breach, Rule};
 use byteorder::{BigEndian, ByteOrder};
+use wf_pixel::MOST_SIDE;
 
 /// The highest side of a frame.
-const MOST_SIDE: u16 = 1024;
+const HIGHEST: u16 = MOST_SIDE as u16;
 
 /// The form that the magic tells.
 #[tactic(auto, unfolding(crate::specs::Reading::form_at))]
@@ -80,7 +81,7 @@ pub(crate) fn side_of(bytes: &[u8]) -> Result<(u16, &[u8]), Breach>
     ensures { Finds (λ x. (x.0, x.1.now)) result (side_at bytes.now) }
 {
     let (side, rest) = u16_of(bytes)?;
-    if side < 1 || side > MOST_SIDE {
+    if side < 1 || side > HIGHEST {
         return Err(Breach::at(Rule::Range, bytes));
     }
     Ok((side, rest))

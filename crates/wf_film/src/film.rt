@@ -34,21 +34,21 @@ impl Film {
         }
     }
 
-    /// The form of the film.
+    /// Returns the form of the film.
     pub fn form(&self) -> FilmForm
         ensures { result ≡ self.now.form }
     {
         self.form
     }
 
-    /// The number of its frames.
+    /// Returns the number of its frames.
     pub fn frames(&self) -> u64
         ensures { result ≡ self.now.frames }
     {
         self.frames
     }
 
-    /// The journal.
+    /// Returns the journal.
     pub fn order(&self) -> &Order
         ensures { result.now ≡ self.now.order }
     {

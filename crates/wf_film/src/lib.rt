@@ -22,4 +22,8 @@ pub use laws::{
 };
 pub use reading::read;
 pub use wf_io::WriteStop;
+use wf_pixel::MOST_SIDE;
 pub use writer::Writer;
+
+/// The most bytes of a frame: a head of 14 bytes, and 4 bytes a pixel.
+pub const FRAME_BYTES: u64 = 14 + 4 * MOST_SIDE as u64 * MOST_SIDE as u64;

@@ -8,6 +8,7 @@ use crate::form::FilmForm;
 use byteorder::{BigEndian, ByteOrder};
 use wf_calls::{Order, Turn};
 use wf_image::Image;
+use wf_pixel::MOST_SIDE;
 
 /// What a film of form 1 begins with.
 pub(crate) const MAGIC: [u8; 4] = *b"WFF1";
@@ -31,7 +32,7 @@ pub(crate) fn magic_of(form: FilmForm) -> [u8; 4]
 /// What stands before a frame's pixels in form 1.
 pub(crate) fn head_without_begin(port: u8, tick: u32, image: &Image) -> [u8; 10]
     ensures bytes { (begin : ℕ) → result ≡ frame_head forms.One (frame_of port tick begin image.now) }
-    ensures small { image.now.size.w * image.now.size.h ≤ 1024 * 1024 }
+    ensures small { image.now.size.w * image.now.size.h ≤ MOST_SIDE * MOST_SIDE }
 {
     let size = image.size();
     let mut head = [b'F'; 10];
@@ -45,7 +46,7 @@ pub(crate) fn head_without_begin(port: u8, tick: u32, image: &Image) -> [u8; 10]
 /// What stands before a frame's pixels in form 2.
 pub(crate) fn head_with_begin(port: u8, tick: u32, begin: u32, image: &Image) -> [u8; 14]
     ensures bytes { result ≡ frame_head forms.Two (frame_of port tick begin image.now) }
-    ensures small { image.now.size.w * image.now.size.h ≤ 1024 * 1024 }
+    ensures small { image.now.size.w * image.now.size.h ≤ MOST_SIDE * MOST_SIDE }
 {
     let size = image.size();
     let mut head = [b'F'; 14];

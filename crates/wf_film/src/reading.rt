@@ -41,7 +41,7 @@ fn film_of(alloc: Global, bytes: &[u8]) -> Result<Film, ReadStop>
     Ok(Film::new(form, frames, order))
 }
 
-/// The film that the bytes stand for, or the first fault. In one pass; memory is taken for the journal alone.
+/// Reads the film that `bytes` stand for, or the first fault. In one pass; memory is taken for the journal alone.
 pub fn read(alloc: Global, bytes: &[u8]) -> Result<Film, FilmStop>
     // No fault where a film is read, and else the first fault of the bytes.
     ensures fault { TellsFault result (film_fault bytes.now) }

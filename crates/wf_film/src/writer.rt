@@ -7,6 +7,7 @@ ghost use Rattle.wf_image.specs.Bitmap.{pixel_bytes};
 ghost use Rattle.wf_film.specs.Film.{magic, frame_of, frame_bytes, frame_head, turn_bytes, tail_bytes};
 ghost use Rattle.wf_film.specs.Stands.{IsFrameIn};
 
+use crate::FRAME_BYTES;
 use crate::form::FilmForm;
 use crate::pieces::{
     END, bytes_of_turn, head_of_journal, head_with_begin, head_without_begin, magic_of,
@@ -15,6 +16,7 @@ use std::marker::Model;
 use wf_calls::Order;
 use wf_image::Image;
 use wf_io::{Sink, WriteStop, write_all};
+use wf_pixel::MOST_SIDE;
 
 /// Writes one film of one form into one sink. Every `written` counts from the film's start: where a call stops, just
 /// the first `written` bytes of the parts, in their order, were put. No call can lack memory.
@@ -33,7 +35,7 @@ impl Model for Writer {
 }
 
 impl Writer {
-    /// Begins a film of a form: puts the magic, as one piece.
+    /// Begins a film of `form` in `k`: puts the magic, as one piece.
     pub fn new<K: Sink>(k: &mut K, form: FilmForm) -> Result<Writer, WriteStop>
         ensures all { OnOk result (Puts K.took k.old k.new (magic form)) }
         ensures begun { IfOk result (λ writer. writer ≡ record { form = form; written = length (magic form) }) }
@@ -45,8 +47,8 @@ impl Writer {
         Ok(writer)
     }
 
-    /// Puts a frame: its head as one piece, and its pixels as one piece. The port is from 1 to 4, the begin is the
-    /// place in the journal, from 0, of the entry that began the frame, and the image has 4 bytes a pixel. Form 1
+    /// Puts a frame into `k`: its head as one piece, and its pixels as one piece. `port` is from 1 to 4, `tick` is its tick,
+    /// `begin` is the place in the journal, from 0, of the entry that began the frame, and `image` has 4 bytes a pixel. Form 1
     /// leaves out the begin.
     pub fn frame<K: Sink>(
         &mut self,
@@ -64,7 +66,7 @@ impl Writer {
         ensures written { OnOk result (self.new.written
             ≡ self.old.written + length (frame_bytes self.old.form (frame_of port tick begin image.now))) }
         ensures form { self.new.form ≡ self.old.form }
-        ensures most { OnOk result (self.new.written ≤ self.old.written + 14 + 4 * 1024 * 1024) }
+        ensures most { OnOk result (self.new.written ≤ self.old.written + FRAME_BYTES) }
         ensures part { IfErr result (λ stop. PutsPart K.took k.old k.new self.old.written
             (frame_bytes self.old.form (frame_of port tick begin image.now)) stop.written) }
         ensures stopped { IfErr result (λ stop. self.new.written ≡ stop.written) }
@@ -76,7 +78,7 @@ impl Writer {
         self.put(k, image.bytes())
     }
 
-    /// Ends the film: puts `J` with the count as one piece, each entry as one piece, and `E` as one piece.
+    /// Ends the film in `k`: puts `J` with the count of `order` as one piece, each entry as one piece, and `E` as one piece.
     pub fn finish<K: Sink>(mut self, k: &mut K, order: &Order) -> Result<(), WriteStop>
         requires few { self.written < 2 ^ 62 }
         requires turns { length order.now < 2 ^ 32 }
@@ -104,7 +106,7 @@ impl Writer {
             ≡ self.old.written + length (frame_head self.old.form (frame_of port tick begin image.now))) }
         ensures form { self.new.form ≡ self.old.form }
         ensures most { OnOk result (self.new.written ≤ self.old.written + 14) }
-        ensures small { image.now.size.w * image.now.size.h ≤ 1024 * 1024 }
+        ensures small { image.now.size.w * image.now.size.h ≤ MOST_SIDE * MOST_SIDE }
         ensures part { IfErr result (λ stop. PutsPart K.took k.old k.new self.old.written
             (frame_head self.old.form (frame_of port tick begin image.now)) stop.written) }
         ensures stopped { IfErr result (λ stop. self.new.written ≡ stop.written) }

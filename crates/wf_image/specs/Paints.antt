@@ -1,5 +1,6 @@
 -- What a paint leaves: the pixels that it names get its colours, and the others stay.
-use Rattle.std.specs.Prelude.{List, ℕ, ◌+◌, ◌-◌, ◌*◌, ◌/◌, ◌%◌, ◌==◌, pos, Bool, true, nat_le, length, Option, Some, None, slice_get}
+use Rattle.std.specs.Prelude.{List, ℕ, ◌+◌, ◌-◌, ◌*◌, ◌/◌, ◌%◌, ◌==◌, pos, Bool, true, nat_le, nat_lt, length, Option, Some, None}
+use Rattle.std.specs.Prelude.{slice_get}
 use Rattle.std.specs.Prelude.{unwrap_or, is_some, ◌&&◌, if◌then◌else◌}
 use Rattle.wf_pixel.specs.declared.Size.{Size}
 use Rattle.wf_pixel.specs.declared.Format.{Format}
@@ -9,6 +10,7 @@ use Rattle.wf_pixel.specs.Choice.{is_coordinate, most_extent}
 use Rattle.wf_image.specs.declared.paint.Paint.{Paint}
 use Rattle.wf_image.specs.declared.paint.Paint.TheVariants.{Fill, Rectangle, Checker, Ramp, Row}
 use Rattle.wf_image.specs.Bitmap.{Bitmap, pixel_bytes, read_at, pixel, drawn_row, drawn}
+use Rattle.wf_pixel.specs.declared.TheConstants.{MOST_SIDE}
 
 -- one channel of the ramp from c to d, at x of w columns
 abbrev pub ramp_channel : ℕ → ℕ → ℕ → ℕ → ℕ
@@ -56,6 +58,6 @@ abbrev pub is_paint : Paint → Bool
 is_paint (Fill color) = true
 is_paint (Rectangle area color) =
     is_coordinate area.x && is_coordinate area.y && nat_le area.w most_extent && nat_le area.h most_extent
-is_paint (Checker n first second) = nat_le 1 n && nat_le n 1024
+is_paint (Checker n first second) = nat_le 1 n && nat_le n MOST_SIDE
 is_paint (Ramp first second) = true
-is_paint (Row y pixels) = nat_le y 1023 && nat_le 1 (length pixels) && nat_le (length pixels) 1024
+is_paint (Row y pixels) = nat_lt y MOST_SIDE && nat_le 1 (length pixels) && nat_le (length pixels) MOST_SIDE

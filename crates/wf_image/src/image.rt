@@ -31,7 +31,7 @@ impl Model for Image {
 }
 
 impl Image {
-    /// An image of zeros. Each side is from 1 to 1024.
+    /// Makes an image of zeros of `size` and `format`. Each side is from 1 to 1024.
     pub fn new(alloc: Global, size: Size, format: Format) -> Result<Image, NoMemory>
         requires { IsTrue (has_sides size) }
         ensures { IfOk result (λ image. image ≡ blank size format) }
@@ -45,7 +45,7 @@ impl Image {
         })
     }
 
-    /// Width and height in pixels.
+    /// Returns width and height in pixels.
     pub fn size(&self) -> Size
         ensures size { result ≡ self.now.size }
         ensures sides { IsTrue (has_sides result) }
@@ -53,14 +53,14 @@ impl Image {
         self.size
     }
 
-    /// How the bytes are read.
+    /// Returns how the bytes are read.
     pub fn format(&self) -> Format
         ensures { result ≡ self.now.format }
     {
         self.format
     }
 
-    /// The bytes of all pixels.
+    /// Returns the bytes of all pixels.
     pub fn bytes(&self) -> &[u8]
         ensures value { result.now ≡ self.now.bytes }
         ensures len { length result.now ≡ image_bytes self.now.size self.now.format }
@@ -68,7 +68,7 @@ impl Image {
         &self.bytes
     }
 
-    /// The bytes of all pixels, to write.
+    /// Returns the bytes of all pixels, to write.
     pub fn bytes_mut(&mut self) -> &mut [u8]
         ensures* writes_back { sem 𝓛 (LendsBytes self.entry result) }
         ensures value { result.now ≡ self.old.bytes }
@@ -78,7 +78,7 @@ impl Image {
     }
 }
 
-/// How many bytes a pixel of a format takes: 1 for a mask, and 4 else.
+/// Returns how many bytes a pixel of `format` takes: 1 for a mask, and 4 else.
 pub fn bytes_of_pixel(format: Format) -> usize
     ensures { result ≡ pixel_bytes format }
 {

@@ -21,14 +21,14 @@ impl Model for Pixels {
 }
 
 impl Pixels {
-    /// These pixels. Nothing is copied.
+    /// Takes `pixels` as they are. Nothing is copied.
     pub fn new(pixels: Vec<Rgba>) -> Pixels
         ensures { result ≡ pixels.items }
     {
         Pixels { pixels }
     }
 
-    /// The pixels, from the left.
+    /// Returns the pixels, from the left.
     pub fn as_slice(&self) -> &[Rgba]
         ensures { result.now ≡ self.now }
     {

@@ -10,7 +10,7 @@ ghost use Rattle.wf_image.specs.Paints.{is_paint, ramp_channel, ramp_colour, nam
 
 use crate::image::bytes_of_pixel;
 use crate::paint::{Paint, Pixels};
-use wf_pixel::{Format, Rect, Rgba, Size};
+use wf_pixel::{Format, MOST_SIDE, Rect, Rgba, Size};
 
 /// Paints on the bytes of an image of this size and format.
 pub(crate) fn paint_bytes(bytes: &mut [u8], size: Size, format: Format, p: &Paint)
@@ -27,8 +27,8 @@ pub(crate) fn paint_bytes(bytes: &mut [u8], size: Size, format: Format, p: &Pain
 
 /// Paints on row `y`, whose bytes begin at a place.
 fn paint_row_at(bytes: &mut [u8], at: usize, size: Size, format: Format, p: &Paint, y: u32)
-    requires width { size.w ≤ 1024 }
-    requires y { y < 1024 }
+    requires width { size.w ≤ MOST_SIDE }
+    requires y { y < MOST_SIDE }
     requires within { at + size.w * pixel_bytes format ≤ length bytes.old }
     requires paint { IsTrue (is_paint p.now) }
     ensures { bytes.new ≡ take at bytes.old ++ painted_row size format (take (size.w * pixel_bytes format) (drop at bytes.old)) p.now y
@@ -40,8 +40,8 @@ fn paint_row_at(bytes: &mut [u8], at: usize, size: Size, format: Format, p: &Pai
 
 /// Paints on the bytes of row `y`.
 fn paint_row(row: &mut [u8], size: Size, format: Format, p: &Paint, y: u32)
-    requires width { size.w ≤ 1024 }
-    requires y { y < 1024 }
+    requires width { size.w ≤ MOST_SIDE }
+    requires y { y < MOST_SIDE }
     requires count { length row.old ≡ size.w * pixel_bytes format }
     requires paint { IsTrue (is_paint p.now) }
     ensures { row.new ≡ painted_row size format row.old p.now y }
@@ -65,8 +65,8 @@ fn put_pixel(row: &mut [u8], format: Format, x: usize, color: Rgba)
 
 /// The columns of row `y` that the paint names: from the first number up to the second, which is not among them.
 fn span_of_row(p: &Paint, size: Size, y: u32) -> (u32, u32)
-    requires width { size.w ≤ 1024 }
-    requires y { y < 1024 }
+    requires width { size.w ≤ MOST_SIDE }
+    requires y { y < MOST_SIDE }
     requires paint { IsTrue (is_paint p.now) }
     ensures order { result.0 ≤ result.1 }
     ensures within { result.1 ≤ size.w }
@@ -89,14 +89,14 @@ fn span_of_rectangle(area: Rect, width: u32, y: u32) -> (u32, u32)
     requires y { IsTrue (is_coordinate area.y) }
     requires w { area.w ≤ 16384 }
     requires h { area.h ≤ 16384 }
-    requires width { width ≤ 1024 }
-    requires row { y < 1024 }
+    requires width { width ≤ MOST_SIDE }
+    requires row { y < MOST_SIDE }
     ensures order { result.0 ≤ result.1 }
     ensures within { result.1 ≤ width }
     ensures named { (x : ℕ) → x < width → (is_some (along area.x area.w (pos x)) && is_some (along area.y area.h (pos y)))
         ≡ (nat_le result.0 x && nat_lt x result.1) }
 {
-    let rows = span_of_side(area.y, area.h, 1024);
+    let rows = span_of_side(area.y, area.h, MOST_SIDE);
     if contains(rows, y) {
         span_of_side(area.x, area.w, width)
     } else {
@@ -115,7 +115,7 @@ fn contains(span: (u32, u32), n: u32) -> bool
 fn span_of_side(start: i32, side: u32, len: u32) -> (u32, u32)
     requires start { IsTrue (is_coordinate start) }
     requires side { side ≤ 16384 }
-    requires len { len ≤ 1024 }
+    requires len { len ≤ MOST_SIDE }
     ensures order { result.0 ≤ result.1 }
     ensures within { result.1 ≤ len }
     ensures named { (x : ℕ) → x < len → is_some (along start side (pos x)) ≡ (nat_le result.0 x && nat_lt x result.1) }
@@ -140,7 +140,7 @@ fn up_to(n: i64, len: u32) -> u32
 
 /// The colour that the paint names at a point.
 fn colour_at(p: &Paint, size: Size, x: u32, y: u32) -> Rgba
-    requires width { size.w ≤ 1024 }
+    requires width { size.w ≤ MOST_SIDE }
     requires x { x < size.w }
     requires paint { IsTrue (is_paint p.now) }
     requires named { IsTrue (is_some (named_colour p.now size x y)) }
@@ -171,7 +171,7 @@ fn pixel_of_row(pixels: &Pixels, x: u32) -> Rgba
 
 /// The colour of column `x` of a ramp.
 fn ramp_at(w: u32, x: u32, first: Rgba, second: Rgba) -> Rgba
-    requires width { w ≤ 1024 }
+    requires width { w ≤ MOST_SIDE }
     requires x { x < w }
     ensures { result ≡ ramp_colour w x first second }
 {
@@ -185,7 +185,7 @@ fn ramp_at(w: u32, x: u32, first: Rgba, second: Rgba) -> Rgba
 
 /// One channel of column `x` of a ramp.
 fn ramp_channel_at(w: u32, x: u32, first: u8, second: u8) -> u8
-    requires width { w ≤ 1024 }
+    requires width { w ≤ MOST_SIDE }
     requires x { x < w }
     ensures { result ≡ ramp_channel w x first second }
 {

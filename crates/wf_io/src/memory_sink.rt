@@ -37,7 +37,7 @@ impl Model for MemorySink {
 }
 
 impl MemorySink {
-    /// An empty sink with room for this many bytes, which it takes at once.
+    /// Makes an empty sink with room for `room` bytes, which it takes at once. Its calls of the numbers in `failing` fail.
     pub fn new(alloc: Global, room: usize, failing: Vec<u32>) -> Result<MemorySink, NoMemory>
         ensures { IfOk result (λ sink. sink ≡ record { held = []; room = room; failing = failing.items; calls = 0; faults = 0 }) }
     {
@@ -51,14 +51,14 @@ impl MemorySink {
         })
     }
 
-    /// The bytes that were put.
+    /// Returns the bytes that were put.
     pub fn bytes(&self) -> &[u8]
         ensures { result.now ≡ self.now.held }
     {
         &self.held
     }
 
-    /// How many calls failed.
+    /// Returns how many calls failed.
     pub fn faults(&self) -> u64
         ensures { result ≡ self.now.faults }
     {

@@ -39,7 +39,8 @@ impl Model for MemorySource {
 }
 
 impl MemorySource {
-    /// A source of these bytes. `step` is at least 1.
+    /// Makes a source of `bytes`, which gives at most `step` of them in a call, at least 1. Its calls of the numbers in
+    /// `failing` fail.
     pub fn new(bytes: Vec<u8>, step: usize, failing: Vec<u32>) -> MemorySource
         requires { 0 < step }
         ensures { result ≡ record { left = bytes.items; step = step; failing = failing.items; calls = 0; faults = 0 } }
@@ -54,7 +55,7 @@ impl MemorySource {
         }
     }
 
-    /// How many calls failed.
+    /// Returns how many calls failed.
     pub fn faults(&self) -> u64
         ensures { result ≡ self.now.faults }
     {

@@ -20,8 +20,8 @@ pub enum ReadStop {
     NoMemory,
 }
 
-/// All bytes that the source has left, of which there are at most `limit`. It asks for 4,096 bytes at a time,
-/// and for fewer only near the limit; each call but the last takes one byte at least.
+/// Reads all bytes that `s` has left, of which there are at most `limit`. It asks for 4,096 bytes at a time, and for fewer only
+/// near the limit; each call but the last takes one byte at least.
 pub fn read_all<S: Source>(alloc: Global, s: &mut S, limit: usize) -> Result<Vec<u8>, ReadStop>
     ensures all { IfOk result (λ v. IfSome (S.left s.old) (λ bytes. v.items ≡ bytes)) }
     ensures within { IfOk result (λ v. length v.items ≤ limit) }

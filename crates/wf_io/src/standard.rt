@@ -30,7 +30,7 @@ impl<R: Read> StdSource<R> {
         StdSource { reader, faults: 0 }
     }
 
-    /// How many calls failed.
+    /// Returns how many calls failed.
     pub fn faults(&self) -> u64
         ensures { result ≡ self.now.faults }
     {
@@ -54,7 +54,7 @@ impl<R: Read> Source for StdSource<R> {
     }
 }
 
-/// A sink over any writer. Each piece is flushed before its call answers. Contracts see how often it failed.
+/// A sink over any writer. The code flushes each piece before its call answers, which no clause says. Contracts see how often it failed.
 #[derive(Drop)]
 pub struct StdSink<W: Write> {
     writer: W,
@@ -76,7 +76,7 @@ impl<W: Write> StdSink<W> {
         StdSink { writer, faults: 0 }
     }
 
-    /// How many calls failed.
+    /// Returns how many calls failed.
     pub fn faults(&self) -> u64
         ensures { result ≡ self.now }
     {

@@ -28,21 +28,21 @@ impl Model for Tally {
 }
 
 impl Tally {
-    /// Nothing was put yet.
+    /// Begins to count: nothing was put yet.
     pub fn new() -> Tally
         ensures { result ≡ count_of [] }
     {
         Tally { bytes: 0, total: 0 }
     }
 
-    /// How many bytes were put, modulo 2^64.
+    /// Returns how many bytes were put, modulo 2^64.
     pub fn bytes(&self) -> u64
         ensures { result ≡ self.now.bytes }
     {
         self.bytes
     }
 
-    /// The sum of the bytes that were put, modulo 2^32.
+    /// Returns the sum of the bytes that were put, modulo 2^32.
     pub fn sum(&self) -> u32
         ensures { result ≡ self.now.total }
     {

@@ -12,7 +12,7 @@ pub struct WriteStop {
     pub written: usize,
 }
 
-/// Puts all of the bytes into the sink, in as many calls as it takes. It cannot lack memory.
+/// Puts all of `bytes` into `k`, in as many calls as it takes. It cannot lack memory.
 pub fn write_all<K: Sink>(k: &mut K, bytes: &[u8]) -> Result<(), WriteStop>
     ensures all { OnOk result (Puts K.took k.old k.new bytes.now) }
     ensures part { IfErr result (λ stop. PutsPart K.took k.old k.new 0 bytes.now stop.written) }

@@ -11,6 +11,7 @@ use Rattle.wf_kernel.specs.Spans.{IsReach}
 use Rattle.wf_kernel.specs.Laid.{IsStretchIn}
 use Rattle.wf_kernel.proofs.Placed.{along_low}
 use Rattle.wf_kernel.proofs.Shown.{bound_beside, bound_above}
+use Rattle.wf_pixel.specs.declared.TheConstants.{MOST_SIDE}
 
 -- none is covered
 pub columns_empty : (b : Bound) (columns : Span) (first width y : ℕ) → IsReach (placed b).x (placed b).w columns
@@ -33,7 +34,7 @@ rows_behind b rows first y reach high j = bound_above b (first + j) y (reach.beh
 -- some are
 pub stretch_is : (b : Bound) (columns rows : Span) (first width y from to : ℕ) (s : Stretch) → IsReach (placed b).x (placed b).w columns
     → IsReach (placed b).y (placed b).h rows
-    → columns.start ≤ from → first ≤ from → from < to → to ≤ columns.start + columns.len → to ≤ first + width → first + width ≤ 1024
+    → columns.start ≤ from → first ≤ from → from < to → to ≤ columns.start + columns.len → to ≤ first + width → first + width ≤ MOST_SIDE
     → ((j : ℕ) → first ≤ j → j < from → j < columns.start) → ((j : ℕ) → to ≤ j → j < first + width → columns.start + columns.len ≤ j)
     → rows.start ≤ y → y < rows.start + rows.len
     → s.x ≡ from → s.y ≡ y → s.across ≡ columns.skip + (from - columns.start) → s.down ≡ rows.skip + (y - rows.start) → s.len ≡ to - from

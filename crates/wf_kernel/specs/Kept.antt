@@ -6,6 +6,7 @@ use Rattle.wf_kernel.specs.declared.keeping.Kept.{Kept}
 use Rattle.wf_kernel.specs.declared.keeping.Tag.{Tag}
 use Rattle.wf_kernel.specs.Bound.{Bound, layer_at}
 use Rattle.wf_kernel.specs.Placed.{across, down, source_colour}
+use Rattle.wf_pixel.specs.declared.TheConstants.{MOST_SIDE}
 
 -- the pixels that a layer shows in each row of the target that comes from one row of the source
 abbrev pub IsLine : Bound → Bitmap → Tag → List ℕ → Type 0
@@ -20,10 +21,10 @@ IsBlock b image tag block =
 
 -- what is kept is what its tags say
 pub record AreKept (layers : List Bound) (k : Kept) : Type 0 where
-  pub width : k.width ≤ 1024
-  pub line_len : k.line_of.len ≤ 1024
+  pub width : k.width ≤ MOST_SIDE
+  pub line_len : k.line_of.len ≤ MOST_SIDE
   pub line : (image : Bitmap) → (layer_at layers k.line_of.layer).source ≡ Some image
       → IsLine (layer_at layers k.line_of.layer) image k.line_of k.line
-  pub block_len : k.block_of.len ≤ 1024
+  pub block_len : k.block_of.len ≤ MOST_SIDE
   pub block : (image : Bitmap) → (layer_at layers k.block_of.layer).source ≡ Some image
       → IsBlock (layer_at layers k.block_of.layer) image k.block_of k.block

@@ -13,6 +13,7 @@ use Rattle.wf_model.specs.Picture.{on_top}
 use Rattle.wf_kernel.specs.declared.stretch.Stretch.{Stretch}
 use Rattle.wf_kernel.specs.Bound.{Bound, bound_texel}
 use Rattle.wf_kernel.specs.Placed.{placed, source_colour, mask_value}
+use Rattle.wf_pixel.specs.declared.TheConstants.{MOST_SIDE}
 
 -- w pixels of a row, each with the texel at its place over it where there is one
 abbrev pub laid : ℕ → (ℕ → Option Rgba) → List ℕ → List ℕ
@@ -21,7 +22,7 @@ laid w texel row = drawn_row w Rgba8Pre (λ x. on_top (texel x) (read_at Rgba8Pr
 -- pixels of a row of the target that a layer covers: where they lie on the target, and how far from the layer's corner
 pub record IsStretch (b : Bound) (s : Stretch) : Type 0 where
   pub some : 1 ≤ s.len
-  pub high : s.x + s.len ≤ 1024
+  pub high : s.x + s.len ≤ MOST_SIDE
   pub inside : s.across + s.len ≤ (placed b).w
   pub below : s.down < (placed b).h
   pub columns : (i : ℕ) → i < s.len → along (placed b).x (placed b).w (pos (s.x + i)) ≡ Some (s.across + i)

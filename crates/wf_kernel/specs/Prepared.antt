@@ -17,6 +17,7 @@ use Rattle.wf_kernel.specs.Bound.{Bound, IsShowable}
 use Rattle.wf_kernel.specs.Placed.{placed, left_on, across, is_crossed}
 use Rattle.wf_kernel.specs.Spans.{IsReach}
 use Rattle.wf_kernel.specs.Hiding.{HidesBelow}
+use Rattle.wf_pixel.specs.declared.TheConstants.{MOST_SIDE}
 
 -- the columns of the target go along a row of the source, and the pixel at distance a is this one of that row
 pub record GoesAlong (turn : Rotation) (l : Layer) (column : ℕ → ℕ) : Type 0 where
@@ -37,8 +38,8 @@ needs_table turn l =
 
 -- the coordinates of the source by the column of the target
 pub record IsTable (turn : Rotation) (space : Size) (l : Layer) (table : List ℕ) : Type 0 where
-  pub long : length table ≡ 1024
-  pub holds : (x a : ℕ) → x < 1024 → along (left_on turn space l.dest) (turned turn (size_of l.dest)).w (pos x) ≡ Some a
+  pub long : length table ≡ MOST_SIDE
+  pub holds : (x a : ℕ) → x < MOST_SIDE → along (left_on turn space l.dest) (turned turn (size_of l.dest)).w (pos x) ≡ Some a
       → slice_index table x ≡ across turn l a
 
 -- how many of the first n layers of a scene need a table: the place of the next one's

@@ -14,14 +14,14 @@ use crate::splitting::{Band, cost_above, split_band};
 use crate::tables::{count_tables, fill_tables};
 use std::thread::{Threads, join_mut};
 use wf_image::{Contents, Image};
-use wf_pixel::Rgba;
+use wf_pixel::{MOST_SIDE, Rgba, SIDE_LEN};
 use wf_scene::Scene;
 
 /// What a worker's rows cost at least, in pixels that are copied, where there are several workers: four times what it costs to start one.
 const LEAST: u32 = 262144;
 
-/// Writes the same as `picture`, by bands of rows in at most `workers` threads, from 1 to 16, and a small picture in fewer. It cannot lack
-/// memory and refuses nothing: where no thread can be made, the calling thread paints the band.
+/// Writes into `target` the same as `picture`, by bands of rows in at most `workers` threads, from 1 to 16, and a small picture
+/// in fewer. It cannot lack memory and refuses nothing: where no thread can be made, the calling thread paints the band.
 pub fn picture_rows<R: Threads + Sync>(
     rt: &R,
     workers: u32,
@@ -84,7 +84,7 @@ fn rows_by_tables<R: Threads + Sync, const N: usize>(
     requires fits { Fits scene.now contents.now }
     ensures { bytes.new ≡ bound_picture scene.now contents.now }
 {
-    let mut tables = [[0; 1024]; N];
+    let mut tables = [[0; SIDE_LEN]; N];
     fill_tables(&mut tables, scene, contents);
     rows_of_bound(rt, workers, bytes, scene, contents, &tables);
 }
@@ -96,7 +96,7 @@ fn rows_of_bound<R: Threads + Sync>(
     bytes: &mut [u8],
     scene: &Scene,
     contents: &Contents,
-    tables: &[[u16; 1024]],
+    tables: &[[u16; SIDE_LEN]],
 )
     requires some { 1 ≤ workers }
     requires few { workers ≤ 16 }
@@ -120,7 +120,7 @@ fn rows_of_layers<R: Threads + Sync, const N: usize>(
     bytes: &mut [u8],
     scene: &Scene,
     contents: &Contents,
-    tables: &[[u16; 1024]],
+    tables: &[[u16; SIDE_LEN]],
 )
     requires room { length scene.now.layers.items ≤ N }
     requires small { N ≤ 32 }
@@ -164,7 +164,7 @@ fn paint_band<R: Threads + Sync>(
     bytes: &mut [u8],
 )
     requires some { 1 ≤ width }
-    requires few { width ≤ 1024 }
+    requires few { width ≤ MOST_SIDE }
     requires band { IsBand band }
     requires count { length bytes.old ≡ band.rows * (4 * width) }
     ensures { bytes.new ≡ bound_rows width layers.now background band.first band.rows }
@@ -191,7 +191,7 @@ fn paint_shares<R: Threads + Sync>(
     b: &mut [u8],
 )
     requires some { 1 ≤ width }
-    requires few { width ≤ 1024 }
+    requires few { width ≤ MOST_SIDE }
     requires upper { IsBand upper }
     requires lower { IsBand lower }
     requires a { length a.old ≡ upper.rows * (4 * width) }
@@ -200,11 +200,11 @@ fn paint_shares<R: Threads + Sync>(
     ensures lower { b.new ≡ bound_rows width layers.now background lower.first lower.rows }
 {
     let mut first = ||
-        requires { IsSync R.row × (1 ≤ width) × (width ≤ 1024) × IsBand upper × (length a.now ≡ upper.rows * (4 * width)) }
+        requires { IsSync R.row × (1 ≤ width) × (width ≤ MOST_SIDE) × IsBand upper × (length a.now ≡ upper.rows * (4 * width)) }
         ensures { a.exit.now ≡ bound_rows width layers.entry.now background upper.first upper.rows }
     { paint_band(rt, upper, width, layers, background, a) };
     let mut second = ||
-        requires { IsSync R.row × (1 ≤ width) × (width ≤ 1024) × IsBand lower × (length b.now ≡ lower.rows * (4 * width)) }
+        requires { IsSync R.row × (1 ≤ width) × (width ≤ MOST_SIDE) × IsBand lower × (length b.now ≡ lower.rows * (4 * width)) }
         ensures { b.exit.now ≡ bound_rows width layers.entry.now background lower.first lower.rows }
     { paint_band(rt, lower, width, layers, background, b) };
     join_mut(rt, &mut first, &mut second);

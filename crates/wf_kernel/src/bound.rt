@@ -15,7 +15,7 @@ use crate::tables::next_place;
 use arrayvec::ArrayVec;
 use std::marker::Model;
 use wf_image::{Contents, Image};
-use wf_pixel::{Rect, Rotation, Size, turned};
+use wf_pixel::{Rect, Rotation, SIDE_LEN, Size, turned};
 use wf_scene::{Layer, Scene};
 
 /// A layer with the image of its stream and that of its mask, where they are there, and with the way in which the
@@ -108,7 +108,7 @@ pub(crate) fn bind_layers<'a, const N: usize>(
     list: &mut ArrayVec<BoundLayer<'a>, N>,
     scene: &Scene,
     contents: &'a Contents,
-    tables: &'a [[u16; 1024]],
+    tables: &'a [[u16; SIDE_LEN]],
 )
     requires empty { list.old.items ≡ [] }
     requires room { length scene.now.layers.items ≤ N }
@@ -125,7 +125,7 @@ pub(crate) fn bind_layers<'a, const N: usize>(
 }
 
 /// A table by its place, or nothing behind the last one.
-fn table_at<'a>(tables: &'a [[u16; 1024]], i: usize) -> &'a [u16]
+fn table_at<'a>(tables: &'a [[u16; SIDE_LEN]], i: usize) -> &'a [u16]
     ensures { i < length tables.now → (e : List ℕ) → result.now ≡ slice_index_or tables.now i e }
 {
     if i < tables.len() { &tables[i] } else { &[] }

@@ -11,7 +11,9 @@ use crate::bound::BoundLayer;
 use crate::lines::fill_line;
 use crate::placing::{Walk, down};
 use crate::stretch::{Stretch, stretch_of};
+use crate::{BLOCK_BYTES, ROW_BYTES};
 use wf_image::Image;
+use wf_pixel::MOST_SIDE;
 use wf_row::gather_columns;
 
 /// How many columns of a source are kept.
@@ -70,23 +72,23 @@ pub(crate) struct Kept {
     pub(crate) width: u32,
     /// A row of a source, as a layer shows it.
     pub(crate) line_of: Tag,
-    pub(crate) line: [u8; 4096],
+    pub(crate) line: [u8; ROW_BYTES],
     /// Columns of a source, one after the other, as a layer shows them.
     pub(crate) block_of: Tag,
-    pub(crate) block: [u8; 32768],
+    pub(crate) block: [u8; BLOCK_BYTES],
 }
 
 /// Nothing, for a target of this width.
 pub(crate) fn nothing_kept(width: u32) -> Kept
-    requires { width ≤ 1024 }
+    requires { width ≤ MOST_SIDE }
     ensures { (layers : List Bound) → AreKept layers result }
 {
     Kept {
         width,
         line_of: NONE,
-        line: [0; 4096],
+        line: [0; ROW_BYTES],
         block_of: NONE,
-        block: [0; 32768],
+        block: [0; BLOCK_BYTES],
     }
 }
 

@@ -11,6 +11,7 @@ ghost use Rattle.wf_kernel.specs.Placed.{is_crossed, source_colour, mask_value};
 ghost use Rattle.wf_kernel.specs.Laid.{laid, lifted_pixel, mode_of, fade_of, placed_texel, IsCopied, IsStretch};
 ghost use Rattle.wf_kernel.specs.Prepared.{IsWalk};
 
+use crate::ROW_BYTES;
 use crate::bound::BoundLayer;
 use crate::keeping::{COLUMNS, Kept, keep_block, keep_line};
 use crate::lines::{backward_line, fill_line, forward_line};
@@ -18,7 +19,7 @@ use crate::masks::{fill_values, straight_values};
 use crate::placing::{Walk, down};
 use crate::stretch::{Stretch, stretch_of};
 use wf_image::Image;
-use wf_pixel::{Format, Rotation};
+use wf_pixel::{Format, MOST_SIDE, Rotation, SIDE_LEN};
 use wf_row::{AlphaMode, blend_masked_row, blend_row, copy_reversed_row};
 
 /// Lays a layer, by its place, over `width` pixels of row `y`, from column `first` on. The source's pixels go through what is
@@ -31,11 +32,11 @@ pub(crate) fn lay_row(
     layers: &[BoundLayer],
     i: usize,
     kept: &mut [Kept],
-    spare: &mut [[u8; 4096]],
+    spare: &mut [[u8; ROW_BYTES]],
     y: u32,
 )
     requires count { length row.old ≡ 4 * width }
-    requires few { first + width ≤ 1024 }
+    requires few { first + width ≤ MOST_SIDE }
     requires layer { i < length layers.now }
     requires kept { All (AreKept layers.now) kept.old }
     ensures row { row.new ≡ laid width (λ x. bound_texel (layer_at layers.now i) (first + x) y) row.old }
@@ -55,7 +56,7 @@ fn lay_stretch(
     layers: &[BoundLayer],
     i: usize,
     kept: &mut [Kept],
-    spare: &mut [[u8; 4096]],
+    spare: &mut [[u8; ROW_BYTES]],
     stretch: Stretch,
 )
     requires count { length part.old ≡ 4 * stretch.len }
@@ -85,7 +86,7 @@ fn lay_backward(
     layers: &[BoundLayer],
     i: usize,
     kept: &mut [Kept],
-    spare: &mut [[u8; 4096]],
+    spare: &mut [[u8; ROW_BYTES]],
     image: &Image,
     stretch: Stretch,
 )
@@ -124,7 +125,7 @@ fn lay_by_lines(
     layers: &[BoundLayer],
     i: usize,
     kept: &mut [Kept],
-    spare: &mut [[u8; 4096]],
+    spare: &mut [[u8; ROW_BYTES]],
     image: &Image,
     stretch: Stretch,
 )
@@ -155,7 +156,7 @@ fn lay_apart(part: &mut [u8], layers: &[BoundLayer], i: usize, image: &Image, st
         (λ j. placed_texel (layer_at layers.now i) image.now (stretch.across + j) stretch.down) part.old }
 {
     let layer = &layers[i];
-    let mut spare = [0; 4096];
+    let mut spare = [0; ROW_BYTES];
     lay_filled(part, layer, &mut spare, image, stretch);
 }
 
@@ -165,7 +166,7 @@ fn lay_kept(
     layers: &[BoundLayer],
     i: usize,
     kept: &mut Kept,
-    spare: &mut [u8; 4096],
+    spare: &mut [u8; ROW_BYTES],
     image: &Image,
     stretch: Stretch,
 )
@@ -194,7 +195,7 @@ fn lay_rows(
     layers: &[BoundLayer],
     i: usize,
     kept: &mut Kept,
-    spare: &mut [u8; 4096],
+    spare: &mut [u8; ROW_BYTES],
     image: &Image,
     stretch: Stretch,
 )
@@ -228,7 +229,7 @@ fn lay_columns(
     layers: &[BoundLayer],
     i: usize,
     kept: &mut Kept,
-    spare: &mut [u8; 4096],
+    spare: &mut [u8; ROW_BYTES],
     image: &Image,
     stretch: Stretch,
 )
@@ -263,7 +264,7 @@ fn lay_columns(
 fn lay_filled(
     part: &mut [u8],
     layer: &BoundLayer,
-    spare: &mut [u8; 4096],
+    spare: &mut [u8; ROW_BYTES],
     image: &Image,
     stretch: Stretch,
 )
@@ -377,7 +378,7 @@ fn lay_turned(
     ensures { part.new ≡ laid stretch.len (λ i. Some (scaled (lifted_pixel mode fade (read_at Rgba8Pre line.now (4 * i)))
         (mask_value layer.now mask.now (stretch.across + i) stretch.down))) part.old }
 {
-    let mut values = [0; 1024];
+    let mut values = [0; SIDE_LEN];
     let values = &mut values[..stretch.len as usize];
     fill_values(values, layer, mask, stretch);
     blend_masked_row(part, line, values, mode, fade);

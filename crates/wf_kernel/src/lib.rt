@@ -21,3 +21,10 @@ mod tables;
 pub use bands::picture_rows;
 pub use painter::{Painter, Plain};
 pub use painting::picture;
+use wf_pixel::SIDE_LEN;
+
+/// The bytes of a row of pixels.
+const ROW_BYTES: usize = 4 * SIDE_LEN;
+
+/// The bytes of eight columns.
+const BLOCK_BYTES: usize = 8 * ROW_BYTES;

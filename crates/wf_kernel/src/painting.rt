@@ -8,6 +8,7 @@ ghost use Rattle.wf_kernel.specs.Kept.{AreKept};
 ghost use Rattle.wf_kernel.specs.Prepared.{AreTables, table_count};
 ghost use Rattle.wf_kernel.specs.Strips.{IsStrip};
 
+use crate::ROW_BYTES;
 use crate::bound::{BoundLayer, bind_layers, no_layers};
 use crate::keeping::{Kept, nothing_kept};
 use crate::laying::lay_row;
@@ -16,13 +17,13 @@ use crate::runs::paint_run;
 use crate::strips::{Strip, no_strip, strip_for};
 use crate::tables::{count_tables, fill_tables};
 use wf_image::{Contents, Image};
-use wf_pixel::{Format, Rgba};
+use wf_pixel::{Format, MOST_SIDE, Rgba, SIDE_LEN};
 use wf_scene::Scene;
 
-/// Writes the picture of a scene with these images by stream. It cannot lack memory and refuses nothing. The target has
-/// the scene's size and 4 bytes a pixel; scene and images fit: the scene's sides are from 1 to 1024, the rectangles of
-/// each layer are in their ranges, an image of its stream is no mask and holds its source rectangle, and an image of
-/// its mask, where that applies, is a mask of its destination's size.
+/// Writes into `target` the picture of `scene` with the images of `contents` by stream. It cannot lack memory and refuses
+/// nothing. The target has the scene's size and 4 bytes a pixel; scene and images fit: the scene's sides are from 1 to 1024,
+/// the rectangles of each layer are in their ranges, an image of its stream is no mask and holds its source rectangle, and an
+/// image of its mask, where that applies, is a mask of its destination's size.
 pub fn picture(scene: &Scene, contents: &Contents, target: &mut Image)
     requires size { target.old.size ≡ scene.now.size }
     requires pixels { pixel_bytes target.old.format ≡ 4 }
@@ -62,13 +63,13 @@ fn paint_by_tables<const N: usize>(bytes: &mut [u8], scene: &Scene, contents: &C
     requires fits { Fits scene.now contents.now }
     ensures { bytes.new ≡ bound_picture scene.now contents.now }
 {
-    let mut tables = [[0; 1024]; N];
+    let mut tables = [[0; SIDE_LEN]; N];
     fill_tables(&mut tables, scene, contents);
     paint_bound(bytes, scene, contents, &tables);
 }
 
 /// The same, where each layer that needs a table has it.
-fn paint_bound(bytes: &mut [u8], scene: &Scene, contents: &Contents, tables: &[[u16; 1024]])
+fn paint_bound(bytes: &mut [u8], scene: &Scene, contents: &Contents, tables: &[[u16; SIDE_LEN]])
     requires count { length bytes.old ≡ scene.now.size.w * scene.now.size.h * 4 }
     requires fits { Fits scene.now contents.now }
     requires tables { AreTables scene.now tables.now }
@@ -87,7 +88,7 @@ fn paint_layers<const N: usize>(
     bytes: &mut [u8],
     scene: &Scene,
     contents: &Contents,
-    tables: &[[u16; 1024]],
+    tables: &[[u16; SIDE_LEN]],
 )
     requires room { length scene.now.layers.items ≤ N }
     requires small { N ≤ 32 }
@@ -110,9 +111,9 @@ pub(crate) fn paint(
     first: u32,
 )
     requires some { 1 ≤ width }
-    requires few { width ≤ 1024 }
+    requires few { width ≤ MOST_SIDE }
     requires count { length bytes.old % (4 * width) ≡ 0 }
-    requires within { first + length bytes.old / (4 * width) ≤ 1024 }
+    requires within { first + length bytes.old / (4 * width) ≤ MOST_SIDE }
     ensures { bytes.new ≡ bound_rows width layers.now background first (length bytes.old / (4 * width)) }
 {
     if are_forward(layers) {
@@ -137,13 +138,13 @@ fn are_forward(layers: &[BoundLayer]) -> bool {
 #[inline(never)]
 fn paint_by_lines(bytes: &mut [u8], width: u32, layers: &[BoundLayer], background: Rgba, first: u32)
     requires some { 1 ≤ width }
-    requires few { width ≤ 1024 }
+    requires few { width ≤ MOST_SIDE }
     requires count { length bytes.old % (4 * width) ≡ 0 }
-    requires within { first + length bytes.old / (4 * width) ≤ 1024 }
+    requires within { first + length bytes.old / (4 * width) ≤ MOST_SIDE }
     ensures { bytes.new ≡ bound_rows width layers.now background first (length bytes.old / (4 * width)) }
 {
     let mut kept = [nothing_kept(width)];
-    let mut spare = [[0; 4096]];
+    let mut spare = [[0; ROW_BYTES]];
     paint_rows(
         bytes, width, layers, background, first, &mut kept, &mut spare,
     );
@@ -157,12 +158,12 @@ fn paint_rows(
     background: Rgba,
     first: u32,
     kept: &mut [Kept],
-    spare: &mut [[u8; 4096]],
+    spare: &mut [[u8; ROW_BYTES]],
 )
     requires some { 1 ≤ width }
-    requires few { width ≤ 1024 }
+    requires few { width ≤ MOST_SIDE }
     requires count { length bytes.old % (4 * width) ≡ 0 }
-    requires within { first + length bytes.old / (4 * width) ≤ 1024 }
+    requires within { first + length bytes.old / (4 * width) ≤ MOST_SIDE }
     requires kept { All (AreKept layers.now) kept.old }
     ensures { bytes.new ≡ bound_rows width layers.now background first (length bytes.old / (4 * width)) }
 {
@@ -196,13 +197,13 @@ fn paint_next(
     background: Rgba,
     strips: &mut [Strip; 66],
     kept: &mut [Kept],
-    spare: &mut [[u8; 4096]],
+    spare: &mut [[u8; ROW_BYTES]],
     y: u32,
     rows: u32,
 ) -> u32
-    requires few { width ≤ 1024 }
+    requires few { width ≤ MOST_SIDE }
     requires some { 1 ≤ rows }
-    requires within { y + rows ≤ 1024 }
+    requires within { y + rows ≤ MOST_SIDE }
     requires count { length bytes.old ≡ rows * (4 * width) }
     requires strips { All (IsStrip layers.now width) strips.old }
     requires kept { All (AreKept layers.now) kept.old }
@@ -229,11 +230,11 @@ fn paint_row(
     background: Rgba,
     strips: &mut [Strip],
     kept: &mut [Kept],
-    spare: &mut [[u8; 4096]],
+    spare: &mut [[u8; ROW_BYTES]],
     y: u32,
 )
-    requires few { width ≤ 1024 }
-    requires y { y < 1024 }
+    requires few { width ≤ MOST_SIDE }
+    requires y { y < MOST_SIDE }
     requires count { length row.old ≡ 4 * width }
     requires strips { All (IsStrip layers.now width) strips.old }
     requires kept { All (AreKept layers.now) kept.old }
@@ -261,11 +262,11 @@ fn paint_strip(
     background: Rgba,
     strip: Strip,
     kept: &mut [Kept],
-    spare: &mut [[u8; 4096]],
+    spare: &mut [[u8; ROW_BYTES]],
     y: u32,
 )
-    requires few { width ≤ 1024 }
-    requires y { y < 1024 }
+    requires few { width ≤ MOST_SIDE }
+    requires y { y < MOST_SIDE }
     requires count { length row.old ≡ 4 * strip.width }
     requires strip { IsStrip layers.now width strip }
     requires from { strip.from ≤ y }
@@ -288,11 +289,11 @@ fn begin_strip(
     background: Rgba,
     strip: Strip,
     kept: &mut [Kept],
-    spare: &mut [[u8; 4096]],
+    spare: &mut [[u8; ROW_BYTES]],
     y: u32,
 ) -> usize
-    requires few { width ≤ 1024 }
-    requires y { y < 1024 }
+    requires few { width ≤ MOST_SIDE }
+    requires y { y < MOST_SIDE }
     requires count { length row.old ≡ 4 * strip.width }
     requires strip { IsStrip layers.now width strip }
     requires from { strip.from ≤ y }
@@ -318,7 +319,7 @@ fn begin_strip(
 /// Writes one colour into each pixel of some rows, as many as there are of four at a time.
 pub(crate) fn fill(row: &mut [u8], width: u32, color: Rgba)
     requires count { length row.old ≡ 4 * width }
-    requires few { width ≤ 1048576 }
+    requires few { width ≤ MOST_SIDE * MOST_SIDE }
     ensures { row.new ≡ drawn_row width Format.Rgba8Pre (λ _. color) }
 {
     let fours = width / 4;
@@ -331,7 +332,7 @@ pub(crate) fn fill(row: &mut [u8], width: u32, color: Rgba)
 /// Writes one colour into the first pixels of a row, so many times four.
 fn fill_fours(row: &mut [u8], count: u32, color: Rgba)
     requires room { 16 * count ≤ length row.old }
-    requires few { count ≤ 262144 }
+    requires few { 4 * count ≤ MOST_SIDE * MOST_SIDE }
     ensures { row.new ≡ drawn_row (4 * count) Format.Rgba8Pre (λ _. color) ++ drop (16 * count) row.old }
 {
     let Rgba { r, g, b, a } = color;

@@ -8,7 +8,7 @@ ghost use Rattle.wf_kernel.specs.Placed.{mirrored, left_on, top_on, turned_rect,
 ghost use Rattle.wf_kernel.specs.Placed.{is_crossed, is_backward};
 ghost use Rattle.wf_kernel.specs.Prepared.{IsWalk, needs_table};
 
-use wf_pixel::{Rect, Rotation, Size, samp, turned};
+use wf_pixel::{MOST_SIDE, Rect, Rotation, Size, samp, turned};
 use wf_scene::Layer;
 
 /// How the columns of the target go over the source.
@@ -27,12 +27,12 @@ pub(crate) fn turned_rect(turn: Rotation, space: Size, r: Rect) -> Rect
     requires sides { IsTrue (has_sides space) }
     requires r { IsDrawn r }
     ensures value { result ≡ turned_rect turn space r }
-    ensures w { result.w ≤ 1024 }
-    ensures h { result.h ≤ 1024 }
-    ensures x_low { negsuc 17407 ≤ℤ result.x }
-    ensures x_high { result.x ≤ℤ pos 17408 }
-    ensures y_low { negsuc 17407 ≤ℤ result.y }
-    ensures y_high { result.y ≤ℤ pos 17408 }
+    ensures w { result.w ≤ MOST_SIDE }
+    ensures h { result.h ≤ MOST_SIDE }
+    ensures x_low { negsuc (16383 + MOST_SIDE) ≤ℤ result.x }
+    ensures x_high { result.x ≤ℤ pos (16384 + MOST_SIDE) }
+    ensures y_low { negsuc (16383 + MOST_SIDE) ≤ℤ result.y }
+    ensures y_high { result.y ≤ℤ pos (16384 + MOST_SIDE) }
 {
     let size = turned(turn, Size { w: r.w, h: r.h });
     Rect {
@@ -48,8 +48,8 @@ fn left_on(turn: Rotation, space: Size, r: Rect) -> i32
     requires sides { IsTrue (has_sides space) }
     requires r { IsDrawn r }
     ensures value { result ≡ left_on turn space r }
-    ensures low { negsuc 17407 ≤ℤ result }
-    ensures high { result ≤ℤ pos 17408 }
+    ensures low { negsuc (16383 + MOST_SIDE) ≤ℤ result }
+    ensures high { result ≤ℤ pos (16384 + MOST_SIDE) }
 {
     match turn {
         Rotation::R0 => r.x,
@@ -64,8 +64,8 @@ fn top_on(turn: Rotation, space: Size, r: Rect) -> i32
     requires sides { IsTrue (has_sides space) }
     requires r { IsDrawn r }
     ensures value { result ≡ top_on turn space r }
-    ensures low { negsuc 17407 ≤ℤ result }
-    ensures high { result ≤ℤ pos 17408 }
+    ensures low { negsuc (16383 + MOST_SIDE) ≤ℤ result }
+    ensures high { result ≤ℤ pos (16384 + MOST_SIDE) }
 {
     match turn {
         Rotation::R0 => r.y,
@@ -77,13 +77,13 @@ fn top_on(turn: Rotation, space: Size, r: Rect) -> i32
 
 /// Where a side of `w` pixels from `x` on begins, counted from the other end of `n` pixels.
 fn mirrored(n: u32, x: i32, w: u32) -> i32
-    requires n { n ≤ 1024 }
-    requires w { w ≤ 1024 }
+    requires n { n ≤ MOST_SIDE }
+    requires w { w ≤ MOST_SIDE }
     requires low { negsuc 16383 ≤ℤ x }
     requires high { x ≤ℤ pos 16384 }
     ensures value { result ≡ mirrored n x w }
-    ensures result_low { negsuc 17407 ≤ℤ result }
-    ensures result_high { result ≤ℤ pos 17408 }
+    ensures result_low { negsuc (16383 + MOST_SIDE) ≤ℤ result }
+    ensures result_high { result ≤ℤ pos (16384 + MOST_SIDE) }
 {
     n as i32 - (x + w as i32)
 }
@@ -164,9 +164,9 @@ fn flipped(flip: bool, h: u32, v: u32) -> u32
 #[tactic(auto, using(crate::proofs::Placed::samp_same))]
 fn place_in(i: u32, w: u32, s: u32) -> u32
     requires i { i < w }
-    requires w { w ≤ 1024 }
+    requires w { w ≤ MOST_SIDE }
     requires s_low { 1 ≤ s }
-    requires s_high { s ≤ 1024 }
+    requires s_high { s ≤ MOST_SIDE }
     ensures value { result ≡ samp i w s }
     ensures below { result < s }
 {

@@ -17,7 +17,7 @@ use crate::placing::down;
 use crate::stretch::stretch_of;
 use crate::strips::Strip;
 use wf_image::Image;
-use wf_pixel::{Format, Rgba, Rotation};
+use wf_pixel::{Format, MOST_SIDE, Rgba, Rotation};
 use wf_row::{AlphaMode, blend_row};
 
 /// Writes rows of the target from row `y` on, `rows` at most, where a strip shows the background alone in them, or one layer that
@@ -32,8 +32,8 @@ pub(crate) fn paint_run(
     y: u32,
     rows: u32,
 ) -> u32
-    requires few { width ≤ 1024 }
-    requires within { y + rows ≤ 1024 }
+    requires few { width ≤ MOST_SIDE }
+    requires within { y + rows ≤ MOST_SIDE }
     requires count { length bytes.old ≡ rows * (4 * width) }
     requires strip { IsStrip layers.now width strip }
     ensures few { result ≤ rows }
@@ -93,8 +93,8 @@ fn write_run(
     y: u32,
     n: u32,
 ) -> bool
-    requires few { width ≤ 1024 }
-    requires within { y + n ≤ 1024 }
+    requires few { width ≤ MOST_SIDE }
+    requires within { y + n ≤ MOST_SIDE }
     requires some { 1 ≤ n }
     requires count { length part.old ≡ 4 * (n * width) }
     requires strip { IsStrip layers.now width strip }
@@ -117,8 +117,8 @@ fn write_run(
 /// Lays a layer over `n` rows of the target from row `y` on, where it shows whole rows of its source as they stand there, and says
 /// whether it does.
 fn copy_rows(part: &mut [u8], layer: &BoundLayer, width: u32, y: u32, n: u32) -> bool
-    requires few { width ≤ 1024 }
-    requires within { y + n ≤ 1024 }
+    requires few { width ≤ MOST_SIDE }
+    requires within { y + n ≤ MOST_SIDE }
     requires some { 1 ≤ n }
     requires count { length part.old ≡ 4 * (n * width) }
     ensures done { IsTrue result → part.new ≡ flat_map (λ k. laid width (λ x. bound_texel layer.now (0 + x) (y + k))

@@ -1,9 +1,9 @@
 //! The pixels that the side of a destination covers.
 
-ghost use Rattle.std.specs.Prelude.{◌-◌, ◌<◌, ◌≤◌, ◌≤ℤ◌, pos, negsuc};
+ghost use Rattle.std.specs.Prelude.{◌+◌, ◌-◌, ◌<◌, ◌≤◌, ◌≤ℤ◌, pos, negsuc};
 ghost use Rattle.wf_kernel.specs.Spans.{IsReach};
 
-use wf_pixel::Rect;
+use wf_pixel::{MOST_SIDE, Rect};
 
 /// The pixels of a row or a column of the target that the side of a destination covers.
 #[derive(Clone, Copy, Debug, PartialEq, Eq)]
@@ -32,9 +32,9 @@ pub(crate) const NONE: Span = Span {
 
 /// The columns that a rectangle on the target covers, however long the rows are.
 pub(crate) fn columns_of(r: Rect) -> Span
-    requires low { negsuc 17407 ≤ℤ r.x }
-    requires high { r.x ≤ℤ pos 17408 }
-    requires w { r.w ≤ 1024 }
+    requires low { negsuc (16383 + MOST_SIDE) ≤ℤ r.x }
+    requires high { r.x ≤ℤ pos (16384 + MOST_SIDE) }
+    requires w { r.w ≤ MOST_SIDE }
     ensures { IsReach r.x r.w result }
 {
     reach_of(r.x, r.w)
@@ -42,9 +42,9 @@ pub(crate) fn columns_of(r: Rect) -> Span
 
 /// The rows that it covers.
 pub(crate) fn rows_of(r: Rect) -> Span
-    requires low { negsuc 17407 ≤ℤ r.y }
-    requires high { r.y ≤ℤ pos 17408 }
-    requires h { r.h ≤ 1024 }
+    requires low { negsuc (16383 + MOST_SIDE) ≤ℤ r.y }
+    requires high { r.y ≤ℤ pos (16384 + MOST_SIDE) }
+    requires h { r.h ≤ MOST_SIDE }
     ensures { IsReach r.y r.h result }
 {
     reach_of(r.y, r.h)
@@ -52,9 +52,9 @@ pub(crate) fn rows_of(r: Rect) -> Span
 
 /// The pixels that a side of `w` pixels from `x` on covers.
 fn reach_of(x: i32, w: u32) -> Span
-    requires low { negsuc 17407 ≤ℤ x }
-    requires high { x ≤ℤ pos 17408 }
-    requires w { w ≤ 1024 }
+    requires low { negsuc (16383 + MOST_SIDE) ≤ℤ x }
+    requires high { x ≤ℤ pos (16384 + MOST_SIDE) }
+    requires w { w ≤ MOST_SIDE }
     ensures { IsReach x w result }
 {
     if x < 0 {
@@ -67,7 +67,7 @@ fn reach_of(x: i32, w: u32) -> Span
 /// The same of a side that begins `before` pixels before the row.
 fn reach_before(before: u32, w: u32) -> Span
     requires some { 0 < before }
-    requires w { w ≤ 1024 }
+    requires w { w ≤ MOST_SIDE }
     ensures { IsReach (negsuc (before - 1)) w result }
 {
     if before >= w {
@@ -82,8 +82,8 @@ fn reach_before(before: u32, w: u32) -> Span
 
 /// The same of a side that begins in the row or behind it.
 fn reach_at(start: u32, w: u32) -> Span
-    requires high { start ≤ 17408 }
-    requires w { w ≤ 1024 }
+    requires high { start ≤ 16384 + MOST_SIDE }
+    requires w { w ≤ MOST_SIDE }
     ensures { IsReach (pos start) w result }
 {
     Span {

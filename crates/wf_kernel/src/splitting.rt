@@ -5,6 +5,7 @@ ghost use Rattle.wf_kernel.specs.Bands.{IsBand, AreShares};
 
 use crate::bound::BoundLayer;
 use crate::placing::Walk;
+use wf_pixel::MOST_SIDE;
 
 /// What it costs to start a thread, in pixels that are copied: some 20 microseconds.
 const START: u64 = 65536;
@@ -21,7 +22,7 @@ pub(crate) struct Band {
 /// So the thread that was asked for the picture makes all others, one after the other. Where threads made threads at the same time, two
 /// began on one processor more often, and a picture took longer.
 pub(crate) fn split_band(band: Band, width: u32, layers: &[BoundLayer]) -> (Band, Band)
-    requires few { width ≤ 1024 }
+    requires few { width ≤ MOST_SIDE }
     requires band { IsBand band }
     requires rows { 2 ≤ band.rows }
     requires workers { 2 ≤ band.workers }
@@ -48,7 +49,7 @@ pub(crate) fn split_band(band: Band, width: u32, layers: &[BoundLayer]) -> (Band
 /// What the rows above a band and those of one of its workers cost together. Each worker starts a little behind the one before it, so
 /// an earlier one has more to paint.
 fn cost_goal(band: Band, width: u32, layers: &[BoundLayer]) -> u64
-    requires few { width ≤ 1024 }
+    requires few { width ≤ MOST_SIDE }
     requires band { IsBand band }
 {
     let above = u64::from(cost_above(width, layers, band.first));
@@ -60,7 +61,7 @@ fn cost_goal(band: Band, width: u32, layers: &[BoundLayer]) -> u64
 
 /// How many rows of a band it takes to come to this cost, but at least one, and not all.
 fn rows_to(band: Band, width: u32, layers: &[BoundLayer], goal: u64) -> u32
-    requires few { width ≤ 1024 }
+    requires few { width ≤ MOST_SIDE }
     requires band { IsBand band }
     requires rows { 2 ≤ band.rows }
     ensures some { 1 ≤ result }
@@ -82,8 +83,8 @@ fn rows_to(band: Band, width: u32, layers: &[BoundLayer], goal: u64) -> u32
 /// What the rows above row `y` cost, in pixels that are copied. Each pixel is written once, with the background or with what hides it,
 /// and then each layer that hides nothing is laid over it.
 pub(crate) fn cost_above(width: u32, layers: &[BoundLayer], y: u32) -> u32
-    requires few { width ≤ 1024 }
-    requires y { y ≤ 1024 }
+    requires few { width ≤ MOST_SIDE }
+    requires y { y ≤ MOST_SIDE }
 {
     let mut cost = width * y;
     for layer in layers {

@@ -5,6 +5,7 @@ ghost use Rattle.wf_kernel.specs.Bound.{bound_texel};
 ghost use Rattle.wf_kernel.specs.Laid.{IsStretchIn};
 
 use crate::bound::BoundLayer;
+use wf_pixel::MOST_SIDE;
 
 /// Some pixels of a row of the target that a layer covers, one after the other.
 #[derive(Clone, Copy, Debug, PartialEq, Eq)]
@@ -21,7 +22,7 @@ pub(crate) struct Stretch {
 /// The pixels of a layer in `width` pixels of row `y` from column `first` on, or None where it shows nothing there.
 #[inline(always)]
 pub(crate) fn stretch_of(layer: &BoundLayer, first: u32, width: u32, y: u32) -> Option<Stretch>
-    requires few { first + width ≤ 1024 }
+    requires few { first + width ≤ MOST_SIDE }
     ensures some { IfSome result (λ s. IsStretchIn layer.now first width y s) }
     ensures none { IfNone result ((j : ℕ) → j < width → bound_texel layer.now (first + j) y ≡ None) }
 {

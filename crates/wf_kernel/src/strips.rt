@@ -6,6 +6,7 @@ ghost use Rattle.wf_kernel.specs.Hiding.{IsCover, IsBeside};
 ghost use Rattle.wf_kernel.specs.Strips.{IsStrip, IsCut};
 
 use crate::bound::BoundLayer;
+use wf_pixel::MOST_SIDE;
 
 /// Some columns of some rows, with the topmost layer that hides all that is below it there, and how many layers count.
 #[derive(Clone, Copy, Debug, PartialEq, Eq)]
@@ -44,9 +45,9 @@ pub(crate) fn strip_for(
     y: u32,
 ) -> Strip
     requires strips { All (IsStrip layers.now width) strips.old }
-    requires few { width ≤ 1024 }
+    requires few { width ≤ MOST_SIDE }
     requires first { first < width }
-    requires row { y < 1024 }
+    requires row { y < MOST_SIDE }
     ensures strips { All (IsStrip layers.now width) strips.new }
     ensures strip { IsStrip layers.now width result }
     ensures first { result.first ≡ first }
@@ -67,9 +68,9 @@ pub(crate) fn strip_for(
 
 /// The strip that begins at column `first` of row `y`, of a row of `width` pixels.
 fn strip_at(layers: &[BoundLayer], width: u32, first: u32, y: u32) -> Strip
-    requires few { width ≤ 1024 }
+    requires few { width ≤ MOST_SIDE }
     requires first { first < width }
-    requires row { y < 1024 }
+    requires row { y < MOST_SIDE }
     ensures strip { IsStrip layers.now width result }
     ensures first { result.first ≡ first }
     ensures from { result.from ≤ y }
@@ -79,7 +80,7 @@ fn strip_at(layers: &[BoundLayer], width: u32, first: u32, y: u32) -> Strip
         first,
         width: width - first,
         from: y,
-        bottom: 1024,
+        bottom: MOST_SIDE,
         base: None,
         top: layers.len(),
     };
@@ -89,7 +90,7 @@ fn strip_at(layers: &[BoundLayer], width: u32, first: u32, y: u32) -> Strip
 
 /// The strip without the layers on top that show nothing there.
 fn topped(layers: &[BoundLayer], width: u32, strip: Strip) -> Strip
-    requires few { width ≤ 1024 }
+    requires few { width ≤ MOST_SIDE }
     requires strip { IsStrip layers.now width strip }
     requires some { 1 ≤ strip.width }
     requires rows { strip.from < strip.bottom }
@@ -111,7 +112,7 @@ fn topped(layers: &[BoundLayer], width: u32, strip: Strip) -> Strip
 
 /// The strip from the topmost layer on that hides what is below it.
 fn based(layers: &[BoundLayer], width: u32, strip: Strip) -> Strip
-    requires few { width ≤ 1024 }
+    requires few { width ≤ MOST_SIDE }
     requires strip { IsStrip layers.now width strip }
     requires some { 1 ≤ strip.width }
     requires rows { strip.from < strip.bottom }
@@ -142,7 +143,7 @@ fn based(layers: &[BoundLayer], width: u32, strip: Strip) -> Strip
 fn cleared(layer: &BoundLayer, strip: Strip) -> Option<Strip>
     requires some { 1 ≤ strip.width }
     requires rows { strip.from < strip.bottom }
-    requires few { strip.first + strip.width ≤ 1024 }
+    requires few { strip.first + strip.width ≤ MOST_SIDE }
     ensures cut { IfSome result (λ s. IsCut strip s) }
     ensures base { IfSome result (λ s. s.base ≡ strip.base) }
     ensures top { IfSome result (λ s. s.top ≡ strip.top) }
@@ -179,7 +180,7 @@ fn cleared(layer: &BoundLayer, strip: Strip) -> Option<Strip>
 fn covered(layer: &BoundLayer, strip: Strip) -> Option<Strip>
     requires some { 1 ≤ strip.width }
     requires rows { strip.from < strip.bottom }
-    requires few { strip.first + strip.width ≤ 1024 }
+    requires few { strip.first + strip.width ≤ MOST_SIDE }
     ensures cut { IfSome result (λ s. IsCut strip s) }
     ensures top { IfSome result (λ s. s.top ≡ strip.top) }
     ensures cover { IfSome result (λ s. (y : ℕ) → s.from ≤ y → y < s.bottom → IsCover layer.now s.first s.width y) }

@@ -9,7 +9,7 @@ ghost use Rattle.wf_kernel.specs.Prepared.{AreTables, IsTable, needs_table, tabl
 use crate::placing::{across, needs_table, turned_rect};
 use crate::spans::columns_of;
 use wf_image::Contents;
-use wf_pixel::{Rotation, Size, turned};
+use wf_pixel::{MOST_SIDE, Rotation, SIDE_LEN, Size, turned};
 use wf_scene::{Layer, Scene};
 
 /// How many layers of a scene need a table.
@@ -40,7 +40,7 @@ pub(crate) fn next_place(place: usize, turn: Rotation, layer: &Layer) -> usize
 }
 
 /// Works out the tables of the layers of a scene that need one, one after the other.
-pub(crate) fn fill_tables(tables: &mut [[u16; 1024]], scene: &Scene, contents: &Contents)
+pub(crate) fn fill_tables(tables: &mut [[u16; SIDE_LEN]], scene: &Scene, contents: &Contents)
     requires room { table_count scene.now ≤ length tables.old }
     requires fits { Fits scene.now contents.now }
     ensures { AreTables scene.now tables.new }
@@ -56,7 +56,13 @@ pub(crate) fn fill_tables(tables: &mut [[u16; 1024]], scene: &Scene, contents: &
 }
 
 /// Works out the table of a layer at this place, where it needs one.
-fn fill_needed(tables: &mut [[u16; 1024]], place: usize, turn: Rotation, space: Size, layer: &Layer)
+fn fill_needed(
+    tables: &mut [[u16; SIDE_LEN]],
+    place: usize,
+    turn: Rotation,
+    space: Size,
+    layer: &Layer,
+)
     requires room { needs_table turn layer.now ≡ true → place < length tables.old }
     requires sides { IsTrue (has_sides space) }
     requires src { IsDrawn layer.now.src }
@@ -73,7 +79,7 @@ fn fill_needed(tables: &mut [[u16; 1024]], place: usize, turn: Rotation, space: 
 }
 
 /// Works out the table of a layer.
-fn fill_table(table: &mut [u16; 1024], turn: Rotation, space: Size, layer: &Layer)
+fn fill_table(table: &mut [u16; SIDE_LEN], turn: Rotation, space: Size, layer: &Layer)
     requires sides { IsTrue (has_sides space) }
     requires src { IsDrawn layer.now.src }
     requires dest { IsDrawn layer.now.dest }
@@ -83,7 +89,7 @@ fn fill_table(table: &mut [u16; 1024], turn: Rotation, space: Size, layer: &Laye
 {
     let place = turned_rect(turn, space, layer.dest);
     let reach = columns_of(place);
-    for x in reach.start..(reach.start + reach.len).min(1024) {
+    for x in reach.start..(reach.start + reach.len).min(MOST_SIDE) {
         table[x as usize] = across(turn, layer, reach.skip + (x - reach.start)) as u16;
     }
 }

@@ -54,7 +54,7 @@ impl Model for Handles {
 }
 
 impl Handles {
-    /// No handle was given yet. It cannot lack memory.
+    /// Makes the handles of no object: none was given yet. It cannot lack memory.
     pub fn new(alloc: Global) -> Handles
         ensures { result ≡ record { made = 0; live = [] } }
     {
@@ -65,14 +65,14 @@ impl Handles {
         }
     }
 
-    /// All 4,294,967,291 handles were given.
+    /// Tells whether all 4,294,967,291 handles were given.
     pub fn full(&self) -> bool
         ensures { result ≡ is_full self.now.made }
     {
         self.made >= MOST_HANDLES
     }
 
-    /// A handle for a new object of this kind, which keeps this key for its owner.
+    /// Gives a handle for a new object of `kind`, which keeps `key` for its owner.
     pub fn make(&mut self, kind: Kind, key: u32) -> Result<u32, MakeStop>
         ensures handle { IfOk result (λ handle. handle ≡ self.old.made + 1) }
         ensures made { OnOk result (self.new ≡ with_new kind key self.old) }
@@ -93,7 +93,7 @@ impl Handles {
         Ok(handle)
     }
 
-    /// The key of the live object of this kind that has the handle.
+    /// Returns the key of the live object of `kind` that has `handle`.
     pub fn find(&self, handle: u32, kind: Kind) -> Result<u32, BadHandle>
         ensures found { result_ok result ≡ key_of handle kind self.now.live }
         ensures live { OnOk result (IsTrue (is_live handle self.now.live)) }
@@ -105,7 +105,7 @@ impl Handles {
         }
     }
 
-    /// Ends the life of the object that has the handle.
+    /// Ends the life of the object that has `handle`.
     pub fn kill(&mut self, handle: u32)
         requires { IsTrue (is_live handle self.old.live) }
         ensures killed { self.new ≡ record self.old { live = without handle self.old.live } }
@@ -116,7 +116,7 @@ impl Handles {
         }
     }
 
-    /// How many objects of the kind live.
+    /// Returns how many objects of `kind` live.
     pub fn live(&self, kind: Kind) -> u32
         ensures count { result ≡ live_count kind self.now.live }
         ensures orderly { IsOrderly self.now }

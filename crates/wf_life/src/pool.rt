@@ -39,7 +39,7 @@ impl<T> Model for Pool<T> {
 impl<T> Pool<T> {
     ghost use Rattle.wf_life.specs.Lending.{lends_value};
 
-    /// An empty pool. It cannot lack memory.
+    /// Makes an empty pool. It cannot lack memory.
     pub fn new(alloc: Global) -> Pool<T>
         ensures { result ≡ [] }
     {
@@ -48,7 +48,7 @@ impl<T> Pool<T> {
         }
     }
 
-    /// Keeps a value that one holds, and gives its key.
+    /// Keeps `value`, which one holds, and returns its key.
     pub fn put(&mut self, value: T) -> Result<usize, (T, NoMemory)>
         ensures free { IfOk result (λ key. kept_at key self.old ≡ None) }
         ensures kept { IfOk result (λ key. Changes self.old self.new key (Some (first_kept value))) }
@@ -62,7 +62,7 @@ impl<T> Pool<T> {
         }
     }
 
-    /// One more holds the value of the key.
+    /// Lets one more hold the value of `key`.
     pub fn retain(&mut self, key: usize)
         requires kept { IsKept key self.old }
         requires room { count_at key self.old < 4294967295 }
@@ -74,8 +74,7 @@ impl<T> Pool<T> {
         }
     }
 
-    /// One fewer holds the value of the key. The last one that lets it go gets the value, and then the key is
-    /// kept no more.
+    /// Lets one fewer hold the value of `key`. The last one that lets it go gets the value, and then the key is kept no more.
     pub fn release(&mut self, key: usize) -> Option<T>
         requires { IsKept key self.old }
         ensures value { result ≡ released_value key self.old }
@@ -94,7 +93,7 @@ impl<T> Pool<T> {
         }
     }
 
-    /// How many hold the value of the key; 0 where the key is not kept.
+    /// Returns how many hold the value of `key`; 0 where the key is not kept.
     pub fn count(&self, key: usize) -> u32
         ensures { result ≡ count_at key self.now }
     {
@@ -104,7 +103,7 @@ impl<T> Pool<T> {
         }
     }
 
-    /// The value of the key.
+    /// Returns the value of `key`.
     pub fn get(&self, key: usize) -> Option<&T>
         ensures value { option_copied result ≡ value_at key self.now }
         ensures held { IsHeld self.now }
@@ -115,7 +114,7 @@ impl<T> Pool<T> {
         }
     }
 
-    /// The value of the key for writing.
+    /// Returns the value of `key` for writing.
     pub fn get_mut(&mut self, key: usize) -> Option<&mut T>
         ensures* writes_back { sem 𝓛 (lends_value T.row self.entry key result) }
         ensures value { option_copied_mut result ≡ value_at key self.old }

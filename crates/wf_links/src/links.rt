@@ -46,7 +46,7 @@ impl Model for Links {
 }
 
 impl Links {
-    /// So many nodes and so many lists, all of them empty.
+    /// Makes `nodes` nodes, counted from 1, and `lists` lists, all of them empty.
     pub fn new(alloc: Global, nodes: u32, lists: u32) -> Result<Links, NoMemory>
         ensures made { IfOk result (λ made. made ≡ record { nodes = nodes; lists = replicate lists [] }) }
         ensures orderly { IfOk result IsOrderly }
@@ -56,7 +56,7 @@ impl Links {
         Ok(Links { nodes, lowest })
     }
 
-    /// Puts a node into a list, directly above another or lowest where none is given.
+    /// Puts `node` into `list`, directly above `below`, or lowest where that is None.
     pub fn insert_above(&mut self, list: u32, node: u32, below: Option<u32>)
         requires list { list < length self.old.lists }
         requires node { node < self.old.nodes }
@@ -75,7 +75,7 @@ impl Links {
         set_below(&mut self.nodes, above, Some(node));
     }
 
-    /// Takes a node out of its list.
+    /// Takes `node` out of its list.
     pub fn remove(&mut self, node: u32)
         requires { IsSome (list_of node self.old.lists) }
         ensures removed { self.new ≡ record self.old { lists = removed node self.old.lists } }
@@ -90,7 +90,7 @@ impl Links {
         set_below(&mut self.nodes, above, below);
     }
 
-    /// The node directly above another in its list.
+    /// Returns the node directly above `node` in its list.
     pub fn above(&self, node: u32) -> Option<u32>
         requires { IsSome (list_of node self.now.lists) }
         ensures above { result ≡ above node self.now.lists }
@@ -99,7 +99,7 @@ impl Links {
         self.nodes[node as usize].above
     }
 
-    /// The node directly below another in its list.
+    /// Returns the node directly below `node` in its list.
     pub fn below(&self, node: u32) -> Option<u32>
         requires { IsSome (list_of node self.now.lists) }
         ensures below { result ≡ below node self.now.lists }
@@ -108,7 +108,7 @@ impl Links {
         self.nodes[node as usize].below
     }
 
-    /// The lowest node of a list.
+    /// Returns the lowest node of `list`.
     pub fn lowest(&self, list: u32) -> Option<u32>
         requires { list < length self.now.lists }
         ensures lowest { result ≡ lowest (list_at list self.now.lists) }
@@ -117,7 +117,7 @@ impl Links {
         self.lowest[list as usize]
     }
 
-    /// The list that a node is in.
+    /// Returns the list that `node` is in.
     pub fn list_of(&self, node: u32) -> Option<u32>
         requires { node < self.now.nodes }
         ensures list { result ≡ list_of node self.now.lists }

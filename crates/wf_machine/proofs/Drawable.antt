@@ -16,6 +16,7 @@ use Rattle.wf_pixel.specs.Place.{size_of}
 use Rattle.wf_scene.specs.Layers.{is_placed_layer}
 use Rattle.wf_model.specs.Picture.{Fits, LayerFits as Shows}
 use Rattle.wf_machine.proofs.Begun.{shaped_at}
+use Rattle.wf_pixel.specs.declared.TheConstants.{MOST_SIDE}
 
 in_order : (a b : ℤ) → int_le a b ≡ true → a ≤ℤ b
 in_order a b is = le_z_yes (subst T (sym is) tt)
@@ -50,8 +51,8 @@ module _ (size : Size) (r : Rect) (holds : holds_rect size r ≡ true) where
   pub inside_drawn : has_sides size ≡ true → IsDrawn r
   inside_drawn sides =
       let each = and_parts (is_side size.w) (is_side size.h) sides in
-      let w = leb-true size.w 1024 (and_parts (nat_le 1 size.w) (nat_le size.w 1024) each.0).1 in
-      let h = leb-true size.h 1024 (and_parts (nat_le 1 size.h) (nat_le size.h 1024) each.1).1 in
+      let w = leb-true size.w MOST_SIDE (and_parts (nat_le 1 size.w) (nat_le size.w MOST_SIDE) each.0).1 in
+      let h = leb-true size.h MOST_SIDE (and_parts (nat_le 1 size.h) (nat_le size.h MOST_SIDE) each.1).1 in
       let right : (r.x +ℤ pos r.w) ≤ℤ pos size.w = in_order (r.x +ℤ pos r.w) (pos size.w) fifth.1 in
       let bottom : (r.y +ℤ pos r.h) ≤ℤ pos size.h = in_order (r.y +ℤ pos r.h) (pos size.h) sixth.1 in
       let left = x_positive in
@@ -73,16 +74,16 @@ module _ (size : Size) (r : Rect) (holds : holds_rect size r ≡ true) where
 dest_drawn : (l : Layer) → has_sides (size_of l.dest) ≡ true → is_placed_layer l ≡ true → IsDrawn l.dest
 dest_drawn l sides placed =
     let each = and_parts (is_side l.dest.w) (is_side l.dest.h) sides in
-    let w = and_parts (nat_le 1 l.dest.w) (nat_le l.dest.w 1024) each.0 in
-    let h = and_parts (nat_le 1 l.dest.h) (nat_le l.dest.h 1024) each.1 in
+    let w = and_parts (nat_le 1 l.dest.w) (nat_le l.dest.w MOST_SIDE) each.0 in
+    let h = and_parts (nat_le 1 l.dest.h) (nat_le l.dest.h MOST_SIDE) each.1 in
     let place = and_parts (is_coordinate l.dest.x) (is_coordinate l.dest.y) placed in
     let x = and_parts (int_le (negsuc 16383) l.dest.x) (int_le l.dest.x (pos 16384)) place.0 in
     let y = and_parts (int_le (negsuc 16383) l.dest.y) (int_le l.dest.y (pos 16384)) place.1 in
     record {
       w_low = leb-true 1 l.dest.w w.0;
-      w_high = leb-true l.dest.w 1024 w.1;
+      w_high = leb-true l.dest.w MOST_SIDE w.1;
       h_low = leb-true 1 l.dest.h h.0;
-      h_high = leb-true l.dest.h 1024 h.1;
+      h_high = leb-true l.dest.h MOST_SIDE h.1;
       x_low = in_order (negsuc 16383) l.dest.x x.0;
       x_high = in_order l.dest.x (pos 16384) x.1;
       y_low = in_order (negsuc 16383) l.dest.y y.0;

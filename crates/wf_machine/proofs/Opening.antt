@@ -27,6 +27,8 @@ use Rattle.wf_words.specs.Keyed.{at_key}
 use Rattle.wf_display.specs.Fits.{Fits as Shows}
 use Rattle.wf_display.specs.Opening.{with_screens}
 use Rattle.wf_machine.specs.declared.port.Port as declared
+use Rattle.wf_pixel.specs.declared.TheConstants.{MOST_SIDE}
+use Rattle.wf_stream.specs.declared.TheConstants.{SCREEN_BYTES}
 
 -- the screens of ports that are numbered from one on
 abbrev pub screens : ℕ → List Modes → List KeptStream
@@ -99,23 +101,23 @@ more_images made more ms m p so_far may more-is modes-are images =
     }
 
 -- the bytes of a screen
-screen_bytes : (m : Modes) → may_have m ≡ true → buffer_bytes (fresh (mode_size 1 m.sizes.items) Rgbx8 3) ≤ 12582912
+screen_bytes : (m : Modes) → may_have m ≡ true → buffer_bytes (fresh (mode_size 1 m.sizes.items) Rgbx8 3) ≤ SCREEN_BYTES
 screen_bytes m may =
     of_sizes m.sizes.items (and_parts (nat_le 1 (length m.sizes.items) && nat_le (length m.sizes.items) 4)
     (list_all has_sides m.sizes.items) may).1
   where
-    of_sizes : (sizes : List Size) → list_all has_sides sizes ≡ true → buffer_bytes (fresh (mode_size 1 sizes) Rgbx8 3) ≤ 12582912
+    of_sizes : (sizes : List Size) → list_all has_sides sizes ≡ true → buffer_bytes (fresh (mode_size 1 sizes) Rgbx8 3) ≤ SCREEN_BYTES
     of_sizes [] sides = lit≤ tt
     of_sizes (s ∷ sizes) sides =
         let these = and_parts (is_side s.w) (is_side s.h) (and_parts (has_sides s) (list_all has_sides sizes) sides).0 in
-        let w : s.w ≤ 1024 = leb-true s.w 1024 (and_parts (nat_le 1 s.w) (nat_le s.w 1024) these.0).1 in
-        let h : s.h ≤ 1024 = leb-true s.h 1024 (and_parts (nat_le 1 s.h) (nat_le s.h 1024) these.1).1 in
-        let first : s.w * s.h ≤ 1024 * s.h = mul-le-mul_right s.h w in
-        let second : 1024 * s.h ≤ 1024 * 1024 = mul-le-mul_left 1024 h in
+        let w : s.w ≤ MOST_SIDE = leb-true s.w MOST_SIDE (and_parts (nat_le 1 s.w) (nat_le s.w MOST_SIDE) these.0).1 in
+        let h : s.h ≤ MOST_SIDE = leb-true s.h MOST_SIDE (and_parts (nat_le 1 s.h) (nat_le s.h MOST_SIDE) these.1).1 in
+        let first : s.w * s.h ≤ MOST_SIDE * s.h = mul-le-mul_right s.h w in
+        let second : MOST_SIDE * s.h ≤ MOST_SIDE * MOST_SIDE = mul-le-mul_left MOST_SIDE h in
         omega arith
 
 -- the screens of ports take 12,582,912 bytes each at most
-screens_bytes : (k : ℕ) (ms : List Modes) → list_all may_have ms ≡ true → (held (screens k ms)).bytes ≤ length ms * 12582912
+screens_bytes : (k : ℕ) (ms : List Modes) → list_all may_have ms ≡ true → (held (screens k ms)).bytes ≤ length ms * SCREEN_BYTES
 screens_bytes k [] may = lit≤ tt
 screens_bytes k (m ∷ ms) may =
     let each = and_parts (may_have m) (list_all may_have ms) may in

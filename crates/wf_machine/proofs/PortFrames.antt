@@ -24,6 +24,7 @@ use Rattle.wf_model.specs.Ports.{shown_size}
 use Rattle.wf_display.specs.Display.{IsDisplay, IsPort}
 use Rattle.wf_display.specs.Fits.{IsScreen, PipelineFits, StreamsFit}
 use Rattle.wf_machine.proofs.Screening.{screen_there}
+use Rattle.wf_pixel.specs.declared.TheConstants.{MOST_SIDE}
 
 -- lists, counted from 1
 
@@ -73,8 +74,8 @@ sides_of_mode (suc n) sizes all some within = of_place n sizes all (omega arith)
 holds_whole : (size : Size) → has_sides size ≡ true → holds_rect size (whole_of size) ≡ true
 holds_whole size sides =
     let each = and_parts (is_side size.w) (is_side size.h) sides in
-    let w = leb-true 1 size.w (and_parts (nat_le 1 size.w) (nat_le size.w 1024) each.0).0 in
-    let h = leb-true 1 size.h (and_parts (nat_le 1 size.h) (nat_le size.h 1024) each.1).0 in
+    let w = leb-true 1 size.w (and_parts (nat_le 1 size.w) (nat_le size.w MOST_SIDE) each.0).0 in
+    let h = leb-true 1 size.h (and_parts (nat_le 1 size.h) (nat_le size.h MOST_SIDE) each.1).0 in
     rw (
       lt-ltb 0 size.w (omega (arith, w)),
       lt-ltb 0 size.h (omega (arith, h)),

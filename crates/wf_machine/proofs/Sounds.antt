@@ -22,6 +22,7 @@ use Rattle.wf_machine.proofs.StillFitting.{KeepsRead, all_kept, all_push, all_un
 use Rattle.wf_model.specs.Named.{SeenSame}
 use Rattle.wf_objects.specs.Named.{still_fits}
 use Rattle.wf_display.specs.Named.{still_shown, zero_unseen}
+use Rattle.wf_stream.specs.declared.TheConstants.{MOST_BYTES, MOST_STREAMS}
 
 -- the machine with other buffers of a stream
 abbrev pub with_buffers : Inside → ℕ → (Buffers → Buffers) → Inside
@@ -74,12 +75,12 @@ sound_unnamed m handle counts sound =
       known = sound.known;
     }
 
-room : (new : Buffers) (streams : List KeptStream) → has_no_room new streams ≡ false → (held streams).bytes + buffer_bytes new ≤ 134217728
+room : (new : Buffers) (streams : List KeptStream) → has_no_room new streams ≡ false → (held streams).bytes + buffer_bytes new ≤ MOST_BYTES
 room new streams free =
-    elim (nat_le 64 (length streams)) as (λ b. (b || nat_lt 134217728 ((held streams).bytes + buffer_bytes new)) ≡ false
-    → (held streams).bytes + buffer_bytes new ≤ 134217728) [
+    elim (nat_le MOST_STREAMS (length streams)) as (λ b. (b || nat_lt MOST_BYTES ((held streams).bytes + buffer_bytes new)) ≡ false
+    → (held streams).bytes + buffer_bytes new ≤ MOST_BYTES) [
       | true ↦ λ no. absurd cc
-      | false ↦ λ small. ltb-false 134217728 ((held streams).bytes + buffer_bytes new) small
+      | false ↦ λ small. ltb-false MOST_BYTES ((held streams).bytes + buffer_bytes new) small
     ] free
 
 -- a stream that is found is found still beside one more

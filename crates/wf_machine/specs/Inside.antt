@@ -10,6 +10,7 @@ use Rattle.wf_display.specs.Fits.{Fits as Shows}
 use Rattle.wf_machine.specs.declared.parts.Parts.TheInside.{Inside}
 use Rattle.wf_machine.specs.Fitting.{AllFit, AreNumbered, AreOnce, FrameFits, PortsFit, contents_of}
 use Rattle.wf_machine.specs.Ports.{running_of, sizes_of}
+use Rattle.wf_stream.specs.declared.TheConstants.{MOST_BYTES}
 
 abbrev pub state_of : Inside → State
 state_of m =
@@ -31,7 +32,7 @@ pub record Holds (m : Inside) : Type 0 where
   pub few : length m.ports.items ≤ 4
   pub modes : map sizes_of m.ports.items ≡ modes_of m.display
   pub ports : PortsFit m.frame 1 m.ports.items
-  pub small : (held m.store.streams).bytes ≤ 134217728
+  pub small : (held m.store.streams).bytes ≤ MOST_BYTES
   pub streams : AllFit (contents_of (option_map running_of m.frame)) m.store.streams
   pub frame : IfSome m.frame (FrameFits (map sizes_of m.ports.items) m.store.streams)
   pub once : AreOnce (contents_of (option_map running_of m.frame))

@@ -21,7 +21,7 @@ use crate::replies::{giving_back_canvas, giving_canvas, refuse, refused, taking_
 use wf_calls::{Answer, Code, StatWord};
 use wf_image::Canvas;
 use wf_life::MakeStop;
-use wf_pixel::{Format, Size};
+use wf_pixel::{Format, MOST_SIDE, Size};
 use wf_stream::{Refused, Store, begin_name, end_name};
 
 /// A number between two bounds, both included.
@@ -35,12 +35,14 @@ fn is_between(low: i64, high: i64, number: i64) -> bool
 fn may_make(width: i64, height: i64, buffers: i64) -> bool
     ensures { result ≡ may_make width height buffers }
 {
-    is_between(1, 1024, width) && is_between(1, 1024, height) && is_between(2, 4, buffers)
+    is_between(1, i64::from(MOST_SIDE), width)
+        && is_between(1, i64::from(MOST_SIDE), height)
+        && is_between(2, 4, buffers)
 }
 
 /// A number of a call that is a count of at most 1024.
 fn count(number: i64) -> u32
-    requires { IsTrue (is_between (pos 1) (pos 1024) number) }
+    requires { IsTrue (is_between (pos 1) (pos MOST_SIDE) number) }
     ensures { result ≡ count_of number }
 {
     number as u32

@@ -37,7 +37,7 @@ impl Model for Members {
 }
 
 impl Members {
-    /// Room for so many members, and for so many owners that are open at once. Nobody is open.
+    /// Makes room for `members` members, and for `owners` owners that are open at once. Nobody is open.
     pub fn new(alloc: Global, members: u32, owners: u32) -> Result<Members, NoMemory>
         requires { owners + 1 < 2 ^ 32 }
         ensures { IfOk result (HasNone members owners) }
@@ -49,14 +49,14 @@ impl Members {
         })
     }
 
-    /// Whether an owner is open.
+    /// Tells whether `owner` is open.
     pub fn is_open(&self, owner: u32) -> bool
         ensures { result ≡ is_open owner self.now }
     {
         owner != 0 && place_of(&self.owners, owner).is_some()
     }
 
-    /// Tells whether some open owner has this member.
+    /// Tells whether some open owner has `member`.
     pub fn is_member(&self, member: u32) -> bool
         ensures somebodys { IsTrue result → (o : ℕ) × IsTrue (is_in member (members_of o self.now)) }
         ensures nobodys { IsFalse result → (o : ℕ) → IsFalse (is_in member (members_of o self.now)) }
@@ -64,7 +64,7 @@ impl Members {
         member != 0 && place_of(&self.members, member).is_some()
     }
 
-    /// Opens one more owner, which has no members.
+    /// Opens `owner`, which has no members then.
     pub fn open(&mut self, owner: u32)
         requires named { owner ≢ 0 }
         requires closed { IsFalse (is_open owner self.old) }
@@ -77,7 +77,7 @@ impl Members {
         self.owners[place] = owner;
     }
 
-    /// Closes an owner that has no members.
+    /// Closes `owner`, which has no members.
     pub fn close(&mut self, owner: u32)
         requires is_open { IsTrue (is_open owner self.old) }
         requires bare { members_of owner self.old ≡ [] }
@@ -89,7 +89,7 @@ impl Members {
         self.owners[place] = 0;
     }
 
-    /// Gives an open owner one more member, which comes first of its members. It is nobody's before.
+    /// Gives the open `owner` the member `member`, which comes first of its members and was nobody's before.
     pub fn add(&mut self, owner: u32, member: u32)
         requires is_open { IsTrue (is_open owner self.old) }
         requires named { member ≢ 0 }
@@ -107,7 +107,7 @@ impl Members {
         move_node(&mut self.links, node, place as u32);
     }
 
-    /// Takes a member from its owner.
+    /// Takes `member` from its owner.
     pub fn remove(&mut self, member: u32)
         requires { (o : ℕ) × IsTrue (is_in member (members_of o self.old)) }
         ensures { Removes member self.old self.new }
@@ -120,7 +120,7 @@ impl Members {
         move_node(&mut self.links, node as u32, free);
     }
 
-    /// The first member of an owner, the one that was added last. One that is not open has none.
+    /// Returns the first member of `owner`, the one that was added last. An owner that is not open has none.
     pub fn first(&self, owner: u32) -> Option<u32>
         ensures { result ≡ lowest (members_of owner self.now) }
     {

@@ -1,5 +1,6 @@
 -- The handles of contexts rise in every state that calls lead to, so the first active one above a number is the least one.
-use Rattle.std.proofs.Common.{◌≡◌, ℕ, zero, suc, ◌+◌, ◌<◌, ◌≤◌, Bool, true, false, ◌&&◌, cond, List, [], ◌∷◌, ◌++◌, Option, Some, None, find, nat_lt}
+use Rattle.std.proofs.Common.{◌≡◌, ℕ, zero, suc, ◌+◌, ◌<◌, ◌≤◌, Bool, true, false, ◌&&◌, cond, List, [], ◌∷◌, ◌++◌, Option, Some, None}
+use Rattle.std.proofs.Common.{find, nat_lt}
 use Rattle.std.proofs.Common.{refl, sym, ap, subst, arith, ◌∙◌}
 use Rattle.std.specs.List.{AllByRecursion}
 use Rattle.std.specs.Prelude.{unwrap_or}
@@ -13,8 +14,7 @@ use Rattle.wf_calls.specs.declared.ports.Ports.{Ports}
 use Rattle.wf_calls.specs.declared.reply.Reply.{Reply}
 use Rattle.wf_model.specs.Composing.{core_side, display_side, screen_of}
 use Rattle.wf_model.specs.Composition.{CoreSide}
-use Rattle.wf_model.specs.Core.{core_call}
-use Rattle.wf_model.specs.DisplayCalls.{display_call}
+use Rattle.wf_model.specs.Calls.{core_call, display_call}
 use Rattle.wf_model.specs.DisplaySides.{DisplaySide}
 use Rattle.wf_model.specs.Effects.{Effect, begins, composes, displays, acquires, effect, ends, makes, refuses, returns, tells, unnames}
 use Rattle.wf_model.specs.Frames.{next_context}
@@ -118,6 +118,6 @@ next_is_least after low high c (x ∷ cs) rises is =
         )
     of_test later false fails = (
       λ active above. absurd (let no : true ≡ false =
-      sym (and_from x.active (nat_lt after x.handle) active (lt-ltb after x.handle above)) ∙ fails in cc),
+          sym (and_from x.active (nat_lt after x.handle) active (lt-ltb after x.handle above)) ∙ fails in cc),
       later (rw fails at is),
     )

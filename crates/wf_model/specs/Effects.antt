@@ -341,12 +341,12 @@ of_buffers h (call.Post canvas) none = return_effect h (call.Post canvas) none c
 of_buffers h (call.Discard canvas) none = return_effect h (call.Discard canvas) none canvas discarded (inr refl)
 of_buffers h _ none = tells 0 refl
 
-of_begin : (h : State) (c : Call) (register : Register) → register_of c ≡ register → Effect h c (started register h (begin_call c h))
-of_begin h (call.BeginNext after) register own = begin_effect h (call.BeginNext after) register own (next_free after h)
-of_begin h (call.BeginPort port) register own = begin_effect h (call.BeginPort port) register own (λ b is. (port_is port h b is).free)
-of_begin h (call.BeginContext d c) register own =
-    begin_effect h (call.BeginContext d c) register own (λ b is. (composed_is d c h b is).free)
-of_begin h _ register own = tells 0 refl
+of_begin : (h : State) (c : Call) (recorder : Register) → register_of c ≡ recorder → Effect h c (started recorder h (begin_call c h))
+of_begin h (call.BeginNext after) recorder own = begin_effect h (call.BeginNext after) recorder own (next_free after h)
+of_begin h (call.BeginPort port) recorder own = begin_effect h (call.BeginPort port) recorder own (λ b is. (port_is port h b is).free)
+of_begin h (call.BeginContext d c) recorder own =
+    begin_effect h (call.BeginContext d c) recorder own (λ b is. (composed_is d c h b is).free)
+of_begin h _ recorder own = tells 0 refl
 
 of_end : (h : State) (c : Call) → register_of c ≡ no_register → Effect h c (end_call c h)
 of_end h (call.End job) none = end_effect h (call.End job) none job refl

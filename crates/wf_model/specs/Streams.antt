@@ -22,6 +22,7 @@ use Rattle.wf_model.specs.State.{State}
 use Rattle.wf_model.specs.Frames.{is_target}
 use Rattle.wf_model.specs.Composition.{live_stream}
 use Rattle.wf_model.specs.Outcome.{Outcome, refuse}
+use Rattle.wf_pixel.specs.declared.TheConstants.{MOST_SIDE}
 
 -- the size of two numbers of a call
 abbrev pub size_from : ℤ → ℤ → Size
@@ -29,7 +30,7 @@ size_from width height = record { w = count_of width; h = count_of height }
 
 -- a number of a call is a side
 abbrev pub is_wide_side : ℤ → Bool
-is_wide_side z = is_between (pos 1) (pos 1024) z
+is_wide_side z = is_between (pos 1) (pos MOST_SIDE) z
 
 -- the sides and the buffers of a stream are in their ranges
 abbrev pub may_make : ℤ → ℤ → ℤ → Bool

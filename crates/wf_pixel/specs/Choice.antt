@@ -4,10 +4,11 @@ use Rattle.wf_pixel.specs.declared.Format.{Format}
 use Rattle.wf_pixel.specs.declared.Format.TheVariants.{Rgba8, Rgba8Pre, Rgbx8, A8}
 use Rattle.wf_pixel.specs.declared.Rgba.{Rgba}
 use Rattle.wf_pixel.specs.declared.Size.{Size}
+use Rattle.wf_pixel.specs.declared.TheConstants.{MOST_SIDE}
 
 -- a side of an image, of a mode or of a stream
 abbrev pub is_side : ℕ → Bool
-is_side n = nat_le 1 n && nat_le n 1024
+is_side n = nat_le 1 n && nat_le n MOST_SIDE
 
 -- both sides are in their range
 abbrev pub has_sides : Size → Bool

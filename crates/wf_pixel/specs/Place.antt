@@ -4,6 +4,7 @@ use Rattle.wf_pixel.specs.declared.Rect.{Rect}
 use Rattle.wf_pixel.specs.declared.Rotation.{Rotation}
 use Rattle.wf_pixel.specs.declared.Rotation.TheVariants.{R0, R90, R180, R270}
 use Rattle.wf_pixel.specs.declared.Size.{Size}
+use Rattle.wf_pixel.specs.declared.TheConstants.{MOST_SIDE}
 use Rattle.wf_pixel.specs.Along.{along}
 use Rattle.wf_pixel.specs.Arithmetic.{samp}
 use Rattle.wf_pixel.specs.Choice.{least_coordinate, most_coordinate}
@@ -48,9 +49,9 @@ place src flip turn dest x y =
 -- a rectangle with sides and coordinates in their ranges
 pub record IsDrawn (r : Rect) : Type 0 where
   pub w_low : 1 ≤ r.w
-  pub w_high : r.w ≤ 1024
+  pub w_high : r.w ≤ MOST_SIDE
   pub h_low : 1 ≤ r.h
-  pub h_high : r.h ≤ 1024
+  pub h_high : r.h ≤ MOST_SIDE
   pub x_low : least_coordinate ≤ℤ r.x
   pub x_high : r.x ≤ℤ most_coordinate
   pub y_low : least_coordinate ≤ℤ r.y

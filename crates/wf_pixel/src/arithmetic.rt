@@ -4,30 +4,30 @@
 ghost use Rattle.std.specs.Prelude.{◌≡◌, ◌≢◌, ◌<◌, ◌≤◌};
 ghost use Rattle.wf_pixel.specs.Arithmetic.{mul, samp, scaled, opaque, with_own_alpha, lift, channel_over, over};
 
-use crate::{Format, Rgba, Transparency};
+use crate::{Format, MOST_SIDE, Rgba, Transparency};
 
-/// The product of two channels as parts of 255, to the nearest.
+/// Returns the product of `a` and `b` as parts of 255, to the nearest.
 pub fn mul(a: u8, b: u8) -> u8
     ensures { result ≡ mul a b }
 {
     ((u32::from(a) * u32::from(b) + 127) / 255) as u8
 }
 
-/// The place in `s` pixels at which the middle of pixel `i` of `w` lies, where both fill the same length. The sides are
+/// Returns the place in `s` pixels at which the middle of pixel `i` of `w` lies, where both fill the same length. The sides are
 /// from 1 to 1024.
 pub fn samp(i: u32, w: u32, s: u32) -> u32
     requires i { i < w }
-    requires w { w ≤ 1024 }
+    requires w { w ≤ MOST_SIDE }
     requires s_low { 1 ≤ s }
-    requires s_high { s ≤ 1024 }
+    requires s_high { s ≤ MOST_SIDE }
     ensures value { result ≡ samp i w s }
     ensures below { result < s }
 {
     ((2 * i + 1) * s) / (2 * w)
 }
 
-/// The pixel of a layer as a premultiplied one: its colour times the source's alpha, where that applies, then times the
-/// layer's alpha, then times the mask's value. The format is not that of masks.
+/// Returns the pixel `c` of a layer as a premultiplied one: its colour times the source's alpha, where `format` and `t` say so,
+/// then times the layer's `alpha`, then times the mask's value `mask`. The format is not that of masks.
 pub fn lift(c: Rgba, format: Format, t: Transparency, alpha: u8, mask: u8) -> Rgba
     requires colours { format ≢ Format.A8 }
     ensures { result ≡ lift c format t alpha mask }
@@ -41,7 +41,7 @@ pub fn lift(c: Rgba, format: Format, t: Transparency, alpha: u8, mask: u8) -> Rg
     if t.mask { scale(faded, mask) } else { faded }
 }
 
-/// A premultiplied pixel over what is below it.
+/// Returns the premultiplied pixel `p` over `d`, what is below it.
 pub fn over(p: Rgba, d: Rgba) -> Rgba
     ensures { result ≡ over p d }
 {

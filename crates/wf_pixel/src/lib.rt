@@ -11,6 +11,12 @@ mod place;
 pub use arithmetic::{lift, mul, over, samp};
 pub use place::{along, source_place, turned, turned_back};
 
+/// The most pixels of a side: of an image, a mode, a stream or a destination.
+pub const MOST_SIDE: u32 = 1024;
+
+/// The same as the length of a table.
+pub const SIDE_LEN: usize = MOST_SIDE as usize;
+
 /// A colour: red, green, blue and alpha, each from 0 to 255.
 #[derive(Clone, Copy, Debug, Default, PartialEq, Eq)]
 pub struct Rgba {
@@ -44,7 +50,7 @@ pub enum Format {
 }
 
 impl Format {
-    /// Whether this is the format of masks.
+    /// Tells whether this is the format of masks.
     pub fn is_a8(self) -> bool
         ensures { result ≡ is_a8 self }
     {

@@ -7,7 +7,7 @@ ghost use Rattle.wf_pixel.specs.Place.{turned, turned_back, flipped_back, source
 use crate::arithmetic::samp;
 use crate::{Rect, Rotation, Size};
 
-/// The distance of a point from the start of a side, or None outside of the side.
+/// Returns the distance of `point` from the `start` of a side of the length `side`, or None outside of the side.
 pub fn along(start: i32, side: u32, point: i32) -> Option<u32>
     ensures value { result ≡ along start side point }
     ensures below { IfSome result (λ distance. distance < side) }
@@ -23,7 +23,7 @@ pub fn along(start: i32, side: u32, point: i32) -> Option<u32>
     }
 }
 
-/// A size after a turn.
+/// Returns `size` after `turn`.
 pub fn turned(turn: Rotation, size: Size) -> Size
     ensures { result ≡ turned turn size }
 {
@@ -36,7 +36,7 @@ pub fn turned(turn: Rotation, size: Size) -> Size
     }
 }
 
-/// The place in a picture of this size that the turn brings to (x, y), which lies inside of the turned picture.
+/// Returns the place in a picture of `size` that `turn` brings to (`x`, `y`), which lies inside of the turned picture.
 pub fn turned_back(turn: Rotation, size: Size, x: u32, y: u32) -> (u32, u32)
     requires x { x < (turned turn size).w }
     requires y { y < (turned turn size).h }
@@ -52,10 +52,10 @@ pub fn turned_back(turn: Rotation, size: Size, x: u32, y: u32) -> (u32, u32)
     }
 }
 
-/// The pixel of a source that shows at a point, or None exactly where the point is outside of `dest`. The rectangle
-/// `src` of the source is flipped from top to bottom where `flip` is set, then turned, then scaled to `dest`, where
-/// each point takes the nearest pixel. Sides are from 1 to 1024 and coordinates from -16,384 to 16,384; those of `src`
-/// are not negative.
+/// Returns the pixel of a source that shows at the point (`x`, `y`), or None exactly where the point is outside of `dest`. The
+/// rectangle `src` of the source is flipped from top to bottom where `flip` is set, then turned by `turn`, then scaled to
+/// `dest`, where each point takes the nearest pixel. Sides are from 1 to 1024 and coordinates from -16,384 to 16,384; those of
+/// `src` are not negative.
 pub fn source_place(
     src: Rect,
     flip: bool,

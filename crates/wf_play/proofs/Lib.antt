@@ -4,3 +4,4 @@ pub mod Lines
 pub mod Checks
 pub mod Says
 mod Rows
+pub mod FoundSame

@@ -7,8 +7,8 @@ ghost use Rattle.wf_row.specs.Gather.{AreColumns, IsGathered, turned_lanes};
 use crate::loading::{load_four, load_pixel};
 use std::simd::prelude::*;
 
-/// Writes eight columns of an image at these rows, one after the other. The first column is named by its pixel in row 0, and a
-/// row has `stride` pixels.
+/// Writes into `out` eight columns of the image `src` at the rows `rows`, one after the other. The first column is named by
+/// `column`, its pixel in row 0, and a row has `stride` pixels.
 pub fn gather_columns(out: &mut [u8], src: &[u8], column: u32, stride: u32, rows: &[u16])
     requires out { length out.old ≡ 32 * length rows.now }
     requires within { All (λ r. 4 * (column + r * stride) + 32 ≤ length src.now) rows.now }

@@ -5,7 +5,7 @@ ghost use Rattle.std.specs.Prelude.{◌≡◌, ◌+◌, ◌*◌, ◌<◌, ◌≤
 ghost use Rattle.std.specs.Simd.Lanes.{chunk};
 ghost use Rattle.wf_row.specs.Gather.{gathered_row, gathered_column};
 
-/// Writes the pixels of a row at these columns.
+/// Writes into `out` the pixels of the row `src` at the columns `columns`.
 pub fn gather_row(out: &mut [u8], src: &[u8], columns: &[u16])
     requires out { length out.old ≡ 4 * length columns.now }
     requires within { All (λ c. 4 * c + 4 ≤ length src.now) columns.now }
@@ -18,8 +18,8 @@ pub fn gather_row(out: &mut [u8], src: &[u8], columns: &[u16])
     }
 }
 
-/// Writes the pixels of an image's column at these rows. The column is named by its pixel in row 0, and a row has
-/// `stride` pixels.
+/// Writes into `out` the pixels of a column of the image `src` at the rows `rows`. The column is named by `column`, its pixel
+/// in row 0, and a row has `stride` pixels.
 pub fn gather_column(out: &mut [u8], src: &[u8], column: u32, stride: u32, rows: &[u16])
     requires out { length out.old ≡ 4 * length rows.now }
     requires within { All (λ r. 4 * (column + r * stride) + 4 ≤ length src.now) rows.now }

@@ -19,7 +19,7 @@ fn reverse_lanes(x: u8x16) -> u8x16
     x.swizzle([12, 13, 14, 15, 8, 9, 10, 11, 4, 5, 6, 7, 0, 1, 2, 3])
 }
 
-/// Writes the pixels of a source, the last first.
+/// Writes into `out` the pixels of `src`, the last first.
 pub fn reverse_row(out: &mut [u8], src: &[u8])
     requires whole { length src.now % 4 ≡ 0 }
     requires same { length out.old ≡ length src.now }
@@ -49,7 +49,7 @@ fn reverse_rest(out: &mut [u8], src: &[u8])
     out.copy_from_slice(&pixels[16 - src.len()..]);
 }
 
-/// Lays the pixels of a source, made opaque, over those of a row, the last first.
+/// Lays the pixels of `src`, made opaque, over those of `row`, the last first.
 pub fn copy_reversed_row(row: &mut [u8], src: &[u8])
     requires whole { length src.now % 4 ≡ 0 }
     requires same { length row.old ≡ length src.now }

@@ -9,9 +9,9 @@ use crate::blending::blend_pixels;
 use crate::copying::copy_pixels;
 use crate::masking::mask_pixels;
 
-/// Lays a row of pixels over another one of the same width, of which it takes the place. The source's pixels are
-/// multiplied by their own alpha as its mode says, and then by `fade`, where it is given, as parts of 255. A pixel has
-/// four bytes: red, green, blue and alpha. It cannot lack memory and refuses nothing.
+/// Lays the pixels of `src` over those of `row`, which has the same width, and writes them there. The source's pixels are
+/// multiplied by their own alpha as `mode` says, and then by `fade`, where it is given, as parts of 255. A pixel has four
+/// bytes: red, green, blue and alpha. It cannot lack memory and refuses nothing.
 pub fn blend_row(row: &mut [u8], src: &[u8], mode: AlphaMode, fade: Option<u8>)
     requires whole { length src.now % 4 ≡ 0 }
     requires same { length row.old ≡ length src.now }
@@ -31,7 +31,7 @@ pub fn blend_row(row: &mut [u8], src: &[u8], mode: AlphaMode, fade: Option<u8>)
     }
 }
 
-/// The same through a mask, which has a byte for each pixel: the source's pixels are last multiplied by it, as parts of
+/// Does the same through `mask`, which has a byte for each pixel: the source's pixels are last multiplied by it, as parts of
 /// 255.
 pub fn blend_masked_row(row: &mut [u8], src: &[u8], mask: &[u8], mode: AlphaMode, fade: Option<u8>)
     requires src { length src.now ≡ 4 * length mask.now }

@@ -30,7 +30,7 @@ pub enum ElementAttr {
 }
 
 impl ElementAttr {
-    /// Whether a call may set the attribute to a value at all: a source or a mask takes 0 or a number that a handle can
+    /// Tells whether a call may set the attribute to `value` at all: a source or a mask takes 0 or a number that a handle can
     /// be. Any other attribute takes any value, and refuses one that is outside its range.
     pub fn may_take(self, value: [i64; 4]) -> bool
         ensures { result ≡ may_take self value }

@@ -43,7 +43,8 @@ impl Model for Cached {
 }
 
 impl Cached {
-    /// A scene without elements for a target of this size, which is a screen or not, with the room for 64 elements.
+    /// Makes a scene without elements for a target of the size `target`, a screen's where `on_screen` is set, with the room for
+    /// 64 elements.
     pub fn new(alloc: Global, target: Size, on_screen: bool) -> Result<Cached, NoMemory>
         ensures { IfOk result (λ made. made ≡ cached.empty target on_screen) }
     {
@@ -57,7 +58,7 @@ impl Cached {
         })
     }
 
-    /// How many elements live here.
+    /// Returns how many elements live here.
     pub fn count(&self) -> u32
         ensures count { result ≡ length self.now.elements }
         ensures orderly { IsOrderly self.now }
@@ -65,7 +66,7 @@ impl Cached {
         self.slots.count()
     }
 
-    /// An element lives here.
+    /// Tells whether `element` lives here.
     pub fn has(&self, element: u32) -> bool
         ensures live { result ≡ cached.has_element element self.now }
         ensures orderly { IsOrderly self.now }
@@ -73,7 +74,7 @@ impl Cached {
         self.slots.has(element)
     }
 
-    /// The handle of the first element, in the order in which they were added.
+    /// Returns the handle of the first element, in the order in which they were added.
     pub fn first(&self) -> Option<u32>
         ensures first { result ≡ option_map cached.handle_of (slice_get self.now.elements 0) }
         ensures orderly { IsOrderly self.now }
@@ -81,7 +82,7 @@ impl Cached {
         self.slots.first()
     }
 
-    /// One more element, with the initial attributes. Its handle is not 0.
+    /// Adds `element`, a handle that is not 0, with the initial attributes.
     pub fn add(&mut self, element: u32)
         requires room { length self.old.elements < 64 }
         requires handle { 0 < element }
@@ -92,7 +93,7 @@ impl Cached {
         self.slots.add(element);
     }
 
-    /// The element lives here no more, and is not inserted.
+    /// Ends the life of `element` here, which is not inserted then.
     pub fn forget(&mut self, element: u32)
         requires { IsTrue (cached.has_element element self.old) }
         ensures forgotten { self.new ≡ cached.forget element self.old }
@@ -101,7 +102,7 @@ impl Cached {
         self.slots.forget(element);
     }
 
-    /// Sets an attribute of a live element. A value that names a source or a mask is 0 or a handle, which is for the
+    /// Sets `attr` of the live `element` to `value`. A value that names a source or a mask is 0 or a handle, which is for the
     /// caller to test; every other number may be anything, and is refused outside the attribute's range.
     pub fn set(&mut self, element: u32, attr: ElementAttr, value: [i64; 4]) -> Result<(), Refused>
         requires live { IsTrue (cached.has_element element self.old) }
@@ -118,7 +119,7 @@ impl Cached {
         Ok(())
     }
 
-    /// One number of an attribute of a live element, by its index from 0. A negative one is given in two's complement.
+    /// Returns one number of `attr` of the live `element`, by its `index` from 0. A negative one is given in two's complement.
     pub fn get(&self, element: u32, attr: ElementAttr, index: i64) -> Result<u32, Refused>
         requires { IsTrue (cached.has_element element self.now) }
         ensures { result ≡ cached.get element attr index self.now }
@@ -129,8 +130,8 @@ impl Cached {
         }
     }
 
-    /// Puts a live element directly above another, or to the bottom where that is 0. An element that is inserted already
-    /// is moved, and above itself it stays where it is.
+    /// Puts the live `element` directly above `below`, or to the bottom where that is 0. An element that is inserted already is
+    /// moved, and above itself it stays where it is.
     pub fn insert(&mut self, element: u32, below: u32) -> Result<(), Refused>
         requires { IsTrue (cached.has_element element self.old) }
         ensures case { cached.insert element below self.old ≡ left_by result self.new }
@@ -147,7 +148,7 @@ impl Cached {
         Ok(())
     }
 
-    /// Takes an inserted element out of the order. It stays a live element.
+    /// Takes the inserted `element` out of the order. It stays a live element.
     pub fn remove(&mut self, element: u32) -> Result<(), Refused>
         requires { IsTrue (cached.has_element element self.old) }
         ensures case { cached.remove element self.old ≡ left_by result self.new }
@@ -161,7 +162,7 @@ impl Cached {
         Ok(())
     }
 
-    /// The element directly above an inserted one, or 0.
+    /// Returns the element directly above `element`, which is inserted, or 0.
     pub fn above(&self, element: u32) -> Result<u32, Refused>
         requires { IsTrue (cached.has_element element self.now) }
         ensures { result ≡ cached.above element self.now }
@@ -169,7 +170,7 @@ impl Cached {
         self.slots.above(element).ok_or(Refused::IllegalArgument)
     }
 
-    /// The element directly below an inserted one, or 0.
+    /// Returns the element directly below `element`, which is inserted, or 0.
     pub fn below(&self, element: u32) -> Result<u32, Refused>
         requires { IsTrue (cached.has_element element self.now) }
         ensures { result ≡ cached.below element self.now }
@@ -177,7 +178,7 @@ impl Cached {
         self.slots.below(element).ok_or(Refused::IllegalArgument)
     }
 
-    /// Sets an attribute of the context: its rotation or its background.
+    /// Sets `attr` of the context to `value`: its rotation or its background.
     pub fn set_context(&mut self, attr: ContextAttr, value: [i64; 4]) -> Result<(), Refused>
         ensures case { cached.set_context attr value self.old ≡ left_by result self.new }
         ensures refused { OnErr result (self.new ≡ self.old) }
@@ -196,7 +197,7 @@ impl Cached {
         }
     }
 
-    /// One number of an attribute of the context, by its index from 0.
+    /// Returns one number of `attr` of the context, by its `index` from 0.
     pub fn get_context(&self, attr: ContextAttr, index: i64) -> Result<u32, Refused>
         ensures { result ≡ cached.get_context attr index self.now }
     {
@@ -212,8 +213,8 @@ impl Cached {
         number.ok_or(Refused::IllegalArgument)
     }
 
-    /// The scene that a commit takes: the target's size, the turn, the background, which is opaque on a screen, and a
-    /// layer for each inserted element; or the first fault from the bottom up.
+    /// Returns the scene that a commit takes: the target's size, the turn, the background, which is opaque on a screen, and a
+    /// layer for each inserted element, whose source and mask `look` finds; or the first fault from the bottom up.
     pub fn consistent<L: Look>(&self, look: &L) -> Result<Scene, Fault>
         ensures scene { result ≡ scene.consistent (L.sight look.now) self.now }
         ensures orderly { IsOrderly self.now }

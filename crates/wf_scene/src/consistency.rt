@@ -14,7 +14,7 @@ use crate::linked::INSERTED;
 use crate::look::{Fault, Look};
 use crate::slots::Slots;
 use arrayvec::ArrayVec;
-use wf_pixel::{Rect, Size};
+use wf_pixel::{MOST_SIDE, Rect, Size};
 
 /// Layers from the bottom up.
 type Layers = ArrayVec<Layer, 32>;
@@ -81,7 +81,7 @@ fn mask_stream<L: Look>(look: &L, element: &Element) -> Option<u32>
     }
 }
 
-/// Whether a rectangle has sides of at least 1 and lies inside an image of a size.
+/// Tells whether `r` has sides of at least 1 and lies inside an image of `size`.
 pub fn holds_rect(size: Size, r: Rect) -> bool
     ensures { result ≡ layers.holds_rect size r }
 {
@@ -102,9 +102,9 @@ fn ends_within(start: i32, len: u32, side: u32) -> bool
     i64::from(start) + i64::from(len) <= i64::from(side)
 }
 
-/// Whether a rectangle has sides of 1 to 1024.
+/// Tells whether `r` has sides of 1 to 1024.
 pub fn has_sides(r: Rect) -> bool
     ensures { result ≡ choice.has_sides (size_of r) }
 {
-    1 <= r.w && r.w <= 1024 && 1 <= r.h && r.h <= 1024
+    1 <= r.w && r.w <= MOST_SIDE && 1 <= r.h && r.h <= MOST_SIDE
 }

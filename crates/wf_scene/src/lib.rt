@@ -59,7 +59,7 @@ pub struct Scene {
 }
 
 impl Scene {
-    /// The same scene once more. It cannot lack memory.
+    /// Returns the same scene once more. It cannot lack memory.
     pub fn copy(&self) -> Scene
         ensures { result ≡ self.now }
     {
@@ -75,7 +75,7 @@ impl Scene {
         }
     }
 
-    /// Becomes the same as another scene. Only what that one has of layers is written.
+    /// Becomes the same as `other`. Only what that one has of layers is written.
     pub fn copy_from(&mut self, other: &Scene)
         ensures { self.new ≡ other.now }
     {

@@ -54,7 +54,7 @@ impl Default for Style {
 }
 
 impl Style {
-    /// The layer that shows a stream in this style, through the mask of a stream or of none by 0.
+    /// Returns the layer that shows `stream` in this style, through the mask of the stream `mask`, or of none where that is 0.
     pub fn layer(self, stream: u32, mask: u32) -> Layer
         ensures { result ≡ layer_in self stream mask }
     {

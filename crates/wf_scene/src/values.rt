@@ -7,7 +7,7 @@ ghost use Rattle.wf_scene.specs.Values as number;
 use crate::style::Filter;
 use wf_pixel::{Rect, Rgba, Rotation, Transparency};
 
-/// The rectangle of x, y, w and h: x and y from -16,384 to 16,384, w and h from 0 to 16,384.
+/// Returns the rectangle of x, y, w and h in `value`: x and y from -16,384 to 16,384, w and h from 0 to 16,384.
 pub fn rect_of(value: [i64; 4]) -> Option<Rect>
     ensures { result ≡ number.rect_of value }
 {
@@ -41,7 +41,7 @@ fn extent_of(z: i64) -> Option<u32>
     }
 }
 
-/// The colour of r, g, b and a, each from 0 to 255.
+/// Returns the colour of r, g, b and a in `value`, each from 0 to 255.
 pub fn colour_of(value: [i64; 4]) -> Option<Rgba>
     ensures { result ≡ number.colour_of value }
 {
@@ -53,7 +53,7 @@ pub fn colour_of(value: [i64; 4]) -> Option<Rgba>
     })
 }
 
-/// A channel of a colour, or an alpha: a number from 0 to 255.
+/// Returns `z` as a channel of a colour, or an alpha, where it is from 0 to 255.
 pub fn channel_of(z: i64) -> Option<u8>
     ensures { result ≡ number.channel_of z }
 {
@@ -64,7 +64,7 @@ pub fn channel_of(z: i64) -> Option<u8>
     }
 }
 
-/// False for 0, and true for 1.
+/// Returns false for a `z` of 0, and true for 1.
 pub fn flag_of(z: i64) -> Option<bool>
     ensures { result ≡ number.flag_of z }
 {
@@ -75,7 +75,7 @@ pub fn flag_of(z: i64) -> Option<bool>
     }
 }
 
-/// The turn of so many degrees: 0, 90, 180 or 270.
+/// Returns the turn by `z` degrees: 0, 90, 180 or 270.
 pub fn turn_of(z: i64) -> Option<Rotation>
     ensures { result ≡ number.turn_of z }
 {
@@ -88,7 +88,7 @@ pub fn turn_of(z: i64) -> Option<Rotation>
     }
 }
 
-/// The degrees of a turn.
+/// Returns the degrees of `turn`.
 pub fn degrees(turn: Rotation) -> u32
     ensures { result ≡ number.degrees turn }
 {
@@ -100,7 +100,7 @@ pub fn degrees(turn: Rotation) -> u32
     }
 }
 
-/// The filter of a number: 0, 1 or 2.
+/// Returns the filter of the number `z`: 0, 1 or 2.
 pub fn filter_of(z: i64) -> Option<Filter>
     ensures { result ≡ number.filter_of z }
 {
@@ -112,7 +112,7 @@ pub fn filter_of(z: i64) -> Option<Filter>
     }
 }
 
-/// The number of a filter.
+/// Returns the number of `filter`.
 pub fn filter_number(filter: Filter) -> u32
     ensures { result ≡ number.filter_number filter }
 {
@@ -123,7 +123,8 @@ pub fn filter_number(filter: Filter) -> u32
     }
 }
 
-/// The sum of 1 for a layer's own alpha, 2 for its source's and 4 for a mask; 2 and 4 not together.
+/// Returns the transparency of `z`, the sum of 1 for a layer's own alpha, 2 for its source's and 4 for a mask; 2 and 4 not
+/// together.
 pub fn transparency_of(z: i64) -> Option<Transparency>
     ensures { result ≡ number.transparency_of z }
 {
@@ -149,28 +150,28 @@ fn kinds(alpha: bool, source: bool, mask: bool) -> Transparency
     }
 }
 
-/// The number of a transparency.
+/// Returns the number of `t`.
 pub fn transparency_number(t: Transparency) -> u32
     ensures { result ≡ number.transparency_number t }
 {
     u32::from(t.alpha) + 2 * u32::from(t.source) + 4 * u32::from(t.mask)
 }
 
-/// The four numbers of a rectangle, negative ones in two's complement.
+/// Returns the four numbers of `r`, negative ones in two's complement.
 pub fn rect_numbers(r: Rect) -> [u32; 4]
     ensures { result ≡ number.rect_numbers r }
 {
     [r.x.cast_unsigned(), r.y.cast_unsigned(), r.w, r.h]
 }
 
-/// The four numbers of a colour.
+/// Returns the four numbers of `c`.
 pub fn colour_numbers(c: Rgba) -> [u32; 4]
     ensures { result ≡ number.colour_numbers c }
 {
     [c.r as u32, c.g as u32, c.b as u32, c.a as u32]
 }
 
-/// The number at an index, which counts from 0.
+/// Returns the number at `index` of `numbers`, which counts from 0.
 pub fn at_index(index: i64, numbers: &[u32]) -> Option<u32>
     ensures { result ≡ number.at_index index numbers.now }
 {

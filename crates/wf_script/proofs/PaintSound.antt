@@ -8,6 +8,7 @@ use Rattle.std.proofs.lemmas.Bool.{and_from, and_parts, leb-true}
 use Rattle.std.proofs.lemmas.Bool.Decides.{nat_tests}
 use Rattle.wf_words.specs.Refusals.{refuse_if}
 use Rattle.wf_words.specs.Whole.{count_of}
+use Rattle.wf_pixel.specs.declared.TheConstants.{MOST_SIDE}
 use Rattle.wf_pixel.specs.declared.Rgba.{Rgba}
 use Rattle.wf_image.specs.declared.paint.Paint.{Paint}
 use Rattle.wf_image.specs.declared.paint.Paint.TheVariants as paint
@@ -118,10 +119,11 @@ row_sound (v ∷ ws) p words h =
     let count = pixels_count hex.0.0 pixels.0 pixels.1 in
     let short : length hex.0.0 ≤ 8192 = grind (arith, nat_tests, passed rule.Word (nat_lt 8192 (length hex.0.0)) few.0 few.1) in
     let some : 1 ≤ length pixels.0 = omega arith in
-    let most : length pixels.0 ≤ 1024 = omega arith in
+    let most : length pixels.0 ≤ MOST_SIDE = omega arith in
+    let under : nat_lt y.0.0 MOST_SIDE ≡ true = grind (arith, nat_tests, row_within v y.0.0 parts.0) in
     paint_is (paint.Row y.0.0 pixels.0) p
-    (all_three (nat_le y.0.0 1023) (nat_le 1 (length pixels.0)) (nat_le (length pixels.0) 1024)
-    (at_most y.0.0 1023 (row_within v y.0.0 parts.0)) (at_most 1 (length pixels.0) some) (at_most (length pixels.0) 1024 most))
+    (all_three (nat_lt y.0.0 MOST_SIDE) (nat_le 1 (length pixels.0)) (nat_le (length pixels.0) MOST_SIDE)
+    under (at_most 1 (length pixels.0) some) (at_most (length pixels.0) MOST_SIDE most))
     pixels.2
 
 -- the paint of a form, and of words

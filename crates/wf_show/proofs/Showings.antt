@@ -13,6 +13,7 @@ use Rattle.wf_calls.specs.declared.call.JobKind.{JobKind}
 use Rattle.wf_calls.specs.declared.call.JobKind.TheVariants as kind
 use Rattle.wf_desk.specs.History.{IsPrefix}
 use Rattle.wf_film.specs.declared.form.FilmForm.{FilmForm}
+use Rattle.wf_film.specs.declared.TheConstants.{FRAME_BYTES}
 use Rattle.wf_film.specs.Film.{Frame, Writing, frame_bytes, frame_of, head_bytes, magic}
 use Rattle.wf_film.specs.Frames.{PutsFrames}
 use Rattle.wf_film.specs.Stands.{IsFrameIn}
@@ -210,13 +211,13 @@ module _ {K : Type 0} (bytes : K → List ℕ → Type 0) (form : FilmForm) wher
 
   -- so far
   pub so_far_nothing : (desk : TableId) (k : K) (was : ℕ) (a : Player) (faults : ℕ) → IsClock desk a
-      → was + a.pass.left * 4194318 < 2 ^ 62 → ShowsSoFar bytes desk k k form was was a a faults faults
+      → was + a.pass.left * FRAME_BYTES < 2 ^ 62 → ShowsSoFar bytes desk k k form was was a a faults faults
   so_far_nothing desk k was a faults clock few =
       record { all = nothing_shown k was a; clock = clock; few = few; later = omega arith }
 
   pub goes_further : (desk : TableId) (k m n : K) (was middle written : ℕ) (a b c : Player) (f0 f1 f2 : ℕ)
       → ShowsSoFar bytes desk k m form was middle a b f0 f1 → Shows bytes m n form middle written b c → IsClock desk c
-      → c.pass.left + 1 ≡ b.pass.left → written ≤ middle + 4194318 → f1 ≤ f2 → ShowsSoFar bytes desk k n form was written a c f0 f2
+      → c.pass.left + 1 ≡ b.pass.left → written ≤ middle + FRAME_BYTES → f1 ≤ f2 → ShowsSoFar bytes desk k n form was written a c f0 f2
   goes_further desk k m n was middle written a b c f0 f1 f2 so_far more clock fewer most later =
       record {
         all = both_shown k m n was middle written a b c so_far.all more;

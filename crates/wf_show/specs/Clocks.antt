@@ -15,6 +15,7 @@ use Rattle.wf_show.specs.Players.{first_pass}
 use Rattle.wf_show.specs.Running.{RunsSoFar}
 use Rattle.wf_show.specs.Shown.{frames_by}
 use Rattle.wf_show.specs.Together.{IsSettingUp}
+use Rattle.wf_film.specs.declared.TheConstants.{FRAME_BYTES}
 
 -- its program before the first call
 abbrev pub start : Player → Program
@@ -93,5 +94,5 @@ module _ {K : Type 0} (took : K → List ℕ → Type 0) where
       : Type 0 where
     pub all : Shows took old new form was written a b
     pub clock : IsClock desk b
-    pub few : written + b.pass.left * 4194318 < 2 ^ 62
+    pub few : written + b.pass.left * FRAME_BYTES < 2 ^ 62
     pub later : faults_before ≤ faults

@@ -17,7 +17,7 @@ use crate::player::Player;
 use std::sync::Wait;
 use std::thread::Threads;
 use wf_desk::Desk;
-use wf_film::Writer;
+use wf_film::{FRAME_BYTES, Writer};
 use wf_io::{Sink, WriteStop};
 use wf_machine::Machine;
 use wf_turn::{Program, put_job};
@@ -54,7 +54,7 @@ fn put_frame<K: Sink>(
     ensures all { OnOk result (PutsFrames K.took k.old k.new writer.old.form writer.old.written writer.new.written
         (job_frames begin program.now)) }
     ensures form { writer.new.form ≡ writer.old.form }
-    ensures most { OnOk result (writer.new.written ≤ writer.old.written + 4194318) }
+    ensures most { OnOk result (writer.new.written ≤ writer.old.written + FRAME_BYTES) }
     ensures part { IfErr result (λ stop. PutsPart K.took k.old k.new writer.old.written
         (flat_map (frame_bytes writer.old.form) (job_frames begin program.now)) stop.written) }
     ensures cause { HasCause (K.faults k.old) (K.faults k.new) result }
@@ -77,12 +77,12 @@ fn step<R: Threads + Wait + Sync, K: Sink>(
     requires rows { AreBands rows }
     requires clock { IsClock desk.now.id clock.old }
     requires more { IsSome (place_of clock.old.program) }
-    requires few { writer.old.written + clock.old.pass.left * 4194318 < 2 ^ 62 }
+    requires few { writer.old.written + clock.old.pass.left * FRAME_BYTES < 2 ^ 62 }
     ensures clock { IsClock desk.now.id clock.new }
     ensures form { writer.new.form ≡ writer.old.form }
     ensures all { OnOk result (Shows K.took k.old k.new writer.old.form writer.old.written writer.new.written clock.old clock.new) }
     ensures left { OnOk result (clock.new.pass.left + 1 ≡ clock.old.pass.left) }
-    ensures most { OnOk result (writer.new.written ≤ writer.old.written + 4194318) }
+    ensures most { OnOk result (writer.new.written ≤ writer.old.written + FRAME_BYTES) }
     ensures setting { SetsUp clock.old clock.new }
     ensures part { IfErr result (λ stop. Cuts K.took k.old k.new writer.old.form writer.old.written stop.written clock.old clock.new) }
     ensures cause { HasCause (K.faults k.old) (K.faults k.new) result }
@@ -108,7 +108,7 @@ pub(crate) fn go_on<R: Threads + Wait + Sync, K: Sink>(
 ) -> Result<(), WriteStop>
     requires rows { AreBands rows }
     requires clock { IsClock desk.now.id clock.old }
-    requires few { writer.old.written + clock.old.pass.left * 4194318 < 2 ^ 62 }
+    requires few { writer.old.written + clock.old.pass.left * FRAME_BYTES < 2 ^ 62 }
     ensures clock { IsClock desk.now.id clock.new }
     ensures all { OnOk result (Shows K.took k.old k.new writer.old.form writer.old.written writer.new.written clock.old clock.new) }
     ensures through { OnOk result (place_of clock.new.program ≡ None) }
@@ -135,12 +135,12 @@ pub(crate) fn set_up<R: Threads + Wait + Sync, K: Sink>(
 ) -> Result<(), WriteStop>
     requires rows { AreBands rows }
     requires clock { IsClock desk.now.id clock.old }
-    requires few { writer.old.written + clock.old.pass.left * 4194318 < 2 ^ 62 }
+    requires few { writer.old.written + clock.old.pass.left * FRAME_BYTES < 2 ^ 62 }
     ensures clock { IsClock desk.now.id clock.new }
     ensures form { writer.new.form ≡ writer.old.form }
     ensures all { OnOk result (Shows K.took k.old k.new writer.old.form writer.old.written writer.new.written clock.old clock.new) }
     ensures over { OnOk result (in_setup clock.new.program ≡ false) }
-    ensures few { OnOk result (writer.new.written + clock.new.pass.left * 4194318 < 2 ^ 62) }
+    ensures few { OnOk result (writer.new.written + clock.new.pass.left * FRAME_BYTES < 2 ^ 62) }
     ensures setting { IsSettingUp (start clock.old) clock.old.pass.seen → IsSettingUp (start clock.new) clock.new.pass.seen }
     ensures part { IfErr result (λ stop. Cuts K.took k.old k.new writer.old.form writer.old.written stop.written clock.old clock.new) }
     ensures cause { HasCause (K.faults k.old) (K.faults k.new) result }

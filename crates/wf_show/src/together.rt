@@ -12,7 +12,7 @@ use crate::player::{Player, run_all};
 use std::sync::Wait;
 use std::thread::{Threads, join_mut};
 use wf_desk::Desk;
-use wf_film::Writer;
+use wf_film::{FRAME_BYTES, Writer};
 use wf_io::{Sink, WriteStop};
 use wf_machine::Machine;
 
@@ -29,7 +29,7 @@ pub(crate) fn play_together<R: Threads + Wait + Sync, K: Sink, G: Gate>(
 ) -> Result<(), WriteStop>
     requires rows { AreBands rows }
     requires clock { IsClock desk.now.id clock.old }
-    requires few { writer.old.written + clock.old.pass.left * 4194318 < 2 ^ 62 }
+    requires few { writer.old.written + clock.old.pass.left * FRAME_BYTES < 2 ^ 62 }
     requires others { All (IsWaiting desk.now.id) others.old }
     ensures others { AllWorked others.old others.new }
     ensures clock { IsClock desk.now.id clock.new }
@@ -46,7 +46,7 @@ pub(crate) fn play_together<R: Threads + Wait + Sync, K: Sink, G: Gate>(
             ensures { AllWorked others.entry.now others.exit.now }
         { run_all(rt, desk, gate, others) },
         &mut ||
-            requires { IsClock desk.now.id clock.now × (writer.now.written + clock.now.pass.left * 4194318 < 2 ^ 62)
+            requires { IsClock desk.now.id clock.now × (writer.now.written + clock.now.pass.left * FRAME_BYTES < 2 ^ 62)
                 × AreBands rows }
         { go_on(rt, desk, clock, rows, k, writer) },
     );

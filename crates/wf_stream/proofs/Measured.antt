@@ -8,6 +8,7 @@ use Rattle.wf_stream.specs.Buffers.{Buffers, buffer_bytes}
 use Rattle.wf_stream.specs.Streams.{KeptStream, IsNumbered, held, buffers_at, stream_at, without_number}
 use Rattle.wf_stream.specs.StreamTable.{AreSmall, AreMeasured}
 use Rattle.wf_stream.proofs.StreamTables.{numbered_room, without_below}
+use Rattle.wf_stream.specs.declared.TheConstants.{STREAM_BYTES}
 
 abbrev size : KeptStream → ℕ
 size s = buffer_bytes s.buffers
@@ -18,7 +19,7 @@ bytes_of streams = (held streams).bytes
 bytes_cons : (s : KeptStream) (streams : List KeptStream) → bytes_of (s ∷ streams) ≡ size s + bytes_of streams
 bytes_cons s streams = sum_by-cons size s streams
 
-small_bytes : (streams : List KeptStream) → AreSmall streams → bytes_of streams ≤ 16777216 * length streams
+small_bytes : (streams : List KeptStream) → AreSmall streams → bytes_of streams ≤ STREAM_BYTES * length streams
 small_bytes [] small = omega arith
 small_bytes (s ∷ streams) small =
     let whole = bytes_cons s streams in
@@ -28,7 +29,7 @@ small_bytes (s ∷ streams) small =
 
 -- streams of rising numbers have no more bytes than as many streams may have
 pub bytes_room : (high bytes : ℕ) (streams : List KeptStream) → IsNumbered 0 streams high → AreMeasured bytes streams
-    → bytes ≤ 16777216 * high
+    → bytes ≤ STREAM_BYTES * high
 bytes_room high bytes streams rising measured =
     let room = numbered_room 0 high streams rising in
     let few = small_bytes streams measured.small in
@@ -36,12 +37,12 @@ bytes_room high bytes streams rising measured =
 
 -- one comes
 
-small_push : (streams : List KeptStream) (s : KeptStream) → AreSmall streams → size s ≤ 16777216 → AreSmall (streams ++ s ∷ [])
+small_push : (streams : List KeptStream) (s : KeptStream) → AreSmall streams → size s ≤ STREAM_BYTES → AreSmall (streams ++ s ∷ [])
 small_push [] s small first = (first, tt)
 small_push (x ∷ streams) s small first = (small.0, small_push streams s small.1 first)
 
 pub measured_push : (bytes : ℕ) (streams : List KeptStream) (s : KeptStream) → AreMeasured bytes streams
-    → buffer_bytes s.buffers ≤ 16777216 → AreMeasured (bytes + buffer_bytes s.buffers) (streams ++ s ∷ [])
+    → buffer_bytes s.buffers ≤ STREAM_BYTES → AreMeasured (bytes + buffer_bytes s.buffers) (streams ++ s ∷ [])
 measured_push bytes streams s measured first =
     let whole = sum_by-append size streams (s ∷ []) in
     let last = bytes_cons s [] in
@@ -95,7 +96,7 @@ module _ (n : ℕ) (f : KeptStream → KeptStream) (keeps : (s : KeptStream) →
   small_changed [] small = tt
   small_changed (s ∷ streams) small =
       let later = small_changed streams small.1 in
-      elim (s.number == n) as (λ b. (size (cond b (f s) s) ≤ 16777216) × AreSmall (change (λ x. x.number) n f streams)) [
+      elim (s.number == n) as (λ b. (size (cond b (f s) s) ≤ STREAM_BYTES) × AreSmall (change (λ x. x.number) n f streams)) [
         | true ↦ (rw (keeps s) small.0, later)
         | false ↦ (small.0, later)
       ]

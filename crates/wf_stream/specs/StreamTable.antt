@@ -9,6 +9,7 @@ use Rattle.wf_stream.specs.declared.streams.Streams.TheInside.{Inside}
 use Rattle.wf_stream.specs.Buffers.{Buffers, fresh, buffer_bytes}
 use Rattle.wf_stream.specs.Counts.{Counts}
 use Rattle.wf_stream.specs.Streams.{KeptStream, StreamTable, IsNumbered, held}
+use Rattle.wf_stream.specs.declared.TheConstants.{STREAM_BYTES}
 
 -- the buffers under a key of the pool; each key that a place has is kept
 abbrev pub pooled : ℕ → List (Option (Kept Buffers)) → Buffers
@@ -60,7 +61,7 @@ AreApart (e ∷ places) = HasNone e.1.key places × AreApart places
 -- no stream has more than 16 MiB
 abbrev pub AreSmall : List KeptStream → Type 0
 AreSmall [] = Unit {0}
-AreSmall (s ∷ streams) = (buffer_bytes s.buffers ≤ 16777216) × AreSmall streams
+AreSmall (s ∷ streams) = (buffer_bytes s.buffers ≤ STREAM_BYTES) × AreSmall streams
 
 -- how many bytes the streams have together. None is large, so those of as many streams as there are numbers fit into 64 bits.
 pub record AreMeasured (bytes : ℕ) (streams : List KeptStream) : Type 0 where

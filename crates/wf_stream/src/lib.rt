@@ -11,6 +11,19 @@ pub use naming::{begin_name, end_name};
 pub use store::Store;
 pub use stream::{Refused, Stream};
 pub use wf_life::{BadHandle, Kind, MakeStop};
+use wf_pixel::MOST_SIDE;
+
+/// How many streams are kept at most, with the screens.
+pub const MOST_STREAMS: u32 = 64;
+
+/// How many bytes their buffers have at most: those of 32 images of the highest sides, 4 bytes a pixel.
+pub const MOST_BYTES: u64 = 128 * MOST_SIDE as u64 * MOST_SIDE as u64;
+
+/// The most bytes of one stream: four buffers of the highest sides, 4 bytes a pixel.
+pub const STREAM_BYTES: u64 = 4 * 4 * MOST_SIDE as u64 * MOST_SIDE as u64;
+
+/// The most bytes of a screen: three buffers.
+pub const SCREEN_BYTES: u64 = 3 * 4 * MOST_SIDE as u64 * MOST_SIDE as u64;
 
 /// How many streams are kept, and the bytes of all their buffers.
 #[derive(Clone, Copy, Debug, PartialEq, Eq)]

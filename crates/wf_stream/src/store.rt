@@ -12,20 +12,14 @@ ghost use Rattle.wf_stream.specs.Streams.{is_stream, count_in, killed, stream_at
 ghost use Rattle.wf_stream.specs.Streams.{count_of, hand_over, retained, released};
 ghost use Rattle.wf_stream.specs.Names.{IsReleasable};
 
-use crate::Held;
 use crate::stream::{Stream, bytes_of};
 use crate::streams::Streams;
+use crate::{Held, MOST_BYTES, MOST_STREAMS};
 use std::alloc::Global;
 use std::marker::Model;
 use wf_image::NoMemory;
 use wf_life::{BadHandle, Handles, Kind, MakeStop};
 use wf_pixel::{Format, Size};
-
-/// How many streams are kept at most.
-const MOST_STREAMS: u32 = 64;
-
-/// How many bytes their buffers have at most.
-const MOST_BYTES: u64 = 134_217_728;
 
 /// The handles of all objects, and the streams under numbers that count from 1 all that were ever made, screens
 /// included. The handle table keeps a stream's number. A stream is kept as long as it has a name: its live handle, or its port where it
@@ -54,7 +48,7 @@ impl Model for Store {
 }
 
 impl Store {
-    /// No objects and no streams. It cannot lack memory.
+    /// Makes a store without objects and streams. It cannot lack memory.
     pub fn new(alloc: Global) -> Store
         ensures { result ≡ empty }
     {
@@ -66,7 +60,7 @@ impl Store {
         }
     }
 
-    /// How many streams are kept, and their bytes.
+    /// Returns how many streams are kept, and their bytes.
     pub fn held(&self) -> Held
         ensures { result ≡ held self.now.streams }
     {
@@ -76,8 +70,8 @@ impl Store {
         }
     }
 
-    /// A screen's stream, which has three buffers and no handle. It gives the stream's number. Fewer than four screens
-    /// were made: then at most three more streams were numbered than handles were given.
+    /// Makes a screen's stream of `size`, which has three buffers and no handle, and returns its number. Fewer than four
+    /// screens were made: then at most three more streams were numbered than handles were given.
     pub fn screen(&mut self, size: Size) -> Result<u32, NoMemory>
         requires sides { IsTrue (has_sides size) }
         requires few { self.old.numbered ≤ self.old.made + 3 }
@@ -92,7 +86,7 @@ impl Store {
         Ok(number)
     }
 
-    /// A stream, whose handle it gives.
+    /// Makes a stream of `size` and `format` with `buffers` buffers, and returns its handle.
     pub fn make(&mut self, size: Size, format: Format, buffers: u32) -> Result<u32, MakeStop>
         requires sides { IsTrue (has_sides size) }
         requires least { 2 ≤ buffers }
@@ -123,15 +117,15 @@ impl Store {
         Ok(handle)
     }
 
-    /// All 4,294,967,291 handles were given.
+    /// Tells whether all 4,294,967,291 handles were given.
     pub fn full(&self) -> bool
         ensures { result ≡ is_full self.now.made }
     {
         self.handles.full()
     }
 
-    /// No further stream is made of this size and format, with so many buffers: 64 are kept, there would be too many bytes, or
-    /// all handles were given.
+    /// Tells whether no further stream of `size` and `format` with `buffers` buffers is made: 64 are kept, there would be too
+    /// many bytes, or all handles were given.
     pub fn at_limit(&self, size: Size, format: Format, buffers: u32) -> bool
         requires sides { IsTrue (has_sides size) }
         requires most { buffers ≤ 4 }
@@ -140,7 +134,7 @@ impl Store {
         has_no_room(&self.streams, size, format, buffers) || self.handles.full()
     }
 
-    /// A handle for an object of another kind, which keeps this key for its owner.
+    /// Gives a handle for an object of another `kind`, which keeps `key` for its owner.
     pub fn mint(&mut self, kind: Kind, key: u32) -> Result<u32, MakeStop>
         requires { IsTrue (not (is_stream kind)) }
         ensures handle { IfOk result (λ handle. handle ≡ self.old.made + 1) }
@@ -151,7 +145,7 @@ impl Store {
         self.handles.make(kind, key)
     }
 
-    /// The number of the live stream that has the handle.
+    /// Returns the number of the live stream that has `handle`.
     pub fn number(&self, handle: u32) -> Result<u32, BadHandle>
         ensures number { result_ok result ≡ number_of handle self.now.streams }
         ensures numbered { IsNumbered 0 self.now.streams self.now.numbered }
@@ -159,14 +153,14 @@ impl Store {
         self.handles.find(handle, Kind::Stream)
     }
 
-    /// The key of the live object of this kind that has the handle: a stream's is its number.
+    /// Returns the key of the live object of `kind` that has `handle`: a stream's is its number.
     pub fn find(&self, handle: u32, kind: Kind) -> Result<u32, BadHandle>
         ensures { result_ok result ≡ key_in handle kind self.now }
     {
         self.handles.find(handle, kind)
     }
 
-    /// Ends the life of the object that has the handle. A stream has one name fewer then, and is dropped where that was its last.
+    /// Ends the life of the object that has `handle`. A stream has one name fewer then, and is dropped where that was its last.
     pub fn kill(&mut self, handle: u32)
         requires { IsTrue (is_alive handle self.old) }
         ensures killed { self.new ≡ killed handle self.old }
@@ -183,7 +177,7 @@ impl Store {
         }
     }
 
-    /// One name more of the stream of a number, which is kept. Its count is below 4,294,967,295.
+    /// Counts one name more of the stream `number`, which is kept. Its count is below 4,294,967,295.
     pub fn retain(&mut self, number: u32)
         requires kept { IsSome (stream_at number self.old.streams) }
         requires room { count_of number self.old < 4294967295 }
@@ -192,8 +186,8 @@ impl Store {
         self.streams.retain(number);
     }
 
-    /// One name fewer of the stream of a number, which is kept. Its count is 1 or more, and 2 or more while it has a live handle.
-    /// The stream is dropped exactly where that was its last name.
+    /// Counts one name fewer of the stream `number`, which is kept. Its count is 1 or more, and 2 or more while it has a live
+    /// handle. The stream is dropped exactly where that was its last name.
     pub fn release(&mut self, number: u32)
         requires { IsReleasable number self.old }
         ensures { self.new ≡ released number self.old }
@@ -201,21 +195,21 @@ impl Store {
         self.streams.release(number);
     }
 
-    /// How many names the stream of a number has; 0 where none is kept.
+    /// Returns how many names the stream `number` has; 0 where it is not kept.
     pub fn count(&self, number: u32) -> u32
         ensures { result ≡ count_of number self.now }
     {
         self.streams.count(number)
     }
 
-    /// How many objects of the kind live.
+    /// Returns how many objects of `kind` live.
     pub fn live(&self, kind: Kind) -> u32
         ensures { result ≡ count_in kind self.now }
     {
         self.handles.live(kind)
     }
 
-    /// The stream of a number.
+    /// Returns the stream `number`, if it is kept.
     pub fn get(&self, number: u32) -> Option<&Stream>
         ensures value { option_copied result ≡ buffers_at number self.now.streams }
         ensures numbered { IsNumbered 0 self.now.streams self.now.numbered }

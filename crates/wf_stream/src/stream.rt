@@ -8,6 +8,7 @@ ghost use Rattle.wf_image.specs.Bitmap.{blank, image_bytes};
 ghost use Rattle.wf_stream.specs.Buffers.{fresh, acquired, posted, discarded, newest, latched, latched_if, returned, is_blocked, away};
 ghost use Rattle.wf_stream.specs.Buffers.{HasShape, buffer_bytes};
 
+use crate::STREAM_BYTES;
 use std::alloc::Global;
 use std::marker::Model;
 use std::mem;
@@ -57,7 +58,7 @@ impl Model for Stream {
 }
 
 impl Stream {
-    /// A stream without any post, with all its buffers.
+    /// Makes a stream of `size` and `format` without any post, with all its `buffers` buffers.
     pub fn new(alloc: Global, size: Size, format: Format, buffers: u32) -> Result<Stream, NoMemory>
         requires sides { IsTrue (has_sides size) }
         requires least { 2 ≤ buffers }
@@ -76,7 +77,7 @@ impl Stream {
         })
     }
 
-    /// Width and height in pixels.
+    /// Returns width and height in pixels.
     pub fn size(&self) -> Size
         ensures size { result ≡ self.now.size }
         ensures sides { IsTrue (has_sides result) }
@@ -84,14 +85,14 @@ impl Stream {
         self.size
     }
 
-    /// How the bytes of its images are read.
+    /// Returns how the bytes of its images are read.
     pub fn format(&self) -> Format
         ensures { result ≡ self.now.format }
     {
         self.format
     }
 
-    /// Its write buffer is out.
+    /// Tells whether its write buffer is out.
     pub fn is_out(&self) -> bool
         ensures { result ≡ self.now.out }
     {
@@ -101,12 +102,12 @@ impl Stream {
     /// The bytes of all its buffers.
     pub(crate) fn bytes(&self) -> u64
         ensures bytes { result ≡ buffer_bytes self.now }
-        ensures most { result ≤ 16777216 }
+        ensures most { result ≤ STREAM_BYTES }
     {
         bytes_of(self.size, self.format, self.buffers)
     }
 
-    /// A buffer is free: now, or after a `latch`.
+    /// Tells whether a buffer is free: now, or where `latched` is set after a `latch`.
     pub fn roomy(&self, latched: bool) -> bool
         requires { IsTrue latched → self.now.read ≢ away }
         ensures { result ≡ not (is_blocked (latched_if latched self.now)) }
@@ -114,7 +115,7 @@ impl Stream {
         !self.free.is_empty() || latched && self.ready.is_some() && self.read.is_home()
     }
 
-    /// A free buffer, all zero, to be written for the stream of this number.
+    /// Takes a free buffer, all zero, to be written for the stream `number`.
     pub fn acquire(&mut self, number: u32) -> Result<Canvas, Refused>
         ensures canvas { IfOk result (λ canvas. canvas ≡ record { stream = number; image = blank self.old.size self.old.format }) }
         ensures acquired { OnOk result (self.new ≡ acquired self.old) }
@@ -137,7 +138,7 @@ impl Stream {
         })
     }
 
-    /// The write buffer is finished. A finished one that no frame took is free again.
+    /// Takes the write buffer `c` as finished. A finished one that no frame took is free again.
     pub fn post(&mut self, c: Canvas)
         requires out { IsTrue self.old.out }
         requires shape { HasShape self.old.size self.old.format c.image }
@@ -149,7 +150,7 @@ impl Stream {
         }
     }
 
-    /// The write buffer is free again, and what is on it is dropped.
+    /// Takes the write buffer `c` as free again, and drops what is on it.
     pub fn discard(&mut self, c: Canvas)
         requires out { IsTrue self.old.out }
         requires shape { HasShape self.old.size self.old.format c.image }
@@ -159,7 +160,7 @@ impl Stream {
         self.out = false;
     }
 
-    /// The newest finished image, for a frame. It is away until the frame gives it back.
+    /// Takes the newest finished image, for a frame. It is away until the frame gives it back.
     pub fn latch(&mut self) -> Option<Image>
         requires { self.old.read ≢ away }
         ensures image { result ≡ newest self.old }
@@ -177,7 +178,7 @@ impl Stream {
         Some(image)
     }
 
-    /// The image of a frame is home again.
+    /// Takes the image `i` of a frame home again.
     pub fn give_back(&mut self, i: Image)
         requires away { self.old.read ≡ away }
         requires shape { HasShape self.old.size self.old.format i }
@@ -246,7 +247,7 @@ pub(crate) fn bytes_of(size: Size, format: Format, buffers: u32) -> u64
     requires sides { IsTrue (has_sides size) }
     requires most { buffers ≤ 4 }
     ensures bytes { result ≡ image_bytes size format * buffers }
-    ensures most { result ≤ 16777216 }
+    ensures most { result ≤ STREAM_BYTES }
 {
     size.w as u64 * size.h as u64 * bytes_of_pixel(format) as u64 * buffers as u64
 }

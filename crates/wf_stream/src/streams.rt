@@ -8,6 +8,7 @@ ghost use Rattle.wf_stream.specs.Buffers.{HasShape, acquired, away, discarded, i
 ghost use Rattle.wf_stream.specs.Streams.{held, IsNumbered, KeptStream, buffers_at, change_stream, hand_over, less_streams, stream_at};
 ghost use Rattle.wf_stream.specs.Counts.{counted, one_name_more, less_counts, without_count};
 
+use crate::STREAM_BYTES;
 use crate::stream::{Refused, Stream};
 use std::alloc::Global;
 use std::collections::BTreeMap;
@@ -64,7 +65,7 @@ impl Streams {
     /// The bytes of all their buffers.
     pub(crate) fn bytes(&self) -> u64
         ensures bytes { result ≡ (held self.now.streams).bytes }
-        ensures small { result ≤ 16777216 * 4294967295 }
+        ensures small { result ≤ STREAM_BYTES * 4294967295 }
     {
         self.bytes
     }

@@ -3,6 +3,7 @@ use Rattle.wf_turn.proofs.Common.{◌≡◌, ◌∙◌, ℕ, ◌+◌, ◌*◌, �
 use Rattle.wf_turn.proofs.Common.{get_or, refl, sym, ap, subst, IsSome, Turn, FilmForm, replay_from, with_frames, Show, IsCast, Plays}
 use Rattle.wf_turn.proofs.Common.{PlaysTurn}
 use Rattle.std.proofs.lemmas.List.{take_more}
+use Rattle.wf_film.specs.declared.TheConstants.{FRAME_BYTES}
 use Rattle.wf_film.specs.Film.{Writing}
 use Rattle.wf_turn.specs.Played.{Follows, Replays}
 use Rattle.wf_turn.specs.Replayed.{IsNoTurn, StopsIn}
@@ -14,7 +15,7 @@ pub record ArePlayed {K : Type 0} (took : K → List ℕ → Type 0) (old new : 
     (place before faults : ℕ) : Type 0 where
   pub plays : Plays took old new was.form was.written writer.written Replays start now (take place ts)
   pub form_is : writer.form ≡ was.form
-  pub small : writer.written ≤ was.written + place * 4194318
+  pub small : writer.written ≤ was.written + place * FRAME_BYTES
   pub turns : now.turns ≡ place
   pub cast : IsCast now
   pub later : before ≤ faults

@@ -102,7 +102,7 @@ module _ (s : Show) (client : ℕ) (cast : IsCast s) (alone : EndsNext s) (first
           let at : program_at (with_frames [] s) client ≡ Some p = rw open_setup stands.found in
           let now : wanted_now s.state p ≡ Some w = free_now s.state p w asks (free w asks s.state.frame refl) in
           let takes : turn (with_frames [] s) client false
-              ≡ Some (answered (with_frames [] s) client p (step s.state client w.call false)) =
+          ≡ Some (answered (with_frames [] s) client p (step s.state client w.call false)) =
           turn_now (with_frames [] s) client false p at ∙ rw now refl in
           let no : None ≡ Some (answered (with_frames [] s) client p (step s.state client w.call false)) = sym (none [] false) ∙ takes in
           cc

@@ -8,6 +8,7 @@ use Rattle.wf_turn.proofs.Common.{with_frames, Program, all_left, IsNextTurn, Is
 use Rattle.std.proofs.Common.{◌^◌}
 use Rattle.std.proofs.lemmas.Grind.{flat_map-append}
 use Rattle.wf_calls.specs.declared.call.JobKind.TheVariants as kind
+use Rattle.wf_film.specs.declared.TheConstants.{FRAME_BYTES}
 use Rattle.wf_film.specs.Film.{Writing}
 use Rattle.wf_film.proofs.PutFrames.{both_frames, no_frames}
 use Rattle.wf_turn.specs.Played.{StopsTurn}
@@ -50,7 +51,7 @@ module _ {K : Type 0} (took : K → List ℕ → Type 0) where
       pub form_is : writer.form ≡ was.form
       pub fits : length played + all_left now.programs ≤ room
       pub many : length played + all_left now.programs ≤ most
-      pub few : writer.written + all_left now.programs * 4194318 < 2 ^ 62
+      pub few : writer.written + all_left now.programs * FRAME_BYTES < 2 ^ 62
       pub early : now.turns + all_left now.programs < 2 ^ 31
       pub later : before_faults ≤ faults
       pub cast : IsCast now

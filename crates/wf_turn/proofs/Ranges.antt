@@ -36,7 +36,7 @@ code_small code.Limit = omega arith
 -- no turn makes programs more or fewer
 taught_length : (ps : List Program) → length (all_taught ps) ≡ length ps
 taught_length [] = refl
-taught_length (clock ∷ others) = ap suc (length-map (taught clock) others)
+taught_length (clock ∷ others) = ap suc (length-map others (taught clock))
 
 inherited_length : (before now : List Program) → length (inherited before now) ≡ length now
 inherited_length before now =

@@ -2,6 +2,7 @@
 use Rattle.std.specs.Prelude.{◌≡◌, ℕ, ◌+◌, ◌≤◌, ◌⊎◌, false, List, [], length, take, None, Result, Ok, Err, IsSome}
 use Rattle.wf_calls.specs.declared.order.Turn.{Turn}
 use Rattle.wf_film.specs.declared.form.FilmForm.{FilmForm}
+use Rattle.wf_film.specs.declared.TheConstants.{FRAME_BYTES}
 use Rattle.wf_film.specs.Film.{Frame}
 use Rattle.wf_io.specs.Bytes.{Puts}
 use Rattle.wf_io.specs.Causes.{Rose}
@@ -28,7 +29,7 @@ module _ {K : Type 0} (took : K → List ℕ → Type 0) (old new : K) (form : F
   -- an entry is a turn, and its frames are put
   pub record PlaysEntry (show now : Show) (t : Turn) : Type 0 where
     pub plays : PlaysTurn took old new form was written Follows show now t
-    pub most : written ≤ was + 4194318
+    pub most : written ≤ was + FRAME_BYTES
     pub turns : now.turns ≡ show.turns + 1
     pub cast : IsCast now
 

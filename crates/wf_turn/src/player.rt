@@ -19,7 +19,7 @@ use crate::quotas::quota_of_all;
 use crate::show::Show;
 use std::alloc::Global;
 use wf_calls::{Order, Turn};
-use wf_film::{FilmForm, Writer};
+use wf_film::{FRAME_BYTES, FilmForm, Writer};
 use wf_io::{Sink, WriteStop};
 use wf_kernel::{Painter, Plain};
 use wf_script::Script;
@@ -166,7 +166,7 @@ fn play_turns<K: Sink, P: Painter>(
     requires alone { EndsNext show.old }
     requires none { played.old.items ≡ [] }
     requires room { all_left show.old.programs ≤ vec_capacity played.old }
-    requires few { writer.old.written + all_left show.old.programs * 4194318 < 2 ^ 62 }
+    requires few { writer.old.written + all_left show.old.programs * FRAME_BYTES < 2 ^ 62 }
     requires early { show.old.turns + all_left show.old.programs < 2 ^ 31 }
     ensures all { OnOk result (Plays K.took k.old k.new writer.old.form writer.old.written writer.new.written IsRun show.old show.new
         played.new.items) }
@@ -200,7 +200,7 @@ fn play_turn<K: Sink, P: Painter>(
     requires first { IsFirst show.old.programs client }
     requires allowed { IsTrue (may_turn show.old.programs client) }
     requires room { length played.old.items + all_left show.old.programs ≤ vec_capacity played.old }
-    requires few { writer.old.written + all_left show.old.programs * 4194318 < 2 ^ 62 }
+    requires few { writer.old.written + all_left show.old.programs * FRAME_BYTES < 2 ^ 62 }
     requires early { show.old.turns + all_left show.old.programs < 2 ^ 31 }
     ensures all { OnOk result (PlaysNext K.took k.old k.new writer.old.form writer.old.written writer.new.written show.old show.new
         played.old.items played.new.items) }
@@ -208,7 +208,7 @@ fn play_turn<K: Sink, P: Painter>(
     ensures alone { OnOk result (EndsNext show.new) }
     ensures fewer { OnOk result (all_left show.new.programs + 1 ≤ all_left show.old.programs) }
     ensures many { length played.new.items + all_left show.new.programs ≤ length played.old.items + all_left show.old.programs }
-    ensures most { OnOk result (writer.new.written ≤ writer.old.written + 4194318) }
+    ensures most { OnOk result (writer.new.written ≤ writer.old.written + FRAME_BYTES) }
     ensures form { writer.new.form ≡ writer.old.form }
     ensures early { OnOk result (show.new.turns ≡ show.old.turns + 1) }
     ensures room { OnOk result (vec_capacity played.old ≤ vec_capacity played.new) }

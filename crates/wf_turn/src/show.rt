@@ -19,7 +19,7 @@ use crate::turning::take_turn;
 use std::alloc::Global;
 use std::marker::Model;
 use wf_calls::{Job, JobKind, Turn};
-use wf_film::Writer;
+use wf_film::{FRAME_BYTES, Writer};
 use wf_io::{Sink, WriteStop};
 use wf_kernel::Painter;
 use wf_machine::Machine;
@@ -151,7 +151,7 @@ impl<'a> Show<'a> {
         ensures all { OnOk result (PutsFrames K.took k.old k.new writer.old.form writer.old.written writer.new.written
             (shown_by begin painted self.now.programs client)) }
         ensures form { writer.new.form ≡ writer.old.form }
-        ensures most { OnOk result (writer.new.written ≤ writer.old.written + 14 + 4 * 1024 * 1024) }
+        ensures most { OnOk result (writer.new.written ≤ writer.old.written + FRAME_BYTES) }
         ensures part { IfErr result (λ stop. PutsPart K.took k.old k.new writer.old.written
             (flat_map (frame_bytes writer.old.form) (shown_by begin painted self.now.programs client)) stop.written) }
         ensures cause { HasCause (K.faults k.old) (K.faults k.new) result }
@@ -180,7 +180,7 @@ pub fn put_job<K: Sink>(
     ensures all { OnOk result (PutsFrames K.took k.old k.new writer.old.form writer.old.written writer.new.written
         (shown job.now.kind tick begin job.now)) }
     ensures form { writer.new.form ≡ writer.old.form }
-    ensures most { OnOk result (writer.new.written ≤ writer.old.written + 14 + 4 * 1024 * 1024) }
+    ensures most { OnOk result (writer.new.written ≤ writer.old.written + FRAME_BYTES) }
     ensures part { IfErr result (λ stop. PutsPart K.took k.old k.new writer.old.written
         (flat_map (frame_bytes writer.old.form) (shown job.now.kind tick begin job.now)) stop.written) }
     ensures cause { HasCause (K.faults k.old) (K.faults k.new) result }
