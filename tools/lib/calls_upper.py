@@ -1,4 +1,4 @@
-"""What tools/calls writes of wf_core, wf_display, wf_machine, wf_turn and wfcases."""
+"""What tools/calls writes of wf_core, wf_display, wf_machine, wf_turn and cases_machine."""
 
 import re
 
@@ -284,7 +284,7 @@ def read_by(kind):
 
 
 def cases_rt(table):
-    """Returns calls.rt of wfcases: the calls of cases, by subjects, with numbers that are read once for all calls of a subject."""
+    """Returns calls.rt of cases_machine: the calls of cases, by subjects, with numbers that are read once for all calls of a subject."""
     groups, own, used = {}, [], set()
     for call in plain(table):
         groups.setdefault(call.subject, []).append(call)
@@ -356,7 +356,7 @@ use wf_scene::{{ContextAttr, ElementAttr}};
 
 
 def case_words_rt(table):
-    """Returns words.rt of wfcases: attributes of ports and pipelines, and words of other kinds."""
+    """Returns words.rt of cases_machine: attributes of ports and pipelines, and words of other kinds."""
     own = attr_words(table, ("port", "pipe"), "pub(crate)")
     for name in "stat", "transition":
         kind = table.kinds[name]

@@ -1,4 +1,4 @@
-"""Files of cases of wfcases, as lib/names.py answers their calls. What lies in images and in scenes it does not know."""
+"""Files of cases of cases_machine, as lib/names.py answers their calls. What lies in images and in scenes it does not know."""
 
 import re
 

@@ -1,4 +1,4 @@
-"""The built program, as the tools play it: the one that WFPLAY names, or that of this checkout. The same of wfcases, which plays cases."""
+"""The built program, as the tools play it: the one that WFPLAY names, or that of this checkout. The same of cases_machine, which plays cases."""
 
 import os
 import subprocess
@@ -6,7 +6,7 @@ from pathlib import Path
 
 TOP = Path(__file__).resolve().parent.parent.parent
 PROGRAM = Path(os.environ.get("WFPLAY") or TOP / "crates/wfplay/out/wfplay")
-CASES = Path(os.environ.get("WFCASES") or TOP / "crates/wfcases/out/wfcases")
+CASES = Path(os.environ.get("WFCASES") or TOP / "crates/cases_machine/out/cases_machine")
 SECONDS = 120
 
 

@@ -1,5 +1,5 @@
 """Calls of the machine at random, each with the answer and with the numbers of names that lib/names.py works out, as a file of cases that
-the program wfcases plays. They reach all that names a stream: handles, write buffers, sources, masks, layers, targets, pipelines, frames."""
+the program cases_machine plays. They reach all that names a stream: handles, write buffers, sources, masks, layers, targets, pipelines, frames."""
 
 from typing import NamedTuple
 

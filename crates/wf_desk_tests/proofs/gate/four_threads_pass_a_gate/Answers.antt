@@ -1,6 +1,0 @@
-use Rattle.std.proofs.Common.{rules}
-use Rattle.wf_desk.specs.Desk.{AreAll-in_order}
-use Rattle.wf_desk_tests.proofs.gate.four_threads_pass_a_gate.Goals as goal
-
-pub close-journal-requires-clause-passes : goal.close-journal-requires-clause-passes
-close-journal-requires-clause-passes c κs within = AreAll-in_order _ _ _ (search rules) (search rules)
