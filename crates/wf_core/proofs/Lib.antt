@@ -1,8 +1,8 @@
-pub mod Seeing
+pub mod StreamsSeen
 pub mod Faults
-pub mod Layering
-pub mod Committing
+pub mod LayersFit
+pub mod SceneCommitted
 pub mod Screens
-pub mod Denials
-pub mod Answering
-pub mod Destroying
+pub mod CreationsRefused
+pub mod CallsAnswered
+pub mod ObjectsDestroyed

@@ -18,7 +18,7 @@ use Rattle.wf_desk.specs.declared.view.Key.{Key}
 use Rattle.wf_desk.specs.Rule.{ticket_count, IsHand, weight, Knows, Slot, Kept}
 use Rattle.wf_desk.specs.Plays.{tail_of, head_of, stamped, starting, dealt, pass_of, note_of, blank, noting, gathering}
 use Rattle.wf_desk.proofs.Logs.{queue_set, queue_snoc, in_either, at_mapped, weights_set, weights_snoc}
-use Rattle.wf_desk.proofs.Moves.{not_has, none_before, seats_stay}
+use Rattle.wf_desk.proofs.StepsWithoutEvent.{not_has, none_before, seats_stay}
 
 module _ {O C R E : Type 0} (after : O → ℕ → C → R → O) (may : O → ℕ → C → R → Type 0) (entry : ℕ → R → E) (key : Key O) where
   abbrev V : Type 0

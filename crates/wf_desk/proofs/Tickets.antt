@@ -19,7 +19,7 @@ use Rattle.wf_desk.specs.History.{IsLegal}
 use Rattle.wf_desk.specs.Rule.{ticket_count, HasObject, Stands, NoneHas, Slot, Fits, Kept}
 use Rattle.wf_desk.specs.Plays.{IsTurn, at_stage, drew, rested, took}
 use Rattle.wf_desk.proofs.Logs.{set_at, weights_at, prefix_all}
-use Rattle.wf_desk.proofs.Moves.{not_has, none_before, moves, unmoved}
+use Rattle.wf_desk.proofs.StepsWithoutEvent.{not_has, none_before, moves, unmoved}
 
 module _ {A : Type 0} where
   -- where a seat stands when another has drawn a ticket

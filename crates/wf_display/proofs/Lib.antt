@@ -1,9 +1,9 @@
 pub mod Rects
 pub mod Styles
-pub mod Setting
-pub mod Keeping
+pub mod AttributesSet
+pub mod FramesAndCommitsFit
 pub mod NameCounts
-pub mod Renaming
-pub mod Making
-pub mod Layering
-pub mod Opened
+pub mod PipelineNames
+pub mod SourcesMade
+pub mod PipelineLayersFit
+pub mod DisplayOpened

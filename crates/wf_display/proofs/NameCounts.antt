@@ -20,7 +20,7 @@ use Rattle.wf_model.specs.DisplayCommits.{bound, bound_stream, committed_pipelin
 use Rattle.wf_model.specs.DisplaySides.{source_at}
 use Rattle.wf_model.specs.Names.{display_names, pipeline_names}
 use Rattle.wf_model.specs.State.{DisplayState}
-use Rattle.wf_display.proofs.Keeping.{pipeline_after}
+use Rattle.wf_display.proofs.FramesAndCommitsFit.{pipeline_after}
 
 abbrev pub source_names : List DisplaySource → List ℕ
 source_names sources = map (λ s. s.stream) sources

@@ -26,8 +26,8 @@ use Rattle.wf_model.specs.Outcome.{refuse, refuse_with}
 use Rattle.wf_objects.specs.Owners.{of_device}
 use Rattle.wf_objects.specs.declared.shown.Shown.{Shown}
 use Rattle.wf_objects.specs.Shows.{next_of, shown_context, shown_of}
-use Rattle.wf_machine.proofs.Latches.{KeepsShape}
-use Rattle.wf_machine.proofs.Mapped.{buffers_mapped, changed_at, changed_keeps, latch_keeps}
+use Rattle.wf_machine.proofs.StreamsLatched.{KeepsShape}
+use Rattle.wf_machine.proofs.StreamsMapped.{buffers_mapped, changed_at, changed_keeps, latch_keeps}
 use Rattle.wf_words.specs.Each.{each_found}
 
 -- what a context composes fits the streams

@@ -11,7 +11,7 @@ use Rattle.wf_stream.specs.Names.{still_counted, times_append, times_cons, times
 use Rattle.wf_stream.specs.Renames.{Renames}
 use Rattle.wf_stream.specs.Streams.{count_of}
 use Rattle.wf_model.specs.Counting.{CountsNames, all_times, handle_own, kept_is, own_few, settled_counts}
-use Rattle.wf_machine.proofs.Dropping.{none_at_zero, sound_settled}
+use Rattle.wf_machine.proofs.DropsKeepInvariant.{none_at_zero, sound_settled}
 
 -- the names of a frame
 

@@ -15,7 +15,7 @@ use Rattle.wf_pixel.specs.Choice.{is_coordinate}
 use Rattle.wf_pixel.specs.Place.{size_of}
 use Rattle.wf_scene.specs.Layers.{is_placed_layer}
 use Rattle.wf_model.specs.Picture.{Fits, LayerFits as Shows}
-use Rattle.wf_machine.proofs.Begun.{shaped_at}
+use Rattle.wf_machine.proofs.ImagesOfBegunFrame.{shaped_at}
 use Rattle.wf_pixel.specs.declared.TheConstants.{MOST_SIDE}
 
 in_order : (a b : ℤ) → int_le a b ≡ true → a ≤ℤ b

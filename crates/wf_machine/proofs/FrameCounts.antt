@@ -17,13 +17,13 @@ use Rattle.wf_stream.specs.Streams.{count_of}
 use Rattle.wf_model.specs.Counting.{all_times}
 use Rattle.wf_machine.specs.declared.port.Port as declared
 use Rattle.wf_machine.specs.Naming.{drawn_names, held_names}
-use Rattle.wf_machine.proofs.Beginning.{HasBegun, sound_begun, streams_are}
+use Rattle.wf_machine.proofs.FrameBegunKeepsInvariant.{HasBegun, sound_begun, streams_are}
 use Rattle.wf_machine.proofs.Counts.{settles, sound_renamed}
-use Rattle.wf_machine.proofs.Latches.{numbered_latch}
-use Rattle.wf_machine.proofs.Mapped.{changed_at, changed_keeps, found_mapped, home_among, home_keeps, latch_keeps, numbered_mapped}
+use Rattle.wf_machine.proofs.StreamsLatched.{numbered_latch}
+use Rattle.wf_machine.proofs.StreamsMapped.{changed_at, changed_keeps, found_mapped, home_among, home_keeps, latch_keeps, numbered_mapped}
 use Rattle.wf_machine.proofs.OwnNames.{counted_mapped, drawn_times, own_delivered, own_drawn, own_home, own_latched}
 use Rattle.wf_machine.proofs.StreamNames.{ending_fit, names_seen}
-use Rattle.wf_machine.proofs.StillFitting.{acquired_keeps, posted_keeps, shape_kept}
+use Rattle.wf_machine.proofs.StreamsStillFit.{acquired_keeps, posted_keeps, shape_kept}
 
 -- the target of a frame is its one target
 only_target : (target n : ℕ) → is_in n (target ∷ []) ≡ true → target ≡ n

@@ -15,7 +15,7 @@ use Rattle.wf_model.specs.Counting.{counts_if, own_changed, own_count, own_same}
 use Rattle.wf_model.specs.Streams.{is_out_of}
 use Rattle.wf_words.specs.Found.{passes}
 use Rattle.wf_machine.specs.Naming.{drawn_names}
-use Rattle.wf_machine.proofs.Mapped.{KeepsStream, found_mapped, home_among}
+use Rattle.wf_machine.proofs.StreamsMapped.{KeepsStream, found_mapped, home_among}
 
 -- a name where two numbers are one
 one_if : (n k : ℕ) → times n (k ∷ []) ≡ counts_if (k == n) 1

@@ -23,7 +23,7 @@ use Rattle.wf_model.specs.Frames.{started}
 use Rattle.wf_model.specs.Ports.{shown_size}
 use Rattle.wf_display.specs.Display.{IsDisplay, IsPort}
 use Rattle.wf_display.specs.Fits.{IsScreen, PipelineFits, StreamsFit}
-use Rattle.wf_machine.proofs.Screening.{screen_there}
+use Rattle.wf_machine.proofs.ScreensArePixels.{screen_there}
 use Rattle.wf_pixel.specs.declared.TheConstants.{MOST_SIDE}
 
 -- lists, counted from 1

@@ -10,8 +10,8 @@ use Rattle.std.specs.List.{AllByRecursion}
 use Rattle.std.specs.Option.{IsSomeAnd}
 use Rattle.wf_calls.specs.declared.call.JobKind.TheVariants as kind
 use Rattle.wf_model.specs.Frames.{with_job}
-use Rattle.wf_machine.proofs.Dropping.{among, found_among, none_at_zero, numbered_among}
-use Rattle.wf_machine.proofs.InOnce.{in_once}
+use Rattle.wf_machine.proofs.DropsKeepInvariant.{among, found_among, none_at_zero, numbered_among}
+use Rattle.wf_machine.proofs.NamesInScene.{in_once}
 use Rattle.wf_machine.proofs.OwnNames.{own_latched}
 
 -- the streams of a scene whose layers fit are kept; the number 0 stands for none

@@ -12,15 +12,15 @@ use Rattle.wf_stream.specs.Names.{released_counts, released_other, times_one}
 use Rattle.wf_stream.specs.Renames.{Renames}
 use Rattle.wf_stream.specs.Streams.{count_of, hand_over, released}
 use Rattle.wf_model.specs.Counting.{all_times, counts_if, own_count, own_pushed}
-use Rattle.wf_machine.proofs.Buffering.{out_apart}
-use Rattle.wf_machine.proofs.Drawing.{frame_acquired, frame_apart}
-use Rattle.wf_machine.proofs.Dropping.{none_at_zero}
+use Rattle.wf_machine.proofs.BufferCalls.{out_apart}
+use Rattle.wf_machine.proofs.ImageOfRunningFrame.{frame_acquired, frame_apart}
+use Rattle.wf_machine.proofs.DropsKeepInvariant.{none_at_zero}
 use Rattle.wf_machine.proofs.FrameNames.{may_end}
-use Rattle.wf_machine.proofs.Mapped.{changed_at, changed_keeps, found_mapped, unnamed_keeps}
+use Rattle.wf_machine.proofs.StreamsMapped.{changed_at, changed_keeps, found_mapped, unnamed_keeps}
 use Rattle.wf_machine.proofs.OwnNames.{counted_mapped, handle_less, out_at, out_less, out_more}
 use Rattle.wf_machine.proofs.Counts.{may_end_names, settles, sound_renamed}
-use Rattle.wf_machine.proofs.Sounds.{sound_kept, sound_unnamed, with_buffers}
-use Rattle.wf_machine.proofs.StillFitting.{KeepsRead, acquired_keeps, shape_kept}
+use Rattle.wf_machine.proofs.StreamCallsKeepInvariant.{sound_kept, sound_unnamed, with_buffers}
+use Rattle.wf_machine.proofs.StreamsStillFit.{KeepsRead, acquired_keeps, shape_kept}
 
 -- names alone changed, and no stream went
 pub names_seen : (m : Inside) (v : StoreView) → v.streams ≡ m.store.streams → but_names v ≡ but_names m.store

@@ -30,8 +30,8 @@ use Rattle.wf_objects.specs.Named.{renamed_fits}
 use Rattle.wf_stream.specs.Renames.{Renames, named_again, then_renames}
 use Rattle.wf_objects.specs.Sides.{beside, core_side_of}
 use Rattle.wf_objects.proofs.NameCounts.{changed_names, committed_in, committed_times}
-use Rattle.wf_objects.proofs.Fitting.{contexts_fit}
-use Rattle.wf_objects.proofs.Keeping.{Keeps}
+use Rattle.wf_objects.proofs.ChangesStillFit.{contexts_fit}
+use Rattle.wf_objects.proofs.SceneCallsKeep.{Keeps}
 use Rattle.wf_objects.proofs.Lookups.{rises_contexts}
 
 -- what stands at a place, written there again

@@ -6,8 +6,8 @@ use Rattle.wf_turn.specs.declared.stage.Wanted.{Wanted}
 use Rattle.wf_calls.specs.Codes.{code_number}
 use Rattle.wf_machine.specs.Object.{MayAnswer, after}
 use Rattle.wf_turn.specs.Going.{IsNextCall}
-use Rattle.wf_turn.proofs.Answering.{IsSame, outcome, same_outcome}
-use Rattle.wf_turn.proofs.Turnings.{marked_is}
+use Rattle.wf_turn.proofs.AnswersAgree.{IsSame, outcome, same_outcome}
+use Rattle.wf_turn.proofs.TurnOfAProgram.{marked_is}
 
 -- the show after an answer, by what that comes to
 abbrev built : Show → ℕ → State → Program × (ℕ → List Frame) → Turn → Show × Turn

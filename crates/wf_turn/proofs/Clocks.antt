@@ -19,11 +19,11 @@ use Rattle.wf_turn.specs.declared.stage.Phase.TheVariants as phase
 use Rattle.wf_turn.specs.declared.stage.Stage.TheVariants as stage
 use Rattle.wf_words.specs.Each.{each_set}
 use Rattle.wf_turn.proofs.Cases.{IsTick, turn_case}
-use Rattle.wf_turn.proofs.Holding.{AllHold, opening_hold}
+use Rattle.wf_turn.proofs.JobThatIsHeld.{AllHold, opening_hold}
 use Rattle.wf_turn.proofs.Moments.{turn_adds}
-use Rattle.wf_turn.proofs.Painting.{IsPainted}
+use Rattle.wf_turn.proofs.JobCanBePainted.{IsPainted}
 use Rattle.wf_turn.proofs.Replays.{own_program, turn_of}
-use Rattle.wf_turn.proofs.Keeping.{worked_if}
+use Rattle.wf_turn.proofs.AnswersKeep.{worked_if}
 
 -- lines without a tick
 abbrev pub AreTickless : List (ℕ × Line) → Type 0

@@ -15,7 +15,7 @@ use Rattle.wf_script.specs.Script.{may_tick}
 use Rattle.wf_turn.specs.declared.player.PlayStop.{PlayStop}
 use Rattle.wf_turn.specs.declared.player.PlayStop.TheVariants as stop
 use Rattle.wf_turn.specs.declared.stage.Stage.TheVariants as stage
-use Rattle.wf_turn.proofs.Lefts.{left_before}
+use Rattle.wf_turn.proofs.FewerEventsLeft.{left_before}
 use Rattle.wf_turn.proofs.QuotaSums.{most_40}
 use Rattle.wf_turn.specs.Films.{PlaysSerially, clock_turns}
 use Rattle.wf_turn.specs.Play.{film, head, plain_film}

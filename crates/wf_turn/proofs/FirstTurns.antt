@@ -9,16 +9,16 @@ use Rattle.wf_turn.proofs.Common.{took, worked, all_left, IsFit, Show, answered,
 use Rattle.wf_turn.proofs.Common.{get_map, get_set, Line}
 use Rattle.wf_turn.specs.Serial.{IsFirst}
 use Rattle.wf_words.specs.Places.{map_set}
-use Rattle.wf_turn.proofs.Begins.{Leaves, ended, turn_leaves}
+use Rattle.wf_turn.proofs.FrameOfATurn.{Leaves, ended, turn_leaves}
 use Rattle.wf_turn.proofs.Clients.{first_place}
-use Rattle.wf_turn.proofs.Fitting.{wants}
-use Rattle.wf_turn.proofs.Going.{asks_line}
-use Rattle.wf_turn.proofs.Keeping.{same_script}
-use Rattle.wf_turn.proofs.Lefts.{left_took}
+use Rattle.wf_turn.proofs.ProgramsStayFit.{wants}
+use Rattle.wf_turn.proofs.ProgramsGoOn.{asks_line}
+use Rattle.wf_turn.proofs.AnswersKeep.{same_script}
+use Rattle.wf_turn.proofs.FewerEventsLeft.{left_took}
 use Rattle.wf_turn.proofs.Programs.{at_client, left_inherited, left_set, not_inherited, setup_set}
 use Rattle.wf_turn.proofs.Replays.{TurnOf, turn_of}
-use Rattle.wf_turn.proofs.Shows.{turn_now}
-use Rattle.wf_turn.proofs.Turnings.{free_now, has_line}
+use Rattle.wf_turn.proofs.TurnOfAShow.{turn_now}
+use Rattle.wf_turn.proofs.TurnOfAProgram.{free_now, has_line}
 
 not_not : (b : Bool) → not b ≡ true → b ≡ false
 not_not true is = absurd cc

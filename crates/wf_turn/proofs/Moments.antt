@@ -10,13 +10,13 @@ use Rattle.std.proofs.lemmas.List.Elements.{All-append}
 use Rattle.wf_calls.specs.declared.call.Call.TheVariants as call
 use Rattle.wf_model.specs.Display.{begun_display}
 use Rattle.wf_model.specs.Frames.{port_beginning}
-use Rattle.wf_turn.proofs.Begins.{nothing_shown}
+use Rattle.wf_turn.proofs.FrameOfATurn.{nothing_shown}
 use Rattle.wf_model.specs.Beginnings.{IsOfContext, composed_is}
 use Rattle.wf_model.specs.Objects.{Context}
 use Rattle.wf_turn.proofs.Cases.{turn_case, IsTick}
-use Rattle.wf_turn.proofs.Holding.{Holds, AllHold, issued_hold, opening_hold}
-use Rattle.wf_turn.proofs.Keeping.{worked_painted}
-use Rattle.wf_turn.proofs.Painting.{canvas_painted, frame_painted, IsPainted, done_painted, on_painted}
+use Rattle.wf_turn.proofs.JobThatIsHeld.{Holds, AllHold, issued_hold, opening_hold}
+use Rattle.wf_turn.proofs.AnswersKeep.{worked_painted}
+use Rattle.wf_turn.proofs.JobCanBePainted.{canvas_painted, frame_painted, IsPainted, done_painted, on_painted}
 use Rattle.wf_turn.proofs.Replays.{Step, at_step, order_keeps, taken_turn, turn_of}
 
 -- the turn of a program: what it shows behind the answer, the entry of the answer tells

@@ -3,7 +3,7 @@ use Rattle.wf_turn.proofs.Common.{◌≡◌, ◌∙◌, ℕ, zero, suc, ◌+◌,
 use Rattle.wf_turn.proofs.Common.{refl, sym, ap, subst, arith, set, slice_get, sum_by, IfSome, sum_by-cons, PlainScript}
 use Rattle.wf_turn.proofs.Common.{frames_if, shown_by, Program, in_setup, taught, all_left, left, AreOf, IsFit, all_taught, inherited}
 use Rattle.wf_turn.proofs.Common.{is_setting_up, get_map}
-use Rattle.wf_turn.proofs.Fitting.{fit_taught}
+use Rattle.wf_turn.proofs.ProgramsStayFit.{fit_taught}
 
 -- what is known of the program of a client
 pub record IsOf (script : PlainScript) (client : ℕ) (p : Program) : Type 0 where

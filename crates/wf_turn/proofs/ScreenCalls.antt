@@ -12,8 +12,8 @@ use Rattle.wf_model.specs.Frames.{brought_home, end_frame}
 use Rattle.wf_model.specs.Names.{all_names, settle_if}
 use Rattle.wf_model.specs.Outcome.{found, refuse}
 use Rattle.wf_model.specs.Streams.{acquirable, is_out_at_client, is_out_of, with_stream, stream_made}
-use Rattle.wf_turn.proofs.Screening.{AreFine, BringsHome, at_number, begun_fine, ended_fine, home_fine, of_handle, others_change}
-use Rattle.wf_turn.proofs.Screening.{unnamed_fine, Fine}
+use Rattle.wf_turn.proofs.StreamsOfScreens.{AreFine, BringsHome, at_number, begun_fine, ended_fine, home_fine, of_handle, others_change}
+use Rattle.wf_turn.proofs.StreamsOfScreens.{unnamed_fine, Fine}
 use Rattle.wf_model.specs.Effects.{Effect, acquires, begins, composes, displays, ends, makes, refuses, returns, tells, unnames}
 use Rattle.wf_calls.specs.Parts.{Register, of_device, of_display, register_of, no_register}
 use Rattle.wf_words.specs.Each.{each_filtered, each_more}

@@ -15,9 +15,9 @@ use Rattle.wf_model.specs.Objects.{Context}
 use Rattle.wf_turn.specs.Moments.{AsksContext, Composes, IsComposed, by_line, image_after, in_tick}
 use Rattle.wf_turn.specs.Program.{waiting}
 use Rattle.wf_turn.proofs.Cases.{IsTick, turn_case}
-use Rattle.wf_turn.proofs.Holding.{AllHold, issued_hold, opening_hold, took_holds, Holds}
+use Rattle.wf_turn.proofs.JobThatIsHeld.{AllHold, issued_hold, opening_hold, took_holds, Holds}
 use Rattle.wf_turn.proofs.Replays.{Step, at_step, order_keeps, taken_turn, turn_of}
-use Rattle.wf_turn.proofs.Screening.{AreFine, AreHome, BringsHome, newest_home, screen_composed}
+use Rattle.wf_turn.proofs.StreamsOfScreens.{AreFine, AreHome, BringsHome, newest_home, screen_composed}
 use Rattle.wf_turn.proofs.ScreenCalls.{AreScreens, Carries, step_keeps, carries_none, asks_carry}
 
 module _ (n : ℕ) (Composed : ℕ → Bitmap → Type 0) where

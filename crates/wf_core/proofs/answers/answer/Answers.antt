@@ -1,7 +1,7 @@
 use Rattle.std.proofs.Common.{refl}
 use Rattle.wf_objects.specs.Sides.{KeepsRest}
 use Rattle.wf_core.specs.Steps.{KeepsAll}
-use Rattle.wf_core.proofs.Answering.{carried_out, turned_down}
+use Rattle.wf_core.proofs.CallsAnswered.{carried_out, turned_down}
 use Rattle.wf_core.proofs.answers.answer.Goals as goal
 
 pub returns-in-Ok-clause-steps : goal.returns-in-Ok-clause-steps

@@ -1,5 +1,5 @@
 use Rattle.wf_words.specs.Places.{within}
-use Rattle.wf_core.proofs.Committing.{commit_refused, commit_taken, scene_fits}
+use Rattle.wf_core.proofs.SceneCommitted.{commit_refused, commit_taken, scene_fits}
 use Rattle.wf_objects.specs.Does.{stays}
 use Rattle.std.proofs.Common.{rules}
 use Rattle.wf_core.proofs.commits.try_commit.Goals as goal

@@ -1,5 +1,5 @@
 use Rattle.std.proofs.Common.{◌∙◌, Err, sym, ap}
-use Rattle.wf_core.proofs.Seeing.{context_is, drawable_kept, target_used}
+use Rattle.wf_core.proofs.StreamsSeen.{context_is, drawable_kept, target_used}
 use Rattle.wf_core.proofs.contexts.stream_target.Goals as goal
 
 pub returns-clause-kept : goal.returns-clause-kept

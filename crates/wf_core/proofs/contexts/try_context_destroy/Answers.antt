@@ -2,7 +2,7 @@ use Rattle.wf_objects.specs.Does.{stays}
 use Rattle.std.proofs.Common.{rules}
 use Rattle.wf_model.specs.Core.{context_destroy, without_context}
 use Rattle.wf_objects.specs.Owners.{past_context}
-use Rattle.wf_core.proofs.Destroying.{destroys}
+use Rattle.wf_core.proofs.ObjectsDestroyed.{destroys}
 use Rattle.wf_core.proofs.contexts.try_context_destroy.Goals as goal
 
 pub returns-in_err-place : goal.returns-in_err-place

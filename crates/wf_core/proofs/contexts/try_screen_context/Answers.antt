@@ -3,7 +3,7 @@ use Rattle.std.proofs.Math.Facts.{to_z-of_z}
 use Rattle.wf_scene.specs.declared.look.Seen.{Seen}
 use Rattle.wf_model.specs.Core.{screen_context}
 use Rattle.wf_objects.specs.Does.{as_other, context_made}
-use Rattle.wf_core.proofs.Denials.{refused_asking}
+use Rattle.wf_core.proofs.CreationsRefused.{refused_asking}
 use Rattle.wf_core.proofs.contexts.try_screen_context.Goals as goal
 
 pub returns-in-Err : goal.returns-in-Err

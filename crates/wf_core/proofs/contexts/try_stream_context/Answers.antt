@@ -1,6 +1,6 @@
 use Rattle.wf_model.specs.Core.{stream_context}
 use Rattle.wf_objects.specs.Does.{as_other, context_made}
-use Rattle.wf_core.proofs.Denials.{refused_asking}
+use Rattle.wf_core.proofs.CreationsRefused.{refused_asking}
 use Rattle.wf_core.proofs.contexts.try_stream_context.Goals as goal
 
 pub returns-in-Err : goal.returns-in-Err

@@ -2,7 +2,7 @@ use Rattle.std.proofs.Common.{true}
 use Rattle.wf_words.specs.Places.{within}
 use Rattle.wf_objects.specs.Does.{Step, element_made, in_owned, in_place, refuses}
 use Rattle.wf_objects.specs.Sides.{core_side_of}
-use Rattle.wf_core.proofs.Denials.{no_element}
+use Rattle.wf_core.proofs.CreationsRefused.{no_element}
 use Rattle.wf_objects.specs.Does.{stays}
 use Rattle.std.proofs.Common.{rules}
 use Rattle.wf_core.proofs.denying.deny_element_new.Goals as goal

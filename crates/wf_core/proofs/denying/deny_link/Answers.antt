@@ -1,7 +1,7 @@
 use Rattle.wf_objects.specs.Does.{link_made}
 use Rattle.wf_objects.specs.Sides.{core_side_of}
 use Rattle.wf_core.specs.Links.{link_new}
-use Rattle.wf_core.proofs.Denials.{denied_asking, denied_making, no_link}
+use Rattle.wf_core.proofs.CreationsRefused.{denied_asking, denied_making, no_link}
 use Rattle.wf_core.proofs.denying.deny_link.Goals as goal
 
 pub returns-in-Err : goal.returns-in-Err

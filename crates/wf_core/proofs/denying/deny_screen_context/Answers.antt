@@ -4,7 +4,7 @@ use Rattle.wf_scene.specs.declared.look.Seen.{Seen}
 use Rattle.wf_model.specs.Core.{screen_context}
 use Rattle.wf_objects.specs.Does.{context_made}
 use Rattle.wf_objects.specs.Sides.{core_side_of}
-use Rattle.wf_core.proofs.Denials.{denied_asking, denied_making, no_context}
+use Rattle.wf_core.proofs.CreationsRefused.{denied_asking, denied_making, no_context}
 use Rattle.wf_core.proofs.denying.deny_screen_context.Goals as goal
 
 pub returns-in-Err : goal.returns-in-Err

@@ -5,7 +5,7 @@ use Rattle.wf_words.specs.Places.{within}
 use Rattle.wf_scene.specs.Cached as cached
 use Rattle.wf_model.specs.Composition.{change_context, with_cached}
 use Rattle.wf_objects.specs.Does.{Step, in_owner, in_place}
-use Rattle.wf_core.proofs.Destroying.{destroys}
+use Rattle.wf_core.proofs.ObjectsDestroyed.{destroys}
 use Rattle.wf_core.proofs.elements.try_element_destroy.Goals as goal
 
 pub returns-in_err-place : goal.returns-in_err-place

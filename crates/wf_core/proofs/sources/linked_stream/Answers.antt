@@ -1,7 +1,7 @@
 use Rattle.std.proofs.Common.{◌∙◌, ◌==◌, eq-eqb, sym}
 use Rattle.wf_words.specs.Found.{any_at}
 use Rattle.wf_words.specs.Places.{within}
-use Rattle.wf_core.proofs.Seeing.{link_is}
+use Rattle.wf_core.proofs.StreamsSeen.{link_is}
 use Rattle.wf_core.proofs.sources.linked_stream.Goals as goal
 
 pub returns-clause-asks : goal.returns-clause-asks

@@ -1,6 +1,6 @@
 use Rattle.wf_objects.specs.Does.{as_other, link_made}
 use Rattle.wf_core.specs.Links.{link_new}
-use Rattle.wf_core.proofs.Denials.{refused_asking}
+use Rattle.wf_core.proofs.CreationsRefused.{refused_asking}
 use Rattle.wf_core.proofs.sources.try_link_new.Goals as goal
 
 pub returns-in-Err : goal.returns-in-Err

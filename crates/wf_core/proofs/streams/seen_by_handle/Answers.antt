@@ -1,6 +1,6 @@
 use Rattle.std.proofs.Common.{◌∙◌, ap}
 use Rattle.wf_model.specs.Composition.{by_handle, seen_stream}
-use Rattle.wf_core.proofs.Seeing.{seen_again}
+use Rattle.wf_core.proofs.StreamsSeen.{seen_again}
 use Rattle.wf_core.proofs.streams.seen_by_handle.Goals as goal
 
 pub returns-in-Ok-clause-seen : goal.returns-in-Ok-clause-seen

@@ -1,4 +1,4 @@
-use Rattle.wf_core.proofs.Seeing.{seen_number}
+use Rattle.wf_core.proofs.StreamsSeen.{seen_number}
 use Rattle.wf_core.proofs.streams.seen_by_number.Goals as goal
 
 pub returns-in-Some : goal.returns-in-Some

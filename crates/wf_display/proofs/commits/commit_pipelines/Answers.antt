@@ -1,8 +1,8 @@
 use Rattle.std.proofs.Common.{◌<◌, arith, length, refl}
 use Rattle.wf_model.specs.Numbered.{from_step}
-use Rattle.wf_display.proofs.Keeping.{pipeline_after}
+use Rattle.wf_display.proofs.FramesAndCommitsFit.{pipeline_after}
 use Rattle.wf_display.proofs.NameCounts.{committed_names, source_names}
-use Rattle.wf_display.proofs.Renaming.{enough_room, new_kept, none_renamed, old_fit, one_renamed}
+use Rattle.wf_display.proofs.PipelineNames.{enough_room, new_kept, none_renamed, old_fit, one_renamed}
 use Rattle.wf_display.proofs.commits.commit_pipelines.Goals as goal
 
 pub loop-place-init : goal.loop-place-init

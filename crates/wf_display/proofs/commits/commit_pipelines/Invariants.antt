@@ -2,7 +2,7 @@ use Rattle.std.proofs.Common.{◌≡◌, ◌++◌, drop, take}
 use Rattle.std.specs.Prelude.{if◌then◌else◌}
 use Rattle.wf_model.specs.Numbered.{each_from}
 use Rattle.wf_model.specs.DisplayCommits.{committed_pipeline, takes_pipeline}
-use Rattle.wf_display.proofs.Renaming.{Renamed}
+use Rattle.wf_display.proofs.PipelineNames.{Renamed}
 use Rattle.wf_display.proofs.commits.commit_pipelines.Given as goal
 
 -- what was passed is committed where it is taken, and the rest is not yet; the store counts the names of all

@@ -3,7 +3,7 @@ use Rattle.std.specs.Prelude.{if◌then◌else◌}
 use Rattle.wf_model.specs.declared.display.Port.{Port}
 use Rattle.wf_model.specs.DisplayCommits.{committed_port, takes_port}
 use Rattle.wf_model.specs.Numbered.{from_step}
-use Rattle.wf_display.proofs.Setting.{same_default}
+use Rattle.wf_display.proofs.AttributesSet.{same_default}
 use Rattle.wf_display.proofs.commits.commit_ports.Goals as goal
 
 pub loop-place-preserved : goal.loop-place-preserved

@@ -1,6 +1,6 @@
 use Rattle.std.proofs.Common.{[], ◌∷◌}
 use Rattle.wf_stream.specs.Names.{still_counted}
-use Rattle.wf_display.proofs.Renaming.{both_begin, second_fits}
+use Rattle.wf_display.proofs.PipelineNames.{both_begin, second_fits}
 use Rattle.wf_display.proofs.naming.begin_names.Goals as goal
 
 pub begin_name-requires-in-Some-clause-counted : goal.begin_name-requires-in-Some-clause-counted

@@ -1,6 +1,6 @@
 use Rattle.std.proofs.Common.{[], ◌∷◌}
 use Rattle.wf_stream.specs.Names.{still_counted}
-use Rattle.wf_display.proofs.Renaming.{both_end, second_ends}
+use Rattle.wf_display.proofs.PipelineNames.{both_end, second_ends}
 use Rattle.wf_display.proofs.naming.end_names.Goals as goal
 
 pub end_name-requires-in-Some-clause-counted : goal.end_name-requires-in-Some-clause-counted

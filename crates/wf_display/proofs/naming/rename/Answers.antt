@@ -1,5 +1,5 @@
 use Rattle.wf_model.specs.Names.{pipeline_names}
-use Rattle.wf_display.proofs.Renaming.{begun_fit, replaced}
+use Rattle.wf_display.proofs.PipelineNames.{begun_fit, replaced}
 use Rattle.wf_display.proofs.naming.rename.Goals as goal
 
 pub end_names-requires : goal.end_names-requires

@@ -2,7 +2,7 @@ use Rattle.std.proofs.Common.{◌<◌, [], arith, length, refl}
 use Rattle.wf_model.specs.Display.{begun_pipeline}
 use Rattle.wf_words.specs.Places.{map_step}
 use Rattle.wf_display.proofs.NameCounts.{begun_names}
-use Rattle.wf_display.proofs.Renaming.{enough_room, new_kept, none_renamed, old_fit, one_renamed}
+use Rattle.wf_display.proofs.PipelineNames.{enough_room, new_kept, none_renamed, old_fit, one_renamed}
 use Rattle.wf_display.proofs.scenes.begin_pipelines.Goals as goal
 
 pub loop-place-init : goal.loop-place-init

@@ -1,6 +1,6 @@
 use Rattle.std.proofs.Common.{◌≡◌, ◌++◌, drop, map, take}
 use Rattle.wf_model.specs.Display.{begun_pipeline}
-use Rattle.wf_display.proofs.Renaming.{Renamed}
+use Rattle.wf_display.proofs.PipelineNames.{Renamed}
 use Rattle.wf_display.proofs.scenes.begin_pipelines.Given as goal
 
 -- what was passed is as at the frame, and the rest is not yet; the store counts the names of all

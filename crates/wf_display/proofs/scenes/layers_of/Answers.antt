@@ -1,7 +1,7 @@
 use Rattle.std.proofs.Common.{◌∙◌, ◌++◌, ◌∷◌, ap, arith, sym, take}
 use Rattle.std.specs.Prelude.{filter_map, option_to_list}
 use Rattle.wf_model.specs.Display.{pipeline_layer}
-use Rattle.wf_display.proofs.Layering.{given_more}
+use Rattle.wf_display.proofs.PipelineLayersFit.{given_more}
 use Rattle.wf_display.proofs.scenes.layers_of.Goals as goal
 
 pub loop-pipeline-preserved : goal.loop-pipeline-preserved

@@ -1,7 +1,7 @@
 use Rattle.std.proofs.Common.{◌∙◌, Err, ap, false, sym, true}
 use Rattle.std.specs.Option.{option_copied}
 use Rattle.wf_pixel.specs.Choice.{is_a8}
-use Rattle.wf_display.proofs.Making.{found_format, is_kept}
+use Rattle.wf_display.proofs.SourcesMade.{found_format, is_kept}
 use Rattle.wf_display.proofs.sources.pixel_stream.Goals as goal
 
 pub unreachable-requires : goal.unreachable-requires

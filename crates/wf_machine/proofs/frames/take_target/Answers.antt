@@ -1,5 +1,5 @@
 use Rattle.wf_machine.proofs.Common.{subst, ◌∙◌, IsReady}
-use Rattle.wf_machine.proofs.Starting.{all_home}
+use Rattle.wf_machine.proofs.FrameStarts.{all_home}
 use Rattle.wf_machine.proofs.frames.take_target.Goals as goal
 
 pub returns-in-Context-clause-away : goal.returns-in-Context-clause-away

@@ -1,6 +1,6 @@
 use Rattle.wf_machine.proofs.Common.{◌≡◌, ℕ, ◌++◌, [], ◌∷◌, sym, ap, subst, ◌∙◌, append-nil, returned, StoreView, change_stream}
 use Rattle.wf_machine.proofs.Common.{brought_home, Bitmap, Awaits}
-use Rattle.wf_machine.proofs.Homes.{home_more, next_awaited, next_home, none_home, still_awaits}
+use Rattle.wf_machine.proofs.ImagesAreHome.{home_more, next_awaited, next_home, none_home, still_awaits}
 use Rattle.wf_machine.proofs.latching.bring_home.Goals as goal
 
 pub loop-number-init : goal.loop-number-init

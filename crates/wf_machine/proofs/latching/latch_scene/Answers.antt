@@ -1,5 +1,5 @@
 use Rattle.wf_machine.proofs.Common.{◌+◌, ◌≤◌, ◌∙◌, length, map, sym, ap, subst, arith, content_shape}
-use Rattle.wf_machine.proofs.Latches.{IsTaken, few_step, names_more, nothing_taken, take_home, take_step}
+use Rattle.wf_machine.proofs.StreamsLatched.{IsTaken, few_step, names_more, nothing_taken, take_home, take_step}
 use Rattle.wf_machine.proofs.latching.latch_scene.Goals as goal
 
 pub loop-layer-init : goal.loop-layer-init

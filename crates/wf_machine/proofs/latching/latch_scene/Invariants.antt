@@ -1,5 +1,5 @@
 use Rattle.wf_machine.proofs.Common.{◌≡◌, ◌*◌, ◌≤◌, length, map, take, flat_map, once, content_shape, layer_names}
-use Rattle.wf_machine.proofs.Latches.{IsTaken}
+use Rattle.wf_machine.proofs.StreamsLatched.{IsTaken}
 use Rattle.wf_machine.proofs.latching.latch_scene.Given as goal
 
 -- the streams of the layers so far were latched, and the shapes are those of the images

@@ -1,5 +1,5 @@
 use Rattle.wf_machine.proofs.Common.{◌∙◌, ◌==◌, ◌||◌, ap, list_any}
-use Rattle.wf_machine.proofs.InOnce.{scene_names}
+use Rattle.wf_machine.proofs.NamesInScene.{scene_names}
 use Rattle.wf_machine.proofs.latching.names.Goals as goal
 
 pub returns : goal.returns

@@ -1,5 +1,5 @@
 use Rattle.wf_machine.proofs.Common.{subst, sym, latched, AreShapedAs}
-use Rattle.wf_machine.proofs.Latches.{latched_keeps, shaped_changed, shaped_more}
+use Rattle.wf_machine.proofs.StreamsLatched.{latched_keeps, shaped_changed, shaped_more}
 use Rattle.wf_machine.proofs.latching.take.Goals as goal
 
 pub returns-in-Some-clause-shaped : goal.returns-in-Some-clause-shaped

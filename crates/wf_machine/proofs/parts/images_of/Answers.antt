@@ -1,5 +1,5 @@
 use Rattle.wf_machine.proofs.Common.{◌++◌, ◌∷◌, [], length, take, sym, ap, subst, ◌∙◌, arith, length-append, take_more}
-use Rattle.wf_machine.proofs.Opening.{HaveImages, declared_ports, may_at, more_images}
+use Rattle.wf_machine.proofs.MachineOpened.{HaveImages, declared_ports, may_at, more_images}
 use Rattle.wf_machine.proofs.parts.images_of.Goals as goal
 
 pub loop-modes-preserved : goal.loop-modes-preserved

@@ -1,5 +1,5 @@
 use Rattle.wf_machine.proofs.Common.{◌≡◌, ◌≤◌, length, take, vec_capacity}
-use Rattle.wf_machine.proofs.Opening.{HaveImages}
+use Rattle.wf_machine.proofs.MachineOpened.{HaveImages}
 use Rattle.wf_machine.proofs.parts.images_of.Given as goal
 
 -- the ports so far have their images

@@ -3,7 +3,7 @@ use Rattle.wf_turn.specs.Going.{GoesOn}
 use Rattle.wf_turn.specs.Program.{next, took, worked}
 use Rattle.wf_turn.specs.Ready.{IsWork}
 use Rattle.wf_show.specs.Running.{RunsSoFar}
-use Rattle.wf_show.proofs.Steppings.{goes_once, gone, starts}
+use Rattle.wf_show.proofs.CallThroughAPass.{goes_once, gone, starts}
 use Rattle.wf_show.proofs.client.run_client.Goals as goal
 
 pub loop-wanted-init : goal.loop-wanted-init

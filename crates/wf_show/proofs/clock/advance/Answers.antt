@@ -2,7 +2,7 @@ use Rattle.std.proofs.Common.{◌≡◌, ◌∙◌, Some, sym, ap, subst}
 use Rattle.wf_turn.specs.Going.{GoesOn}
 use Rattle.wf_turn.specs.Program.{is_work, next, took, worked}
 use Rattle.wf_turn.specs.Ready.{IsWork}
-use Rattle.wf_show.proofs.Advances.{advances, gone_is}
+use Rattle.wf_show.proofs.CallOfTheClock.{advances, gone_is}
 use Rattle.wf_show.proofs.clock.advance.Goals as goal
 
 pub paint_rows-requires-clause-work : goal.paint_rows-requires-clause-work

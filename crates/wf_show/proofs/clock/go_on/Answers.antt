@@ -1,4 +1,4 @@
-use Rattle.wf_show.proofs.Showings.{cut_later}
+use Rattle.wf_show.proofs.FramesOfTheClock.{cut_later}
 use Rattle.wf_show.proofs.clock.go_on.Goals as goal
 
 pub returns-in-Err-clause-part : goal.returns-in-Err-clause-part

@@ -3,7 +3,7 @@ use Rattle.std.specs.Prelude.{flat_map}
 use Rattle.wf_film.specs.Film.{frame_bytes}
 use Rattle.wf_io.specs.Bytes.{PutsPart}
 use Rattle.wf_turn.specs.Playing.{job_frames}
-use Rattle.wf_show.proofs.Showings.{asks_again, cut, sets_both, still_inside}
+use Rattle.wf_show.proofs.FramesOfTheClock.{asks_again, cut, sets_both, still_inside}
 use Rattle.wf_show.proofs.clock.step.Goals as goal
 
 pub advance-requires-in-Err-clause-more : goal.advance-requires-in-Err-clause-more

@@ -1,6 +1,6 @@
 use Rattle.std.proofs.Common.{length, ap, arith}
 use Rattle.std.proofs.lemmas.List.{length-append}
-use Rattle.wf_show.proofs.Seating.{length_passes}
+use Rattle.wf_show.proofs.PassesAtTheEnd.{length_passes}
 use Rattle.wf_show.proofs.closing.gather.Goals as goal
 
 pub push_reserved-requires-in-loop-player : goal.push_reserved-requires-in-loop-player

@@ -1,4 +1,4 @@
-use Rattle.wf_show.proofs.Wholes.{is_order}
+use Rattle.wf_show.proofs.OrderOfAHistory.{is_order}
 use Rattle.wf_show.proofs.laws.clients_make_an_order.Goals as goal
 
 pub returns : goal.returns

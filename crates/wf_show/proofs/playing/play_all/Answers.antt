@@ -3,8 +3,8 @@ use Rattle.wf_film.specs.Film.{Writing, magic}
 use Rattle.wf_show.specs.Clocks.{Cuts, IsClock, Shows}
 use Rattle.wf_show.specs.declared.player.Player.{Player}
 use Rattle.wf_show.specs.Running.{PlainPass}
-use Rattle.wf_show.proofs.Showings.{all_filmed, both_shown, cut_later, cut_script, cut_sees}
-use Rattle.wf_show.proofs.Telling.{all_play, first_clock, first_setting}
+use Rattle.wf_show.proofs.FramesOfTheClock.{all_filmed, both_shown, cut_later, cut_script, cut_sees}
+use Rattle.wf_show.proofs.PlayersAtTheStart.{all_play, first_clock, first_setting}
 use Rattle.wf_show.proofs.playing.play_all.Goals as goal
 
 pub play_others-requires-clause-clock : goal.play_others-requires-clause-clock

@@ -1,6 +1,6 @@
 use Rattle.std.proofs.Common.{◌∙◌, inl, refl, sym}
-use Rattle.wf_show.proofs.Showings.{no_more}
-use Rattle.wf_show.proofs.Telling.{all_play}
+use Rattle.wf_show.proofs.FramesOfTheClock.{no_more}
+use Rattle.wf_show.proofs.PlayersAtTheStart.{all_play}
 use Rattle.wf_show.proofs.playing.play_others.Goals as goal
 
 pub returns-then-not-in_setup-clause-ended : goal.returns-then-not-in_setup-clause-ended

@@ -1,6 +1,6 @@
 use Rattle.wf_turn.proofs.Common.{◌≡◌, ◌∙◌, ◌++◌, ◌∷◌, [], ◌+◌, ap, sym, map, arith, range_with_len, program}
 use Rattle.std.proofs.lemmas.List.{map-append}
-use Rattle.wf_turn.proofs.Openings.{range_more}
+use Rattle.wf_turn.proofs.ShowAtTheStart.{range_more}
 use Rattle.wf_turn.proofs.cast.open_others.Goals as goal
 
 pub loop-before-preserved : goal.loop-before-preserved

@@ -1,6 +1,6 @@
 use Rattle.wf_turn.proofs.Common.{◌∙◌, ap, sym, get_or, taught}
 use Rattle.wf_words.specs.Places.{map_all, map_step, next_is}
-use Rattle.wf_turn.proofs.Teaching.{script_at}
+use Rattle.wf_turn.proofs.ListsMapped.{script_at}
 use Rattle.wf_turn.proofs.cast.teach.Goals as goal
 
 pub learn-requires-clause-script : goal.learn-requires-clause-script

@@ -1,4 +1,4 @@
-use Rattle.wf_turn.proofs.Playings.{stopped}
+use Rattle.wf_turn.proofs.TurnsPlayed.{stopped}
 use Rattle.wf_turn.proofs.player.play_turn.Goals as goal
 
 pub returns-in-Err-clause-part : goal.returns-in-Err-clause-part

@@ -1,5 +1,5 @@
 use Rattle.wf_turn.proofs.Common.{◌∙◌, ap, arith, length, refl, sym, subst, IsNextTurn, IsRun, Plays}
-use Rattle.wf_turn.proofs.Playings.{none_played, one_played, one_stopped}
+use Rattle.wf_turn.proofs.TurnsPlayed.{none_played, one_played, one_stopped}
 use Rattle.wf_turn.proofs.Serials.{run_more}
 use Rattle.wf_turn.proofs.player.play_turns.Goals as goal
 

@@ -1,5 +1,5 @@
 use Rattle.wf_turn.proofs.Common.{vec_capacity, all_left}
-use Rattle.wf_turn.proofs.Playings.{IsPlaying}
+use Rattle.wf_turn.proofs.TurnsPlayed.{IsPlaying}
 use Rattle.wf_turn.proofs.player.play_turns.Given as goal
 
 abbrev pub invariant-loop-client : goal.invariant-loop-client

@@ -1,7 +1,7 @@
 use Rattle.wf_turn.proofs.Common.{◌∙◌, ◌+◌, ap, arith, refl}
 use Rattle.wf_turn.specs.Played.{Replays}
-use Rattle.wf_turn.proofs.Entries.{none_entered, one_entered}
-use Rattle.wf_turn.proofs.Playings.{none_played}
+use Rattle.wf_turn.proofs.EntriesPlayedAgain.{none_entered, one_entered}
+use Rattle.wf_turn.proofs.TurnsPlayed.{none_played}
 use Rattle.wf_turn.proofs.Serials.{nothing_replayed}
 use Rattle.wf_turn.proofs.replaying.play_entries.Goals as goal
 

@@ -1,4 +1,4 @@
-use Rattle.wf_turn.proofs.Entries.{ArePlayed}
+use Rattle.wf_turn.proofs.EntriesPlayedAgain.{ArePlayed}
 use Rattle.wf_turn.proofs.replaying.play_entries.Given as goal
 
 abbrev pub invariant-loop-place : goal.invariant-loop-place

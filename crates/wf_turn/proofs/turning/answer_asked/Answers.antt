@@ -1,7 +1,8 @@
 use Rattle.wf_turn.proofs.Common.{◌∙◌, sym}
 use Rattle.wf_turn.specs.Asked.{as_wanted}
-use Rattle.wf_turn.proofs.Asked.{asked_answers, begins_asked, ends_asked, not_nothing, not_waiting, some_next, stuck_now, wanted_of}
-use Rattle.wf_turn.proofs.Turnings.{free_now}
+use Rattle.wf_turn.proofs.AsksAreNextCalls.{asked_answers, begins_asked, ends_asked, not_nothing, not_waiting, some_next, stuck_now}
+use Rattle.wf_turn.proofs.AsksAreNextCalls.{wanted_of}
+use Rattle.wf_turn.proofs.TurnOfAProgram.{free_now}
 use Rattle.wf_turn.proofs.turning.answer_asked.Goals as goal
 
 pub returns-then-is_stuck : goal.returns-then-is_stuck

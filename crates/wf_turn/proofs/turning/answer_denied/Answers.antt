@@ -1,7 +1,7 @@
 use Rattle.wf_turn.proofs.Common.{◌≡◌, ◌∙◌, Some, sym, next, true}
 use Rattle.wf_turn.specs.declared.stage.Asks.TheVariants as asks
-use Rattle.wf_turn.proofs.Asked.{handed_answers}
-use Rattle.wf_turn.proofs.Turnings.{free_now, waits_is, waits_now}
+use Rattle.wf_turn.proofs.AsksAreNextCalls.{handed_answers}
+use Rattle.wf_turn.proofs.TurnOfAProgram.{free_now, waits_is, waits_now}
 use Rattle.wf_turn.proofs.turning.answer_denied.Goals as goal
 
 pub returns-then-waits : goal.returns-then-waits

@@ -1,6 +1,6 @@
 use Rattle.wf_turn.proofs.Common.{with_canvas}
 use Rattle.wf_calls.specs.declared.call.Call.TheVariants as call
-use Rattle.wf_turn.proofs.Asked.{end_asked, step_answers}
+use Rattle.wf_turn.proofs.AsksAreNextCalls.{end_asked, step_answers}
 use Rattle.wf_turn.proofs.turning.take_asked.Goals as goal
 
 pub returns-in-Call : goal.returns-in-Call

@@ -3,7 +3,7 @@ use Rattle.wf_calls.specs.Places.{job_in}
 use Rattle.wf_calls.specs.Requests.{call_of}
 use Rattle.wf_turn.specs.Asked.{takes_job}
 use Rattle.wf_turn.specs.Inside.{program_of}
-use Rattle.wf_turn.proofs.Asked.{step_answers, took_begun}
+use Rattle.wf_turn.proofs.AsksAreNextCalls.{step_answers, took_begun}
 use Rattle.wf_turn.proofs.turning.take_begin.Goals as goal
 
 pub returns : goal.returns

@@ -1,6 +1,6 @@
 use Rattle.wf_turn.proofs.Common.{◌≡◌, ◌∙◌, sym, bare}
 use Rattle.wf_calls.specs.Requests.{call_of}
-use Rattle.wf_turn.proofs.Asked.{step_answers}
+use Rattle.wf_turn.proofs.AsksAreNextCalls.{step_answers}
 use Rattle.wf_turn.proofs.turning.take_called.Goals as goal
 
 pub returns-in-Some : goal.returns-in-Some

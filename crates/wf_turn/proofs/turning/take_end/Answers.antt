@@ -3,7 +3,7 @@ use Rattle.wf_calls.specs.declared.call.Call.TheVariants as call
 use Rattle.wf_calls.specs.Places.{job_in}
 use Rattle.wf_turn.specs.Asked.{is_ending}
 use Rattle.wf_turn.specs.Inside.{program_of}
-use Rattle.wf_turn.proofs.Asked.{end_answers, took_ended}
+use Rattle.wf_turn.proofs.AsksAreNextCalls.{end_answers, took_ended}
 use Rattle.wf_turn.proofs.turning.take_end.Goals as goal
 
 pub returns : goal.returns

@@ -1,4 +1,4 @@
-use Rattle.wf_turn.proofs.Turnings.{takes, work_now}
+use Rattle.wf_turn.proofs.TurnOfAProgram.{takes, work_now}
 use Rattle.wf_turn.proofs.turning.take_turn.Goals as goal
 
 pub paint-requires : goal.paint-requires

@@ -1,6 +1,6 @@
 use Rattle.std.proofs.Common.{sym, subst}
 use Rattle.wf_desk.specs.Ending.{Ends}
-use Rattle.wf_desk.proofs.Closes.{closes, not_empty, taken}
+use Rattle.wf_desk.proofs.TableAtTheEnd.{closes, not_empty, taken}
 use Rattle.wf_desk.proofs.board.Board.end.Goals as goal
 
 pub unreachable-requires : goal.unreachable-requires

@@ -2,7 +2,7 @@ use Rattle.std.proofs.Common.{ap, subst, ◌∙◌, ◌++◌, ◌∷◌, [], len
 use lib.ListN.{get_elem?}
 use Rattle.wf_desk.specs.Ending.{hand_of}
 use Rattle.wf_desk.specs.History.{events_of}
-use Rattle.wf_desk.proofs.Whole.{all_read, middle, own_more, own_none}
+use Rattle.wf_desk.proofs.OneHistoryOfAllPasses.{all_read, middle, own_more, own_none}
 use Rattle.wf_desk.proofs.board.Board.gather.Goals as goal
 
 pub observer-seat-requires-after_bounds : goal.observer-seat-requires-after_bounds

@@ -1,5 +1,5 @@
 use Rattle.std.proofs.Common.{rules}
-use Rattle.wf_desk.proofs.Growing.{records}
+use Rattle.wf_desk.proofs.HistoryGrows.{records}
 use Rattle.wf_desk.proofs.board.Board.record.Goals as goal
 
 pub fetch_add-requires : goal.fetch_add-requires

@@ -1,8 +1,8 @@
 use Rattle.std.proofs.Common.{sym, subst, length}
 use Rattle.wf_desk.specs.Desk.{AreAll, IsClosing}
 use Rattle.wf_desk.specs.Ending.{Covers, Ends}
-use Rattle.wf_desk.proofs.Whole.{covers}
-use Rattle.wf_desk.proofs.Closes.{closing}
+use Rattle.wf_desk.proofs.OneHistoryOfAllPasses.{covers}
+use Rattle.wf_desk.proofs.TableAtTheEnd.{closing}
 use Rattle.wf_desk.proofs.desk.Desk.close.Goals as goal
 
 pub end-requires-clause-all : goal.end-requires-clause-all

@@ -3,7 +3,7 @@ use Rattle.wf_desk.specs.Inside.{known}
 use Rattle.wf_desk.specs.Plays.{at_stage, noting, AllMine}
 use Rattle.wf_desk.specs.History.{IsLegal, IsPrefix}
 use Rattle.wf_desk.proofs.Seats.{notes, tells}
-use Rattle.wf_desk.proofs.Growing.{catches}
+use Rattle.wf_desk.proofs.HistoryGrows.{catches}
 use Rattle.wf_desk.proofs.Passes.{sits_told, known_told, sits_same, sits_own}
 use Rattle.wf_desk.proofs.desk.Desk.tell.Goals as goal
 

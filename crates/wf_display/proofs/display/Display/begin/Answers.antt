@@ -7,9 +7,9 @@ use Rattle.wf_model.specs.Names.{display_names}
 use Rattle.wf_display.specs.Display.{IsDisplay}
 use Rattle.wf_display.specs.Fits.{Fits}
 use Rattle.wf_display.specs.Inside.{display_of}
-use Rattle.wf_display.proofs.Keeping.{begun_fits, begun_holds}
+use Rattle.wf_display.proofs.FramesAndCommitsFit.{begun_fits, begun_holds}
 use Rattle.wf_display.proofs.NameCounts.{pipelines_names}
-use Rattle.wf_display.proofs.Renaming.{objects_renamed, pipelines_fit, renamed_fits}
+use Rattle.wf_display.proofs.PipelineNames.{objects_renamed, pipelines_fit, renamed_fits}
 use Rattle.wf_display.proofs.display.Display.begin.Goals as goal
 use Rattle.wf_display.proofs.display.Display.begin.Goals.{After-self-1}
 

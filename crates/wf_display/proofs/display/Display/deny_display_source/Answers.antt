@@ -5,7 +5,7 @@ use Rattle.wf_display.specs.Sides.{display_side_of}
 use Rattle.wf_display.proofs.display.Display.deny_display_source.Goals.{then-all_sources-via-else-all_sources+then-full}
 use Rattle.wf_display.proofs.display.Display.deny_display_source.Goals.{then-all_sources-via-then-all_sources}
 use Rattle.std.proofs.Common.{arith, ◌≡◌, ◌∙◌, ◌||◌, Ok, Err, ap, refl, sym, true, false, rules}
-use Rattle.wf_display.proofs.Setting.{stays, some_pipeline, or_true}
+use Rattle.wf_display.proofs.AttributesSet.{stays, some_pipeline, or_true}
 use Rattle.std.proofs.lemmas.Grind.{common_steps}
 use Rattle.wf_display.proofs.display.Display.deny_display_source.Goals as goal
 

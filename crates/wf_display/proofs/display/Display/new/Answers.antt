@@ -10,7 +10,7 @@ use Rattle.wf_model.specs.State.{DisplayState, initial_pipeline, initial_port, o
 use Rattle.wf_display.specs.Display.{IsDisplay}
 use Rattle.wf_display.specs.Fits.{Fits}
 use Rattle.wf_display.specs.Opening.{with_screens}
-use Rattle.wf_display.proofs.Opened.{declared_of, first_of, may_at, more_screens, opened_fits, opened_holds}
+use Rattle.wf_display.proofs.DisplayOpened.{declared_of, first_of, may_at, more_screens, opened_fits, opened_holds}
 use Rattle.wf_display.proofs.display.Display.new.Goals as goal
 use Rattle.wf_display.proofs.display.Display.new.Goals.{In_ok-with_capacity}
 

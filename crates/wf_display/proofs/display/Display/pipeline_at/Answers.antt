@@ -1,7 +1,7 @@
 use Rattle.std.proofs.Common.{ap, arith, inl, inr, length}
 use Rattle.std.proofs.Math.Facts.{to_z-of_z}
 use Rattle.std.proofs.lemmas.Int.{ints}
-use Rattle.wf_display.proofs.Setting.{none_at}
+use Rattle.wf_display.proofs.AttributesSet.{none_at}
 use Rattle.wf_display.proofs.display.Display.pipeline_at.Goals as goal
 use Rattle.wf_display.proofs.display.Display.pipeline_at.Goals.{else-number-ge1-via-then-number-ge1+else-number-len}
 use Rattle.wf_display.proofs.display.Display.pipeline_at.Goals.{else-number-ge1-via-else-number-ge1}

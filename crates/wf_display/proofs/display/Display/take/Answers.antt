@@ -8,9 +8,9 @@ use Rattle.wf_model.specs.Numbered.{each_from}
 use Rattle.wf_display.specs.Display.{IsDisplay}
 use Rattle.wf_display.specs.Fits.{Fits}
 use Rattle.wf_display.specs.Inside.{display_of}
-use Rattle.wf_display.proofs.Keeping.{as_many_given, committed_display, committed_fits, pipeline_after, port_after}
+use Rattle.wf_display.proofs.FramesAndCommitsFit.{as_many_given, committed_display, committed_fits, pipeline_after, port_after}
 use Rattle.wf_display.proofs.NameCounts.{pipelines_names, source_names}
-use Rattle.wf_display.proofs.Renaming.{objects_renamed, renamed_fits, shown_fit}
+use Rattle.wf_display.proofs.PipelineNames.{objects_renamed, renamed_fits, shown_fit}
 use Rattle.wf_display.proofs.display.Display.take.Goals as goal
 use Rattle.wf_display.proofs.display.Display.take.Goals.{After-self-2-1}
 

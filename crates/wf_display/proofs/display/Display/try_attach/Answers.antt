@@ -5,7 +5,7 @@ use Rattle.wf_model.specs.DisplaySides.{on_display}
 use Rattle.wf_model.specs.Ports.{attach, with_attached}
 use Rattle.wf_scene.specs.Values.{flag_of}
 use Rattle.wf_display.specs.Does.{Does}
-use Rattle.wf_display.proofs.Setting.{port_is, port_set as sets, read_at, stays, refuses, some_port}
+use Rattle.wf_display.proofs.AttributesSet.{port_is, port_set as sets, read_at, stays, refuses, some_port}
 use Rattle.wf_display.proofs.display.Display.try_attach.Goals as goal
 
 pub returns : goal.returns

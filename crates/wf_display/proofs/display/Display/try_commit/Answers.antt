@@ -1,5 +1,5 @@
 use Rattle.std.proofs.Common.{arith}
-use Rattle.wf_display.proofs.Setting.{stays}
+use Rattle.wf_display.proofs.AttributesSet.{stays}
 use Rattle.std.proofs.lemmas.Grind.{common_steps}
 use Rattle.wf_display.proofs.display.Display.try_commit.Goals as goal
 

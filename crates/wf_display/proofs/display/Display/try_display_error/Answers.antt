@@ -4,7 +4,7 @@ use Rattle.wf_model.specs.Registers.{display_error}
 use Rattle.wf_model.specs.DisplaySides.{on_display}
 use Rattle.wf_model.specs.State.{DisplayState}
 use Rattle.wf_display.specs.Does.{Does}
-use Rattle.wf_display.proofs.Setting.{alone}
+use Rattle.wf_display.proofs.AttributesSet.{alone}
 use Rattle.wf_display.proofs.display.Display.try_display_error.Goals as goal
 
 pub returns : goal.returns

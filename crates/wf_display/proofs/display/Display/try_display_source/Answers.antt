@@ -8,8 +8,8 @@ use Rattle.wf_stream.specs.Names.{Recounts, but_names}
 use Rattle.wf_display.specs.Does.{Does}
 use Rattle.wf_display.specs.Inside.{display_of}
 use Rattle.std.proofs.lemmas.Grind.{common_steps}
-use Rattle.wf_display.proofs.Making.{refuses_handle, source_does}
-use Rattle.wf_display.proofs.Setting.{pipeline_is, stays, some_pipeline}
+use Rattle.wf_display.proofs.SourcesMade.{refuses_handle, source_does}
+use Rattle.wf_display.proofs.AttributesSet.{pipeline_is, stays, some_pipeline}
 use Rattle.wf_display.proofs.display.Display.try_display_source.Goals as goal
 
 pub returns : goal.returns

@@ -7,8 +7,8 @@ use Rattle.wf_model.specs.Pipelines.{display_source_destroy, without_source}
 use Rattle.wf_model.specs.State.{DisplayState}
 use Rattle.wf_display.specs.Does.{Does}
 use Rattle.wf_display.specs.Inside.{display_of}
-use Rattle.wf_display.proofs.Making.{destroy_does, source_lives, stream_released}
-use Rattle.wf_display.proofs.Setting.{or_true, refuses}
+use Rattle.wf_display.proofs.SourcesMade.{destroy_does, source_lives, stream_released}
+use Rattle.wf_display.proofs.AttributesSet.{or_true, refuses}
 use Rattle.wf_display.proofs.display.Display.try_display_source_destroy.Goals as goal
 
 -- what is found of the source

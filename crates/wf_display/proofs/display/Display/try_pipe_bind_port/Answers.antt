@@ -4,7 +4,7 @@ use Rattle.std.proofs.Math.Facts.{to_z-of_z}
 use Rattle.wf_model.specs.DisplaySides.{on_display}
 use Rattle.wf_model.specs.Pipelines.{named_port, pipe_bind_port, with_port_of}
 use Rattle.wf_display.specs.Does.{Does}
-use Rattle.wf_display.proofs.Setting.{pipeline_is, pipeline_set, read_at, stays}
+use Rattle.wf_display.proofs.AttributesSet.{pipeline_is, pipeline_set, read_at, stays}
 use Rattle.wf_display.proofs.display.Display.try_pipe_bind_port.Goals as goal
 
 pub returns : goal.returns

@@ -3,7 +3,7 @@ use Rattle.std.proofs.Common.{◌≡◌, Err, None, ap, sym, arith, Some, refl}
 use Rattle.std.proofs.Math.Facts.{to_z-of_z}
 use Rattle.wf_scene.specs.Values.{at_index}
 use Rattle.wf_model.specs.Pipelines.{pipe_get, pipeline_numbers}
-use Rattle.wf_display.proofs.Setting.{pipeline_is, read_at, refuses, stays, alone}
+use Rattle.wf_display.proofs.AttributesSet.{pipeline_is, read_at, refuses, stays, alone}
 use Rattle.wf_display.proofs.display.Display.try_pipe_get.Goals as goal
 
 pub returns-in-None : goal.returns-in-None

@@ -7,7 +7,7 @@ use Rattle.wf_words.specs.Each.{each_at, each_set}
 use Rattle.wf_display.specs.Display.{IsPipeline}
 use Rattle.wf_display.specs.Does.{Does}
 use Rattle.wf_display.proofs.Styles.{style_sound}
-use Rattle.wf_display.proofs.Setting.{pipeline_is, pipeline_set, read_at, read_twice, refuses, stays}
+use Rattle.wf_display.proofs.AttributesSet.{pipeline_is, pipeline_set, read_at, read_twice, refuses, stays}
 use Rattle.wf_display.proofs.display.Display.try_pipe_set.Goals as goal
 
 pub returns : goal.returns

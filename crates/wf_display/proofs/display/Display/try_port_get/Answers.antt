@@ -6,7 +6,7 @@ use Rattle.wf_model.specs.Outcome.{done_by}
 use Rattle.wf_model.specs.Ports.{port_get, port_numbers}
 use Rattle.wf_display.specs.Sides.{display_side_of}
 use Rattle.std.proofs.Common.{arith, ◌≡◌, ◌∙◌, ap, sym}
-use Rattle.wf_display.proofs.Setting.{stays, port_is, read_at, told}
+use Rattle.wf_display.proofs.AttributesSet.{stays, port_is, read_at, told}
 use Rattle.std.proofs.lemmas.Grind.{common_steps}
 use Rattle.wf_display.proofs.display.Display.try_port_get.Goals as goal
 

@@ -4,7 +4,7 @@ use Rattle.std.proofs.Math.Facts.{to_z-of_z}
 use Rattle.wf_model.specs.DisplaySides.{on_display}
 use Rattle.wf_model.specs.Ports.{port_set, port_styled, with_style}
 use Rattle.wf_display.specs.Does.{Does}
-use Rattle.wf_display.proofs.Setting.{port_is, port_set as sets, read_at, read_twice, stays, refuses}
+use Rattle.wf_display.proofs.AttributesSet.{port_is, port_set as sets, read_at, read_twice, stays, refuses}
 use Rattle.wf_display.proofs.display.Display.try_port_set.Goals as goal
 
 pub returns : goal.returns

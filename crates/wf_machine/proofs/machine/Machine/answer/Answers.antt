@@ -1,5 +1,5 @@
 use Rattle.wf_calls.specs.Requests.{call_of}
-use Rattle.wf_machine.proofs.Stepping.{IsAnswered, answered}
+use Rattle.wf_machine.proofs.SettledActIsStep.{IsAnswered, answered}
 use Rattle.wf_machine.proofs.machine.Machine.answer.Goals as goal
 
 -- the step that was made, or none

@@ -2,7 +2,7 @@ use Rattle.wf_machine.proofs.Common.{IsStep}
 use Rattle.wf_calls.specs.Places.{job_in}
 use Rattle.wf_calls.specs.Replies.{with_job}
 use Rattle.wf_calls.specs.Requests.{call_of}
-use Rattle.wf_machine.proofs.Stepping.{ran}
+use Rattle.wf_machine.proofs.SettledActIsStep.{ran}
 use Rattle.wf_machine.proofs.machine.Machine.begin.Goals as goal
 
 -- the step that was made

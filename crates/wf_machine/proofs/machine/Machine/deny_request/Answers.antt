@@ -1,5 +1,5 @@
 use Rattle.wf_machine.proofs.Common.{◌∙◌, true, sym}
-use Rattle.wf_machine.proofs.Stepping.{unmarked}
+use Rattle.wf_machine.proofs.SettledActIsStep.{unmarked}
 use Rattle.wf_machine.proofs.machine.Machine.deny_request.Goals as goal
 
 pub returns-else-is_creation : goal.returns-else-is_creation

@@ -1,7 +1,7 @@
 use Rattle.wf_machine.proofs.Common.{IsStep}
 use Rattle.wf_calls.specs.declared.call.Call.TheVariants as call
 use Rattle.wf_calls.specs.Replies.{with_canvas}
-use Rattle.wf_machine.proofs.Stepping.{ran}
+use Rattle.wf_machine.proofs.SettledActIsStep.{ran}
 use Rattle.wf_machine.proofs.machine.Machine.discard.Goals as goal
 
 -- the step that was made

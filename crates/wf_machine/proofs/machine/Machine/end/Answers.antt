@@ -2,7 +2,7 @@ use Rattle.wf_machine.proofs.Common.{IfSome, IsStep}
 use Rattle.wf_calls.specs.declared.call.Call.TheVariants as call
 use Rattle.wf_calls.specs.Places.{job_in}
 use Rattle.wf_calls.specs.Replies.{with_job}
-use Rattle.wf_machine.proofs.Stepping.{end_settled, ran_end}
+use Rattle.wf_machine.proofs.SettledActIsStep.{end_settled, ran_end}
 use Rattle.wf_machine.proofs.machine.Machine.end.Goals as goal
 
 -- the step that was made

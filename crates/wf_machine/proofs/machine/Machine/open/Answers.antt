@@ -1,5 +1,5 @@
 use Rattle.wf_machine.proofs.Common.{sym, subst, IsSettled}
-use Rattle.wf_machine.proofs.Dropping.{opening_settled}
+use Rattle.wf_machine.proofs.DropsKeepInvariant.{opening_settled}
 use Rattle.wf_machine.proofs.machine.Machine.open.Goals as goal
 
 pub invariant_of-result : goal.invariant_of-result

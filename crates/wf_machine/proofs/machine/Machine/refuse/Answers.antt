@@ -1,7 +1,7 @@
 use Rattle.wf_machine.proofs.Common.{true, subst, IsSettled}
 use Rattle.wf_calls.specs.Requests.{call_of}
 use Rattle.wf_machine.specs.Object.{IsMarkedStep}
-use Rattle.wf_machine.proofs.Stepping.{marked_acts, marked_stepped}
+use Rattle.wf_machine.proofs.SettledActIsStep.{marked_acts, marked_stepped}
 use Rattle.wf_machine.proofs.machine.Machine.refuse.Goals as goal
 
 -- the step that was made

@@ -2,10 +2,10 @@ use Rattle.wf_machine.proofs.Common.{Err, refl, ap, ◌∙◌, acquired, bare, r
 use Rattle.wf_machine.proofs.Common.{acquirable, acquire_step, canvas_of, has_number, state_of, with_stream}
 use Rattle.wf_calls.specs.declared.code.Code.TheVariants as code
 use Rattle.wf_calls.specs.Replies.{gives_canvas, with_canvas}
-use Rattle.wf_machine.proofs.Buffering.{busy, canvas_is, found, given, no_buffer}
+use Rattle.wf_machine.proofs.BufferCalls.{busy, canvas_is, found, given, no_buffer}
 use Rattle.wf_machine.proofs.Counts.{room, same_settled, seen_settled, sound_settles}
 use Rattle.wf_machine.proofs.StreamNames.{acquired_counted, acquired_kept, acquired_room, acquired_seen, sound_acquired}
-use Rattle.wf_machine.proofs.Sounds.{leaves_so, stays}
+use Rattle.wf_machine.proofs.StreamCallsKeepInvariant.{leaves_so, stays}
 use Rattle.wf_machine.proofs.parts.Parts.acquire.Goals as goal
 
 pub returns-in_default-clause-settled : goal.returns-in_default-clause-settled

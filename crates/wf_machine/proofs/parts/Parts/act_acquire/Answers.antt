@@ -1,6 +1,6 @@
 use Rattle.wf_machine.proofs.Common.{refl, act, acquirable}
 use Rattle.wf_calls.specs.declared.call.Call.TheVariants as call
-use Rattle.wf_machine.proofs.Acts.{as_act, as_settled, plain_acquired, plain_of}
+use Rattle.wf_machine.proofs.ActsAreTheModels.{as_act, as_settled, plain_acquired, plain_of}
 use Rattle.wf_machine.proofs.parts.Parts.act_acquire.Goals as goal
 
 pub returns : goal.returns

@@ -7,7 +7,7 @@ use Rattle.wf_model.specs.Frames.{begin_composed, begin_next, started}
 use mir.Syntax.{w64}
 use mir.Val.{SFits}
 use Rattle.wf_calls.specs.declared.call.Call.TheVariants as call
-use Rattle.wf_machine.proofs.Acts.{as_begin, settled_left}
+use Rattle.wf_machine.proofs.ActsAreTheModels.{as_begin, settled_left}
 use Rattle.wf_machine.proofs.parts.Parts.act_begin.Goals as goal
 
 pub returns-in-BeginNext : goal.returns-in-BeginNext

@@ -1,5 +1,5 @@
 use Rattle.wf_calls.specs.Places.{job_in}
-use Rattle.wf_machine.proofs.Acts.{as_ended}
+use Rattle.wf_machine.proofs.ActsAreTheModels.{as_ended}
 use Rattle.wf_machine.proofs.parts.Parts.act_end.Goals as goal
 
 pub returns : goal.returns

@@ -1,5 +1,5 @@
 use Rattle.wf_calls.specs.Requests.{call_of}
-use Rattle.wf_machine.proofs.Acts.{as_displayed, sound_after_display}
+use Rattle.wf_machine.proofs.ActsAreTheModels.{as_displayed, sound_after_display}
 use Rattle.wf_machine.proofs.Counts.{display_fits, room}
 use Rattle.wf_machine.proofs.parts.Parts.act_on_display.Goals as goal
 

@@ -1,9 +1,9 @@
 use Rattle.wf_machine.proofs.Common.{sym, subst, IfSome, IsOfPixels}
 use Rattle.wf_calls.specs.Requests.{call_of}
-use Rattle.wf_machine.proofs.Screening.{asked_pixels}
-use Rattle.wf_machine.proofs.Acts.{as_composed}
+use Rattle.wf_machine.proofs.ScreensArePixels.{asked_pixels}
+use Rattle.wf_machine.proofs.ActsAreTheModels.{as_composed}
 use Rattle.wf_machine.proofs.Counts.{core_fits, room}
-use Rattle.wf_machine.proofs.Renaming.{sound_composed}
+use Rattle.wf_machine.proofs.NamesOfOneSide.{sound_composed}
 use Rattle.wf_machine.proofs.parts.Parts.act_on_objects.Goals as goal
 
 pub run-requires-clause-fits : goal.run-requires-clause-fits

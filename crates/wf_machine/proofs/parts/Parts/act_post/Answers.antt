@@ -1,6 +1,6 @@
 use Rattle.wf_machine.proofs.Common.{refl, posted, act}
 use Rattle.wf_calls.specs.declared.call.Call.TheVariants as call
-use Rattle.wf_machine.proofs.Acts.{as_act, plain_back, plain_of}
+use Rattle.wf_machine.proofs.ActsAreTheModels.{as_act, plain_back, plain_of}
 use Rattle.wf_machine.proofs.parts.Parts.act_post.Goals as goal
 
 pub returns : goal.returns

@@ -1,8 +1,8 @@
 use Rattle.wf_machine.proofs.Common.{ap, subst, ◌∙◌, sym, Fits, next_shown, AreAtHome, not_some}
 use Rattle.wf_machine.proofs.ContextFrames.{next_fits}
 use Rattle.wf_machine.proofs.parts.Parts.begin_next.Goals as goal
-use Rattle.wf_machine.proofs.Beginning.{no_frame}
-use Rattle.wf_machine.proofs.Begun.{home_without}
+use Rattle.wf_machine.proofs.FrameBegunKeepsInvariant.{no_frame}
+use Rattle.wf_machine.proofs.ImagesOfBegunFrame.{home_without}
 
 pub begin_context-requires-clause-fits : goal.begin_context-requires-clause-fits
 begin_context-requires-clause-fits c =

@@ -9,10 +9,10 @@ use Rattle.wf_calls.specs.Places.{job_in}
 use Rattle.wf_calls.specs.Replies.{with_job}
 use Rattle.wf_model.specs.Frames.{started}
 use Rattle.wf_display.specs.Sides.{KeepsRest, beside}
-use Rattle.wf_machine.proofs.Acts.{settled_left}
+use Rattle.wf_machine.proofs.ActsAreTheModels.{settled_left}
 use Rattle.wf_machine.proofs.Counts.{display_fits, room}
 use Rattle.wf_machine.proofs.PortFrames.{begins, declared, shown_of, twice_begun}
-use Rattle.wf_machine.proofs.Renaming.{displayed_left, sound_displayed}
+use Rattle.wf_machine.proofs.NamesOfOneSide.{displayed_left, sound_displayed}
 use Rattle.wf_machine.proofs.SettledFirst.{settled_start}
 use Rattle.wf_machine.proofs.parts.Parts.begin_port.Goals as goal
 

@@ -4,8 +4,8 @@ use Rattle.wf_calls.specs.Places.{job_in}
 use Rattle.wf_calls.specs.Replies.{with_job}
 use Rattle.wf_model.specs.Frames.{begin_composed, begin_context, started}
 use Rattle.wf_objects.specs.Shows.{shown_context}
-use Rattle.wf_machine.proofs.Beginning.{no_frame}
-use Rattle.wf_machine.proofs.Begun.{home_without}
+use Rattle.wf_machine.proofs.FrameBegunKeepsInvariant.{no_frame}
+use Rattle.wf_machine.proofs.ImagesOfBegunFrame.{home_without}
 use Rattle.wf_machine.proofs.ContextFrames.{asked_fits, asked_free, asked_is}
 use Rattle.wf_machine.proofs.parts.Parts.compose.Goals as goal
 

@@ -1,7 +1,7 @@
 use Rattle.wf_machine.proofs.Common.{true, refl}
 use Rattle.wf_calls.specs.Replies.{told}
 use Rattle.wf_calls.specs.Requests.{call_of}
-use Rattle.wf_machine.proofs.Acts.{as_bare, as_marked_displayed, sound_marked_displayed}
+use Rattle.wf_machine.proofs.ActsAreTheModels.{as_bare, as_marked_displayed, sound_marked_displayed}
 use Rattle.wf_machine.proofs.parts.Parts.deny_on_display.Goals as goal
 
 pub deny-requires-clause-fits : goal.deny-requires-clause-fits

@@ -1,9 +1,9 @@
 use Rattle.wf_machine.proofs.Common.{true, refl, sym, subst, IfSome, IsOfPixels}
 use Rattle.wf_calls.specs.Replies.{told}
 use Rattle.wf_calls.specs.Requests.{call_of}
-use Rattle.wf_machine.proofs.Screening.{asked_pixels}
-use Rattle.wf_machine.proofs.Acts.{as_bare, as_marked_composed}
-use Rattle.wf_machine.proofs.Renaming.{sound_composed}
+use Rattle.wf_machine.proofs.ScreensArePixels.{asked_pixels}
+use Rattle.wf_machine.proofs.ActsAreTheModels.{as_bare, as_marked_composed}
+use Rattle.wf_machine.proofs.NamesOfOneSide.{sound_composed}
 use Rattle.wf_machine.proofs.parts.Parts.deny_on_objects.Goals as goal
 
 pub deny-requires-clause-fits : goal.deny-requires-clause-fits

@@ -3,7 +3,7 @@ use mir.Syntax.{w64}
 use mir.Val.{SFits}
 use Rattle.wf_calls.specs.Requests.{call_of}
 use Rattle.wf_calls.specs.declared.call.Call.TheVariants as call
-use Rattle.wf_machine.proofs.Acts.{as_marked_act, as_settled, plain_answer}
+use Rattle.wf_machine.proofs.ActsAreTheModels.{as_marked_act, as_settled, plain_answer}
 use Rattle.wf_machine.proofs.parts.Parts.deny_on_streams.Goals as goal
 
 pub returns : goal.returns

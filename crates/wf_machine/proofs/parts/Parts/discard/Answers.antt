@@ -1,12 +1,12 @@
 use Rattle.wf_machine.proofs.Common.{refl, sym, ap, ◌∙◌, discarded, bare, done, canvas_back, is_out_at_client, settle, settled_so, state_of}
 use Rattle.wf_machine.proofs.Common.{with_stream}
 use Rattle.wf_calls.specs.Replies.{with_canvas}
-use Rattle.wf_machine.proofs.Acts.{as_settled}
-use Rattle.wf_machine.proofs.Buffering.{comes_back, out_from, stays_out}
+use Rattle.wf_machine.proofs.ActsAreTheModels.{as_settled}
+use Rattle.wf_machine.proofs.BufferCalls.{comes_back, out_from, stays_out}
 use Rattle.wf_machine.proofs.Counts.{seen_settled}
-use Rattle.wf_machine.proofs.StillFitting.{discarded_keeps}
+use Rattle.wf_machine.proofs.StreamsStillFit.{discarded_keeps}
 use Rattle.wf_machine.proofs.StreamNames.{back_counted, back_named, back_seen, sound_back}
-use Rattle.wf_machine.proofs.Sounds.{leaves_so}
+use Rattle.wf_machine.proofs.StreamCallsKeepInvariant.{leaves_so}
 use Rattle.wf_machine.proofs.parts.Parts.discard.Goals as goal
 
 pub returns-then-not-is_out_at_client : goal.returns-then-not-is_out_at_client

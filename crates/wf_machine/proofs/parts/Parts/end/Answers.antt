@@ -9,10 +9,11 @@ use Rattle.wf_calls.specs.Replies.{with_job}
 use Rattle.wf_stream.specs.Names.{NamesFit}
 use Rattle.wf_stream.specs.Renames.{Renames}
 use Rattle.wf_machine.specs.Naming.{held_names}
-use Rattle.wf_machine.proofs.Acts.{as_settled}
-use Rattle.wf_machine.proofs.Ending.{HasEnded, ending_awaited, ending_due, left_ended, none_of, ran_fits, ran_kind, sound_ended}
-use Rattle.wf_machine.proofs.Ending.{stays_running}
-use Rattle.wf_machine.proofs.Ending.{was_running}
+use Rattle.wf_machine.proofs.ActsAreTheModels.{as_settled}
+use Rattle.wf_machine.proofs.FrameEndedKeepsInvariant.{HasEnded, ending_awaited, ending_due, left_ended, none_of, ran_fits, ran_kind}
+use Rattle.wf_machine.proofs.FrameEndedKeepsInvariant.{sound_ended}
+use Rattle.wf_machine.proofs.FrameEndedKeepsInvariant.{stays_running}
+use Rattle.wf_machine.proofs.FrameEndedKeepsInvariant.{was_running}
 use Rattle.wf_machine.proofs.FrameCounts.{ended_fit, sound_untold, untold_seen}
 use Rattle.wf_machine.proofs.parts.Parts.end.Goals as goal
 

@@ -1,6 +1,6 @@
 use Rattle.wf_machine.proofs.Common.{◌∙◌, refl, sym, subst}
 use Rattle.wf_display.specs.Fits.{Fits as Shows}
-use Rattle.wf_machine.proofs.Opening.{sound_opened}
+use Rattle.wf_machine.proofs.MachineOpened.{sound_opened}
 use Rattle.wf_machine.proofs.parts.Parts.open.Goals as goal
 
 pub invariant_of-result-2 : goal.invariant_of-result-2

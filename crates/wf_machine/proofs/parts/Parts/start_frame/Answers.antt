@@ -9,11 +9,11 @@ use Rattle.wf_stream.specs.Names.{AreCounted}
 use Rattle.wf_stream.specs.Renames.{Renames}
 use Rattle.wf_stream.specs.Streams.{count_of}
 use Rattle.wf_machine.specs.Naming.{drawn_names, held_names}
-use Rattle.wf_machine.proofs.Begun.{home_without}
-use Rattle.wf_machine.proofs.Beginning.{no_frame}
+use Rattle.wf_machine.proofs.ImagesOfBegunFrame.{home_without}
+use Rattle.wf_machine.proofs.FrameBegunKeepsInvariant.{no_frame}
 use Rattle.wf_machine.proofs.Counts.{room, sound_settles}
 use Rattle.wf_machine.proofs.FrameCounts.{contents_kept, counted_begun, drawn_kept, sound_told, told_seen}
-use Rattle.wf_machine.proofs.Starting.{Starts, answers, b, begun, left, ready}
+use Rattle.wf_machine.proofs.FrameStarts.{Starts, answers, b, begun, left, ready}
 use Rattle.wf_machine.proofs.parts.Parts.start_frame.Goals as goal
 
 pub latch_scene-requires-clause-home : goal.latch_scene-requires-clause-home

@@ -2,11 +2,11 @@ use Rattle.wf_machine.proofs.Common.{◌≡◌, subst, IfSome, ap, sym, ◌∙�
 use Rattle.std.specs.Result.{result_ok}
 use Rattle.wf_stream.specs.Streams.{hand_over, number_of, released}
 use Rattle.wf_model.specs.Streams.{stream_destroy}
-use Rattle.wf_machine.proofs.Acts.{as_settled}
-use Rattle.wf_machine.proofs.Buffering.{destroyed, found, no_stream}
+use Rattle.wf_machine.proofs.ActsAreTheModels.{as_settled}
+use Rattle.wf_machine.proofs.BufferCalls.{destroyed, found, no_stream}
 use Rattle.wf_machine.proofs.Counts.{seen_settled}
 use Rattle.wf_machine.proofs.StreamNames.{nameless_seen, numbers_from_one, sound_nameless}
-use Rattle.wf_machine.proofs.Sounds.{leaves_so}
+use Rattle.wf_machine.proofs.StreamCallsKeepInvariant.{leaves_so}
 use Rattle.wf_machine.proofs.parts.Parts.stream_destroy.Goals as goal
 
 pub returns-in_default : goal.returns-in_default

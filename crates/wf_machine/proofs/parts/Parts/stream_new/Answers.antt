@@ -1,7 +1,7 @@
 use Rattle.wf_machine.proofs.Common.{◌+◌, Err, sym, ap, subst, ◌∙◌, with_live_stream, is_out_of_memory, count_of, bare, done, refusal}
 use Rattle.wf_machine.proofs.Common.{refused, new_buffers, size_from, stream_new, stream_step, IsSound, to_z-of_z}
 use Rattle.wf_calls.specs.declared.code.Code.TheVariants as code
-use Rattle.wf_machine.proofs.Sounds.{leaves, limited, made, made_sides, sound_made, stays, unmade}
+use Rattle.wf_machine.proofs.StreamCallsKeepInvariant.{leaves, limited, made, made_sides, sound_made, stays, unmade}
 use Rattle.wf_machine.proofs.Counts.{same_settled, sound_settles}
 use Rattle.wf_machine.proofs.StreamNames.{sound_pushed}
 use Rattle.wf_machine.proofs.parts.Parts.stream_new.Goals as goal

@@ -1,5 +1,5 @@
 use Rattle.wf_machine.proofs.Common.{◌≡◌, sym, subst, ap, IfSome, away, AreAtHome}
-use Rattle.wf_machine.proofs.Latches.{home_at}
+use Rattle.wf_machine.proofs.StreamsLatched.{home_at}
 use Rattle.wf_machine.proofs.parts.Parts.target_ready.Goals as goal
 
 pub roomy-requires : goal.roomy-requires

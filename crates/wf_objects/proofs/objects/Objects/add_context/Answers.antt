@@ -10,16 +10,17 @@ use Rattle.wf_objects.specs.Does.{Does, context_made}
 use Rattle.wf_objects.specs.Fits.{ContextFits}
 use Rattle.wf_objects.specs.Inside.{tables_of}
 use Rattle.wf_objects.proofs.Lookups.{device_lives}
-use Rattle.wf_objects.proofs.Tracking.{context_tracked, contexts_room, fresh_context, live_device_open, no_context_open, no_device_has}
-use Rattle.wf_objects.proofs.Tracking.{owners_room, tracked_as}
-use Rattle.wf_objects.proofs.Makings.{context_fits, creates}
+use Rattle.wf_objects.proofs.MembersTellTables.{context_tracked, contexts_room, fresh_context, live_device_open, no_context_open}
+use Rattle.wf_objects.proofs.MembersTellTables.{no_device_has}
+use Rattle.wf_objects.proofs.MembersTellTables.{owners_room, tracked_as}
+use Rattle.wf_objects.proofs.CreationsFit.{context_fits, creates}
 use Rattle.std.proofs.Common.{rules, ◌∙◌}
 use Rattle.std.proofs.lemmas.Grind.{common_steps}
 use Rattle.wf_words.specs.Each.{each_more}
 use Rattle.wf_stream.specs.Names.{but_names}
 use Rattle.wf_objects.specs.Does.{refuses, unchanged}
 use Rattle.wf_objects.specs.Inside.{HasFewLayers}
-use Rattle.wf_objects.proofs.Endings.{begun_fits, begun_names}
+use Rattle.wf_objects.proofs.NamesOfObjectsGone.{begun_fits, begun_names}
 use Rattle.wf_objects.proofs.NameCounts.{context_more}
 use Rattle.wf_objects.proofs.objects.Objects.add_context.Goals as goal
 

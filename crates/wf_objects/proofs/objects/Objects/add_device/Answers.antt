@@ -9,8 +9,8 @@ use Rattle.wf_model.specs.Names.{core_names}
 use Rattle.wf_objects.specs.Does.{Does, refuses, unchanged}
 use Rattle.wf_stream.specs.Renames.{names_stay}
 use Rattle.wf_objects.specs.Inside.{tables_of}
-use Rattle.wf_objects.proofs.Tracking.{device_tracked, devices_room, fresh_device, no_device_open, tracked_as}
-use Rattle.wf_objects.proofs.Makings.{creates, device_fits}
+use Rattle.wf_objects.proofs.MembersTellTables.{device_tracked, devices_room, fresh_device, no_device_open, tracked_as}
+use Rattle.wf_objects.proofs.CreationsFit.{creates, device_fits}
 use Rattle.wf_objects.proofs.objects.Objects.add_device.Goals as goal
 
 pub open-requires-clause-closed : goal.open-requires-clause-closed

@@ -8,9 +8,9 @@ use Rattle.wf_scene.specs.Cached as cached
 use Rattle.wf_objects.specs.Does.{Does, element_made, in_place, refuses, unchanged}
 use Rattle.wf_objects.specs.Fits.{HasElements}
 use Rattle.wf_objects.specs.Rows.{context_of}
-use Rattle.wf_objects.proofs.Makings.{element_creates, fresh}
+use Rattle.wf_objects.proofs.CreationsFit.{element_creates, fresh}
 use Rattle.wf_objects.proofs.Owners.{standing}
-use Rattle.wf_objects.proofs.Tracking.{kept_in}
+use Rattle.wf_objects.proofs.MembersTellTables.{kept_in}
 use Rattle.std.proofs.lemmas.Grind.{common_steps}
 use Rattle.wf_objects.proofs.objects.Objects.add_element.Goals as goal
 

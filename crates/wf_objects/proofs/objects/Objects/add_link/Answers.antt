@@ -4,14 +4,14 @@ use Rattle.wf_model.specs.Core.{sources_full}
 use Rattle.wf_objects.specs.Does.{link_made, refuses, unchanged}
 use Rattle.wf_objects.specs.Links.{link_kind, links, with_links}
 use Rattle.wf_objects.specs.Sides.{core_side_of}
-use Rattle.wf_objects.proofs.Makings.{creates, link_fits, link_is_ours}
+use Rattle.wf_objects.proofs.CreationsFit.{creates, link_fits, link_is_ours}
 use Rattle.std.proofs.Common.{◌≡◌, ap, arith}
 use Rattle.std.proofs.lemmas.Grind.{common_steps}
 use Rattle.wf_stream.specs.Names.{but_names}
 use Rattle.wf_stream.specs.Streams.{with_other}
-use Rattle.wf_objects.proofs.Endings.{begun_fits, begun_names}
+use Rattle.wf_objects.proofs.NamesOfObjectsGone.{begun_fits, begun_names}
 use Rattle.wf_objects.proofs.NameCounts.{link_more}
-use Rattle.wf_objects.proofs.Tracking.{fresh_link}
+use Rattle.wf_objects.proofs.MembersTellTables.{fresh_link}
 use Rattle.wf_objects.proofs.objects.Objects.add_link.Goals as goal
 
 pub returns-then-sources_full : goal.returns-then-sources_full

@@ -4,8 +4,8 @@ use Rattle.wf_words.specs.Rising.{Rises, found_at}
 use Rattle.wf_life.specs.declared.Kind.TheVariants as kind
 use Rattle.wf_objects.specs.Inside.{HasFewLayers, tables_of}
 use Rattle.wf_objects.proofs.Lookups.{rises_contexts}
-use Rattle.wf_objects.proofs.Tracking.{a_device_has, bare_context, context_untracked, live_context_open, tracked_as}
-use Rattle.wf_objects.proofs.Dropped.{context_dropped, context_under, dead, loses}
+use Rattle.wf_objects.proofs.MembersTellTables.{a_device_has, bare_context, context_untracked, live_context_open, tracked_as}
+use Rattle.wf_objects.proofs.ObjectsGoneStillFit.{context_dropped, context_under, dead, loses}
 use Rattle.wf_life.specs.Living.{lives}
 use Rattle.wf_words.specs.Each.{each_filtered}
 use Rattle.wf_stream.specs.Counts.{times}
@@ -14,7 +14,7 @@ use Rattle.wf_model.specs.Names.{context_names, core_names}
 use Rattle.wf_objects.specs.Fits.{Fits}
 use Rattle.wf_objects.specs.Losses.{but_context}
 use Rattle.wf_stream.specs.Renames.{Renames}
-use Rattle.wf_objects.proofs.Endings.{ended_fit, ended_fits, ended_loses, ended_names}
+use Rattle.wf_objects.proofs.NamesOfObjectsGone.{ended_fit, ended_fits, ended_loses, ended_names}
 use Rattle.wf_objects.proofs.NameCounts.{context_less}
 use Rattle.wf_objects.proofs.Owners.{standing}
 use Rattle.wf_objects.proofs.objects.Objects.drop_bare_context.Goals as goal

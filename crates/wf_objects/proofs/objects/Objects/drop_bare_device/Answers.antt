@@ -5,8 +5,8 @@ use Rattle.std.specs.List.{list_any}
 use Rattle.wf_words.specs.Rising.{Rises}
 use Rattle.wf_life.specs.declared.Kind.TheVariants as kind
 use Rattle.wf_objects.specs.Inside.{tables_of}
-use Rattle.wf_objects.proofs.Tracking.{bare_device, device_untracked, live_device_open, rises_devices, tracked_as}
-use Rattle.wf_objects.proofs.Dropped.{dead, device_dropped, device_under, loses}
+use Rattle.wf_objects.proofs.MembersTellTables.{bare_device, device_untracked, live_device_open, rises_devices, tracked_as}
+use Rattle.wf_objects.proofs.ObjectsGoneStillFit.{dead, device_dropped, device_under, loses}
 use Rattle.wf_life.specs.Living.{lives}
 use Rattle.wf_stream.specs.Names.{Recounts}
 use Rattle.wf_objects.proofs.objects.Objects.drop_bare_device.Goals as goal

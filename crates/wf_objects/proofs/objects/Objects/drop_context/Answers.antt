@@ -1,7 +1,7 @@
 use Rattle.wf_stream.specs.Names.{Recounts}
 use Rattle.wf_model.specs.Names.{core_names}
 use Rattle.wf_stream.specs.Renames.{named_again, then_named}
-use Rattle.wf_objects.proofs.Remainders.{links_stay, unlinked}
+use Rattle.wf_objects.proofs.ObjectsLoseTheirs.{links_stay, unlinked}
 use Rattle.wf_objects.proofs.objects.Objects.drop_context.Goals as goal
 use Rattle.wf_objects.proofs.objects.Objects.drop_context.Goals.{After-drop_elements}
 

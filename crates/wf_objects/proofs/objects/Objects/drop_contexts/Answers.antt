@@ -2,10 +2,10 @@ use Rattle.std.proofs.Common.{◌≡◌, ◌∙◌, ◌&&◌, ◌==◌, true, sy
 use Rattle.std.specs.List.{list_any}
 use Rattle.wf_words.specs.Found.{any_first}
 use Rattle.wf_objects.specs.Losses.{but_contexts_of}
-use Rattle.wf_objects.proofs.Dropped.{then_lost}
-use Rattle.wf_objects.proofs.Remainders.{contexts_fewer, no_contexts, one_context_fewer, one_of}
+use Rattle.wf_objects.proofs.ObjectsGoneStillFit.{then_lost}
+use Rattle.wf_objects.proofs.ObjectsLoseTheirs.{contexts_fewer, no_contexts, one_context_fewer, one_of}
 use Rattle.wf_objects.proofs.Members.{lowest_in}
-use Rattle.wf_objects.proofs.Tracking.{has_no_context, is_context_of, tracked_as}
+use Rattle.wf_objects.proofs.MembersTellTables.{has_no_context, is_context_of, tracked_as}
 use Rattle.wf_words.specs.Found.{none_at}
 use Rattle.wf_model.specs.Names.{core_names}
 use Rattle.wf_stream.specs.Renames.{named_again, then_named}

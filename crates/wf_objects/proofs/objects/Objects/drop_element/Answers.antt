@@ -10,12 +10,12 @@ use Rattle.wf_model.specs.Names.{core_names}
 use Rattle.wf_stream.specs.Renames.{names_stay}
 use Rattle.wf_objects.proofs.NameCounts.{changed_names}
 use Rattle.wf_objects.specs.Rows.{context_of}
-use Rattle.wf_objects.proofs.Dropped.{InContext, dead, element_dropped, element_under, loses}
+use Rattle.wf_objects.proofs.ObjectsGoneStillFit.{InContext, dead, element_dropped, element_under, loses}
 use Rattle.wf_life.specs.Living.{lives}
 use Rattle.wf_objects.proofs.Owners.{standing}
 use Rattle.wf_words.specs.Places.{within}
 use Rattle.wf_objects.proofs.Scenes.{placed_is}
-use Rattle.wf_objects.proofs.Tracking.{kept_in}
+use Rattle.wf_objects.proofs.MembersTellTables.{kept_in}
 use Rattle.std.proofs.Common.{set}
 use Rattle.wf_objects.proofs.objects.Objects.drop_element.Goals as goal
 use Rattle.wf_objects.proofs.objects.Objects.drop_element.Goals.{After-forget}

@@ -2,15 +2,15 @@ use Rattle.std.proofs.Common.{◌≡◌, ◌∙◌, ◌==◌, eq-eqb, slice_get,
 use Rattle.wf_scene.specs.Cached.{forget}
 use Rattle.wf_model.specs.Composition.{change_context, with_cached}
 use Rattle.wf_objects.specs.Rows.{context_of}
-use Rattle.wf_objects.proofs.Dropped.{then_lost}
+use Rattle.wf_objects.proofs.ObjectsGoneStillFit.{then_lost}
 use Rattle.wf_words.specs.Found.{any_at, any_found}
 use Rattle.wf_objects.proofs.Owners.{standing}
-use Rattle.wf_objects.proofs.Remainders.{element_first, element_none, emptied, fewer_elements, others_stay, still_stands}
+use Rattle.wf_objects.proofs.ObjectsLoseTheirs.{element_first, element_none, emptied, fewer_elements, others_stay, still_stands}
 use Rattle.wf_model.specs.Names.{core_names}
 use Rattle.wf_stream.specs.Renames.{then_named}
 use Rattle.std.proofs.Common.{refl}
 use Rattle.wf_objects.specs.Does.{unchanged}
-use Rattle.wf_objects.proofs.Remainders.{stands}
+use Rattle.wf_objects.proofs.ObjectsLoseTheirs.{stands}
 use Rattle.wf_objects.proofs.objects.Objects.drop_elements.Goals as goal
 use Rattle.wf_objects.proofs.objects.Objects.drop_elements.Goals.{After-drop_element, After-first}
 

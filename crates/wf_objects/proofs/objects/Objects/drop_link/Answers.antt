@@ -7,10 +7,10 @@ use Rattle.wf_objects.proofs.NameCounts.{link_less}
 use Rattle.std.proofs.Common.{refl, subst}
 use Rattle.wf_model.specs.Objects.{CoreState}
 use Rattle.wf_stream.specs.Renames.{Renames}
-use Rattle.wf_objects.proofs.Endings.{ended_fit, ended_fits, ended_loses, ended_names}
+use Rattle.wf_objects.proofs.NamesOfObjectsGone.{ended_fit, ended_fits, ended_loses, ended_names}
 use Rattle.wf_objects.proofs.LayerNames.{alone}
-use Rattle.wf_objects.proofs.Remainders.{Linked, apart, linked_at, rises_links}
-use Rattle.wf_objects.proofs.Dropped.{dead, link_dropped, link_loses, link_under}
+use Rattle.wf_objects.proofs.ObjectsLoseTheirs.{Linked, apart, linked_at, rises_links}
+use Rattle.wf_objects.proofs.ObjectsGoneStillFit.{dead, link_dropped, link_loses, link_under}
 use Rattle.wf_life.specs.Living.{lives}
 use Rattle.wf_objects.proofs.objects.Objects.drop_link.Goals as goal
 use Rattle.wf_objects.proofs.objects.Objects.drop_link.Goals.{After-end_name, After-stream_of-stream, Start}

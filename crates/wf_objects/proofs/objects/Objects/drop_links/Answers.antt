@@ -7,10 +7,11 @@ use Rattle.wf_stream.specs.Renames.{named_again, then_named}
 use Rattle.wf_objects.specs.Does.{unchanged}
 use Rattle.wf_objects.specs.Links.{links}
 use Rattle.wf_objects.specs.Losses.{but_links}
-use Rattle.wf_objects.proofs.Dropped.{then_lost}
+use Rattle.wf_objects.proofs.ObjectsGoneStillFit.{then_lost}
 use Rattle.wf_objects.proofs.Members.{lowest_in}
-use Rattle.wf_objects.proofs.Remainders.{IsLinkOf, fewer_links, kind_alone, link_leaves, link_of, no_links, one_link_fewer, rises_links}
-use Rattle.wf_objects.proofs.Tracking.{has_no_link, is_link_of, tracked_as}
+use Rattle.wf_objects.proofs.ObjectsLoseTheirs.{IsLinkOf, fewer_links, kind_alone, link_leaves, link_of, no_links, one_link_fewer}
+use Rattle.wf_objects.proofs.ObjectsLoseTheirs.{rises_links}
+use Rattle.wf_objects.proofs.MembersTellTables.{has_no_link, is_link_of, tracked_as}
 use Rattle.wf_objects.proofs.objects.Objects.drop_links.Goals as goal
 use Rattle.wf_objects.proofs.objects.Objects.drop_links.Goals.{After-is_mask-mask}
 

@@ -3,7 +3,7 @@ use Rattle.wf_stream.specs.Names.{Recounts}
 use Rattle.wf_model.specs.Names.{core_names}
 use Rattle.wf_objects.specs.Fits.{Fits}
 use Rattle.wf_objects.specs.Losses.{Loses, but_links}
-use Rattle.wf_objects.proofs.Remainders.{link_count}
+use Rattle.wf_objects.proofs.ObjectsLoseTheirs.{link_count}
 use Rattle.wf_objects.proofs.objects.Objects.drop_links.Given as goal
 
 -- objects and store fit, only handles and names went, and of what went each was of the context

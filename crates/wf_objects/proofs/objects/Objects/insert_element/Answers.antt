@@ -2,10 +2,10 @@ use Rattle.std.proofs.Common.{set, subst, sym, refl}
 use Rattle.wf_scene.specs.Cached as cached
 use Rattle.wf_objects.specs.Does.{Does, in_place, scene_set}
 use Rattle.wf_objects.specs.Rows.{context_of}
-use Rattle.wf_objects.proofs.Keeping.{insert_keeps}
+use Rattle.wf_objects.proofs.SceneCallsKeep.{insert_keeps}
 use Rattle.wf_objects.proofs.Owners.{standing}
 use Rattle.wf_objects.proofs.Scenes.{edits}
-use Rattle.wf_objects.proofs.Tracking.{kept_in}
+use Rattle.wf_objects.proofs.MembersTellTables.{kept_in}
 use Rattle.wf_objects.proofs.objects.Objects.insert_element.Goals as goal
 
 pub insert-requires : goal.insert-requires

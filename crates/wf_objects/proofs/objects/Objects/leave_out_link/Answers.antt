@@ -5,7 +5,7 @@ use Rattle.wf_model.specs.Core.{without_source}
 use Rattle.wf_objects.specs.Inside.{tables_of}
 use Rattle.wf_objects.specs.Links.{links, with_links}
 use Rattle.wf_objects.specs.Tracks.{AreTracked}
-use Rattle.wf_objects.proofs.Tracking.{a_context_has, link_untracked, tracked_as}
+use Rattle.wf_objects.proofs.MembersTellTables.{a_context_has, link_untracked, tracked_as}
 use Rattle.wf_objects.proofs.objects.Objects.leave_out_link.Goals as goal
 use Rattle.wf_objects.proofs.objects.Objects.leave_out_link.Goals.{After-remove}
 

@@ -2,7 +2,7 @@ use Rattle.std.proofs.Common.{◌≡◌, false, subst, sym, true}
 use Rattle.wf_words.specs.Keyed.{is_in}
 use Rattle.wf_members.specs.Membership.{is_open, members_of}
 use Rattle.wf_model.specs.Objects.{Source}
-use Rattle.wf_objects.proofs.Tracking.{live_context_open, no_context_has, tracked_as}
+use Rattle.wf_objects.proofs.MembersTellTables.{live_context_open, no_context_has, tracked_as}
 use Rattle.wf_objects.proofs.objects.Objects.push_link.Goals as goal
 
 pub add-requires-clause-is_open : goal.add-requires-clause-is_open

@@ -2,8 +2,8 @@ use Rattle.std.proofs.Common.{refl, arith}
 use Rattle.std.proofs.lemmas.List.{with_items_is}
 use Rattle.wf_model.specs.Composition.{recorded}
 use Rattle.wf_objects.specs.Inside.{tables_of}
-use Rattle.wf_objects.proofs.Tracking.{registers_tracked}
-use Rattle.wf_objects.proofs.Fitting.{register_fits}
+use Rattle.wf_objects.proofs.MembersTellTables.{registers_tracked}
+use Rattle.wf_objects.proofs.ChangesStillFit.{register_fits}
 use Rattle.wf_objects.proofs.objects.Objects.record.Goals as goal
 
 pub invariant_of-self : goal.invariant_of-self

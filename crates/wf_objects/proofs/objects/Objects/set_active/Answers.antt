@@ -4,7 +4,7 @@ use Rattle.wf_objects.specs.Does.{Does, changed, in_place}
 use Rattle.wf_objects.specs.Rows.{context_of}
 use Rattle.wf_objects.proofs.Owners.{standing}
 use Rattle.wf_objects.proofs.Scenes.{activates}
-use Rattle.wf_objects.proofs.Tracking.{kept_in}
+use Rattle.wf_objects.proofs.MembersTellTables.{kept_in}
 use Rattle.wf_objects.proofs.objects.Objects.set_active.Goals as goal
 
 pub invariant_of-self : goal.invariant_of-self

@@ -8,7 +8,7 @@ use Rattle.wf_objects.specs.Does.{Does, changed, in_place}
 use Rattle.wf_objects.specs.Rows.{context_of}
 use Rattle.wf_objects.proofs.Owners.{standing}
 use Rattle.wf_objects.proofs.Scenes.{committed_fit, commits}
-use Rattle.wf_objects.proofs.Tracking.{kept_in}
+use Rattle.wf_objects.proofs.MembersTellTables.{kept_in}
 use Rattle.wf_objects.proofs.objects.Objects.set_committed.Goals as goal
 use Rattle.wf_objects.proofs.objects.Objects.set_committed.Goals.{After-as_slice-2, After-begin_layers}
 

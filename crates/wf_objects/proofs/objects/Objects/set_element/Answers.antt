@@ -5,10 +5,10 @@ use Rattle.wf_model.specs.Core.{linked}
 use Rattle.wf_objects.specs.Does.{Does, unchanged, element_set, in_place}
 use Rattle.wf_objects.specs.Sides.{core_side_of}
 use Rattle.wf_objects.specs.Rows.{context_of}
-use Rattle.wf_objects.proofs.Keeping.{set_keeps}
+use Rattle.wf_objects.proofs.SceneCallsKeep.{set_keeps}
 use Rattle.wf_objects.proofs.Owners.{standing}
 use Rattle.wf_objects.proofs.Scenes.{edits, linked_first}
-use Rattle.wf_objects.proofs.Tracking.{kept_in}
+use Rattle.wf_objects.proofs.MembersTellTables.{kept_in}
 use Rattle.std.proofs.Common.{arith, rules}
 use Rattle.std.proofs.lemmas.Grind.{common_steps}
 use Rattle.wf_objects.proofs.objects.Objects.set_element.Goals as goal

@@ -4,8 +4,8 @@ use Rattle.std.proofs.Common.{rules, ◌≡◌, ◌∙◌, sym, refl, None, arit
 use Rattle.std.proofs.lemmas.List.{with_items_is}
 use Rattle.wf_words.specs.Keyed.{at_key}
 use Rattle.wf_objects.specs.Inside.{tables_of}
-use Rattle.wf_objects.proofs.Tracking.{registers_tracked}
-use Rattle.wf_objects.proofs.Fitting.{takes_error}
+use Rattle.wf_objects.proofs.MembersTellTables.{registers_tracked}
+use Rattle.wf_objects.proofs.ChangesStillFit.{takes_error}
 use Rattle.wf_objects.proofs.objects.Objects.take_error.Goals as goal
 
 pub invariant_of-self : goal.invariant_of-self

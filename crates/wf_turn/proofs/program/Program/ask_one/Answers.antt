@@ -1,7 +1,7 @@
 use Rattle.wf_turn.proofs.Common.{handle}
 use Rattle.wf_calls.specs.Requests.{call_of}
 use Rattle.wf_turn.specs.Puts.{put_some}
-use Rattle.wf_turn.proofs.Asked.{one_carries}
+use Rattle.wf_turn.proofs.AsksAreNextCalls.{one_carries}
 use Rattle.wf_turn.proofs.program.Program.ask_one.Goals as goal
 
 pub returns-then-plain_call-clause-call : goal.returns-then-plain_call-clause-call

@@ -1,5 +1,5 @@
 use Rattle.wf_turn.proofs.Common.{refl}
-use Rattle.wf_turn.proofs.Finishes.{finished, has_room, leaves_done}
+use Rattle.wf_turn.proofs.LineThrough.{finished, has_room, leaves_done}
 use Rattle.wf_turn.proofs.program.Program.finish.Goals as goal
 
 pub bind_line-requires : goal.bind_line-requires

@@ -1,5 +1,5 @@
 use Rattle.wf_turn.proofs.Common.{◌∙◌, ap, first_line}
-use Rattle.wf_turn.proofs.Firsts.{first_at}
+use Rattle.wf_turn.proofs.FirstLine.{first_at}
 use Rattle.wf_turn.proofs.program.Program.first_line.Goals as goal
 
 pub returns-clause-line : goal.returns-clause-line

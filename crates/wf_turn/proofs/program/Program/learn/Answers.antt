@@ -1,5 +1,5 @@
 use Rattle.wf_turn.proofs.Common.{ap}
-use Rattle.wf_turn.proofs.Firsts.{learns}
+use Rattle.wf_turn.proofs.FirstLine.{learns}
 use Rattle.wf_turn.proofs.program.Program.learn.Goals as goal
 
 pub returns-clause-taught : goal.returns-clause-taught

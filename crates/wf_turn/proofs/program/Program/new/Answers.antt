@@ -2,7 +2,7 @@ use Rattle.wf_turn.proofs.Common.{◌≤◌, IsTrue, ap, known, left, may_declar
 use Rattle.wf_calls.specs.Places.{job_in}
 use Rattle.wf_turn.proofs.Films.{left_opening}
 use Rattle.wf_turn.proofs.Handles.{known_none, opened}
-use Rattle.wf_turn.proofs.Openings.{opening_fit}
+use Rattle.wf_turn.proofs.ShowAtTheStart.{opening_fit}
 use Rattle.wf_turn.proofs.program.Program.new.Goals as goal
 
 pub returns-clause-program : goal.returns-clause-program

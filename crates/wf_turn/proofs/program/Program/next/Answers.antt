@@ -1,7 +1,7 @@
 use Rattle.wf_turn.proofs.Common.{◌≡◌, ◌∙◌, next, issued}
 use Rattle.wf_turn.specs.Asked.{as_wanted}
-use Rattle.wf_turn.proofs.Asked.{given_handed, wanted_is}
-use Rattle.wf_turn.proofs.Going.{goes_on, if_none, if_some, is_through, some_left, waiting_begins}
+use Rattle.wf_turn.proofs.AsksAreNextCalls.{given_handed, wanted_is}
+use Rattle.wf_turn.proofs.ProgramsGoOn.{goes_on, if_none, if_some, is_through, some_left, waiting_begins}
 use Rattle.wf_turn.proofs.program.Program.next.Goals as goal
 
 module _ (c : goal.After-wanted) where

@@ -1,5 +1,5 @@
 use Rattle.wf_turn.proofs.Common.{◌∙◌, ap, sym, option_copied}
-use Rattle.wf_turn.proofs.Firsts.{own_at, place_at}
+use Rattle.wf_turn.proofs.FirstLine.{own_at, place_at}
 use Rattle.wf_turn.proofs.program.Program.place.Goals as goal
 
 pub returns-in-Some-clause-place : goal.returns-in-Some-clause-place

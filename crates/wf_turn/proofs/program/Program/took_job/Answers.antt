@@ -2,7 +2,7 @@ use Rattle.wf_turn.proofs.Common.{◌≡◌, ◌∙◌, Some, true, sym, ap, sub
 use Rattle.wf_calls.specs.Places.{job_in}
 use Rattle.wf_turn.specs.Asked.{takes_job}
 use Rattle.wf_turn.specs.Inside.{program_of}
-use Rattle.wf_turn.proofs.Asked.{took_begun, took_other}
+use Rattle.wf_turn.proofs.AsksAreNextCalls.{took_begun, took_other}
 use Rattle.wf_turn.proofs.program.Program.took_job.Goals as goal
 
 pub returns-then-takes_job : goal.returns-then-takes_job

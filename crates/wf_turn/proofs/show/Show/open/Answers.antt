@@ -2,7 +2,7 @@ use Rattle.wf_turn.proofs.Common.{◌≡◌, ◌∙◌, [], ap, sym, subst, List
 use Rattle.wf_turn.proofs.Common.{may_declare, State, IsCast, Program, Show, opening_show}
 use Rattle.std.specs.Bool.{IsTrue}
 use Rattle.wf_model.specs.State.{opening}
-use Rattle.wf_turn.proofs.Openings.{opening_cast}
+use Rattle.wf_turn.proofs.ShowAtTheStart.{opening_cast}
 use Rattle.wf_turn.proofs.show.Show.open.Goals as goal
 
 module _ (c : goal.After-unasked) where

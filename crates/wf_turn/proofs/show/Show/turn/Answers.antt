@@ -1,5 +1,5 @@
 use Rattle.wf_turn.proofs.Common.{show_of}
-use Rattle.wf_turn.proofs.Shows.{fit_kept, none_allowed, none_now, one_kept, turned_kept}
+use Rattle.wf_turn.proofs.TurnOfAShow.{fit_kept, none_allowed, none_now, one_kept, turned_kept}
 use Rattle.wf_turn.proofs.show.Show.turn.Goals as goal
 
 pub returns-then-not-may_turn : goal.returns-then-not-may_turn
