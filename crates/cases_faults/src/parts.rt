@@ -48,7 +48,7 @@ fn told(alloc: Global, bytes: &[u8]) -> Result<String, AllocError> {
 
 impl Parts {
     /// Nothing, read whole.
-    pub(crate) fn new(alloc: Global) -> Parts {
+    pub(crate) fn opened(alloc: Global) -> Parts {
         Parts {
             words: Vec::new(alloc),
             input: Vec::new(alloc),

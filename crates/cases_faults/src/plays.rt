@@ -3,6 +3,7 @@
 use crate::parted::Parted;
 use crate::parts::{Parts, ROOM, push_hex};
 use std::alloc::{AllocError, Global};
+use std::io;
 use std::sync::Wait;
 use std::thread::Threads;
 use wf_calls::Turn;
@@ -68,7 +69,7 @@ fn play_first<R: Threads + Wait + Sync + AllocGlobal>(
     parts: &Parts,
     count: usize,
     failing: Failing,
-) -> Result<String, AllocError> {
+) -> io::Result<String> {
     let first = parts.input.get(..count).unwrap_or(&parts.input);
     play_bytes(rt, parts, Vec::from_slice(rt.alloc(), first)?, failing)
 }
@@ -79,7 +80,7 @@ fn play_bytes<R: Threads + Wait + Sync + AllocGlobal>(
     parts: &Parts,
     bytes: Vec<u8>,
     failing: Failing,
-) -> Result<String, AllocError> {
+) -> io::Result<String> {
     let alloc = rt.alloc();
     let take = Vec::from_slice(alloc, &[failing.take])?;
     let mut input = MemorySource::new(bytes, parts.step.max(1), take);
@@ -87,7 +88,7 @@ fn play_bytes<R: Threads + Wait + Sync + AllocGlobal>(
         MemorySink::new(alloc, ROOM, Vec::from_slice(alloc, &[failing.put])?),
         MemorySink::new(alloc, 4096, Vec::from_slice(alloc, &[failing.note])?),
     ) else {
-        return Err(AllocError);
+        return Err(io::ErrorKind::OutOfMemory.into());
     };
     let mut film = Parted {
         sink,
@@ -102,7 +103,8 @@ fn play_bytes<R: Threads + Wait + Sync + AllocGlobal>(
         &mut notes,
         &Open,
     );
-    told(alloc, parts, &report, film.sink.bytes(), notes.bytes())
+    let told = told(alloc, parts, &report, film.sink.bytes(), notes.bytes())?;
+    Ok(told)
 }
 
 /// Plays the input with each call of the source failing, from one number to another, and tells what all of them came to; or which is
@@ -112,13 +114,13 @@ fn play_takes<R: Threads + Wait + Sync + AllocGlobal>(
     parts: &Parts,
     from: u32,
     to: u32,
-) -> Result<String, AllocError> {
+) -> io::Result<String> {
     let (whole, none) = (parts.input.len(), Failing::default());
     let first = play_first(rt, parts, whole, Failing { take: from, ..none })?;
     for take in from..=to {
         let came = play_first(rt, parts, whole, Failing { take, ..none })?;
         if came.as_str() != first.as_str() {
-            return format!(in rt.alloc(); "{first}; and with call {take} failing {came}");
+            return Ok(format!(in rt.alloc(); "{first}; and with call {take} failing {came}")?);
         }
     }
     Ok(first)
@@ -131,12 +133,12 @@ fn play_cuts<R: Threads + Wait + Sync + AllocGlobal>(
     parts: &Parts,
     from: usize,
     to: usize,
-) -> Result<String, AllocError> {
+) -> io::Result<String> {
     let first = play_first(rt, parts, from, Failing::default())?;
     for count in from..=to {
         let came = play_first(rt, parts, count, Failing::default())?;
         if came.as_str() != first.as_str() {
-            return format!(in rt.alloc(); "{first}; and cut to {count} {came}");
+            return Ok(format!(in rt.alloc(); "{first}; and cut to {count} {came}")?);
         }
     }
     Ok(first)
@@ -146,7 +148,7 @@ fn play_cuts<R: Threads + Wait + Sync + AllocGlobal>(
 fn play_film_cuts<R: Threads + Wait + Sync + AllocGlobal>(
     rt: &R,
     parts: &Parts,
-) -> Result<String, AllocError> {
+) -> io::Result<String> {
     let (alloc, count) = (rt.alloc(), parts.input.len().saturating_sub(parts.script));
     let mut early = 0usize;
     for length in 0..count {
@@ -159,7 +161,7 @@ fn play_film_cuts<R: Threads + Wait + Sync + AllocGlobal>(
             early = early.saturating_add(1);
         }
     }
-    format!(in alloc; "{early} of {count}")
+    Ok(format!(in alloc; "{early} of {count}")?)
 }
 
 /// Plays the input with other bytes from a place of the film behind the script on.
@@ -168,7 +170,7 @@ fn play_film_with<R: Threads + Wait + Sync + AllocGlobal>(
     parts: &Parts,
     place: usize,
     hex: &str,
-) -> Result<String, AllocError> {
+) -> io::Result<String> {
     let (alloc, input) = (rt.alloc(), parts.input.as_slice());
     let place = parts.script.saturating_add(place);
     let mut bytes = Vec::from_slice(alloc, input.get(..place).unwrap_or(input))?;
@@ -186,7 +188,7 @@ pub(crate) fn answer<R: Threads + Wait + Sync + AllocGlobal>(
     rt: &R,
     parts: &mut Parts,
     call: &str,
-) -> Result<String, AllocError> {
+) -> io::Result<String> {
     let alloc = rt.alloc();
     let (verb, rest) = call.split_once(' ').unwrap_or((call, ""));
     if let Some(told) = parts.take(alloc, verb, rest)? {
@@ -235,6 +237,6 @@ pub(crate) fn answer<R: Threads + Wait + Sync + AllocGlobal>(
         ),
         "film_cuts" => play_film_cuts(rt, parts),
         "film_with" => play_film_with(rt, parts, wf_cases::number(words, 0), word(words, 1)),
-        _ => format!(in alloc; "no such call"),
+        _ => Ok(format!(in alloc; "no such call")?),
     }
 }
