@@ -89,7 +89,7 @@ use wf_scene::{{ContextAttr, ElementAttr}};
 pub enum Request {{ {own} }}
 
 impl Request {{
-    /// The call that it is.
+    /// Returns the call that it is.
     pub fn call(self) -> Call
         ensures {{ result ≡ call_of self }}
     {{
@@ -98,7 +98,7 @@ impl Request {{
 }}
 
 impl Call {{
-    /// What this call asks for, or none where it brings a canvas or a Job.
+    /// Returns what this call asks for, or `None` where it brings a canvas or a Job.
     pub fn request(&self) -> Option<Request>
         ensures {{ MatchOption result (brings self.now ≡ true) (λ request. call_of request ≡ self.now) }}
     {{
@@ -168,7 +168,7 @@ ghost use Rattle.wf_calls.specs.Requests.{{call_of}};
 use crate::request::Request;
 
 impl Request {{
-    /// Whether this call makes an object, whose handle it answers. No other call can answer OutOfMemory.
+    /// Tells whether this call makes an object, whose handle it answers. No other call can answer OutOfMemory.
     pub fn is_creation(&self) -> bool
         ensures {{ result ≡ is_creation (call_of self.now) }}
     {{

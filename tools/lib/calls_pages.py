@@ -3,7 +3,7 @@
 from lib.calls_lower import WHOLE
 
 # The letter of an argument in a line, where it is not the first of its name.
-LETTERS = {"width": "W", "height": "H", "format": "F", "buffers": "B", "source": "x", "pipe": "l", "index": "N", "on": "N",
+LETTERS = {"width": "W", "height": "H", "format": "F", "buffers": "B", "depth": "D", "source": "x", "pipe": "l", "index": "N", "on": "N",
            "attr": "ATTRIBUTE", "value": "v ..", "transition": "T", "paint": "P"}
 OBJECTS = {"pipe": "pipeline"}
 LINE = "\n"

@@ -163,7 +163,7 @@ impl Parts {{
         requires {{ part_of (call_of call.now) ≡ Part.Streams }}
         ensures {{ IsAct self.old (call_of call.now) self.new (bare result) }}
     {{
-        self.all_named();
+        self.prove_all_named();
         match call {{ {act} }}
     }}
 
@@ -173,7 +173,7 @@ impl Parts {{
         requires ours {{ part_of (call_of call.now) ≡ Part.Streams }}
         ensures {{ IsMarkedAct true self.now (call_of call.now) self.now (bare result) }}
     {{
-        self.all_named();
+        self.prove_all_named();
         match call {{ {deny} }}
     }}
 
@@ -333,7 +333,7 @@ pub(crate) fn call_of(words: &[&str]) -> Option<Call> {{
 def chosen(name, kind, choices, shown):
     """Returns a function that reads a word of a kind; a word that is none of them is the last one."""
     lines = "".join(f'"{word}" => {kind.type}::{value},' for word, value in choices[:-1])
-    return f"""/// The `{kind.type}` of the word at a place, or the last one where it is none of its words.
+    return f"""/// Returns the `{kind.type}` of the word at a place, or the last one where it is none of its words.
 {shown} fn {name}(words: &[&str], at: usize) -> {kind.type} {{
     match word(words, at) {{ {lines} _ => {kind.type}::{choices[-1][1]}, }}
 }}

@@ -2,6 +2,7 @@
 
 import re
 
+from lib.limits import MOST_SIDE
 from lib.model import CODES, bytes_of
 from lib.names import Counted, job_of
 
@@ -12,6 +13,11 @@ LOOKS = ("canvas", "job", "scene", "layer", "content")
 CHANGES = ("swap", "spare", "put", "pop", "round")
 NUMBER = re.compile(r"-?\d+")
 REPEATED = re.compile(r"(\d+) times (.*)")
+
+
+def are_sides(width, height):
+    """Whether an image may have these sides."""
+    return 1 <= width <= MOST_SIDE and 1 <= height <= MOST_SIDE
 
 
 class Player:
@@ -27,8 +33,8 @@ class Player:
         words = [int(word) if NUMBER.fullmatch(word) else word for word in call.split()]
         if words[0] == "ports":
             _, width, height, ports = words
-            sides = 1 <= width <= 1024 and 1 <= height <= 1024
-            self.machine = Counted([[(width, height)]] * (ports if ports in (1, 2) else 4), 2) if sides else None
+            is_made = are_sides(width, height)
+            self.machine = Counted([[(width, height)]] * (ports if ports in (1, 2) else 4), 2) if is_made else None
             self.canvas = self.job = None
             return "done"
         if self.machine is None:
@@ -82,7 +88,7 @@ class Player:
 
     def by_forge(self, words):
         number, form, width, height = words
-        is_made = 1 <= width <= 1024 and 1 <= height <= 1024
+        is_made = are_sides(width, height)
         self.canvas = (number, form if form in FORMATS else "a8", width, height) if is_made else None
         return "done" if is_made else "not done"
 

@@ -49,7 +49,8 @@ class Crowd:
         width, height = self.side(), self.side()
         if stream is None:
             stream = f"s{end}"
-            self.add(client, stream, "= stream", width, height, self.chance.choice(FORMATS), self.chance.choice((2, 3)))
+            self.add(client, stream, self.chance.choice(("= stream", "= queue")), width, height, self.chance.choice(FORMATS),
+                     self.chance.choice((2, 3)))
         else:
             width, height = 1, 1
         self.add(client, f"x{end}", "= source d", context, stream)

@@ -12,6 +12,8 @@ A film is refused at its first fault, which has a place, the first byte that is 
 import contextlib
 from typing import NamedTuple, Optional
 
+from lib.limits import MOST_CLIENT, MOST_NUMBER, MOST_PORTS, MOST_SIDE
+
 # The codes of answers, each at its number.
 CODES = (
     "Ok",
@@ -30,10 +32,6 @@ CODES = (
 )
 OK = CODES.index("Ok")
 MAGICS = {b"WFF1": 1, b"WFF2": 2}
-MOST_PORTS = 4
-MOST_SIDE = 1024
-MOST_CLIENT = 7
-MOST_NUMBER = 2**32 - 1
 STANDARD_INPUT = 0
 
 

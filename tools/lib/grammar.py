@@ -2,20 +2,14 @@
 
 import re
 
+from lib.limits import MOST_LINES, MOST_MODES, MOST_NUMBER, MOST_PIPES, MOST_PLACE, MOST_PORTS, MOST_SIDE
 from lib.verbs import ATTRIBUTES, CREATIONS, VERBS, WORDS
 
 HEADER = b"WFS1"
-MOST_LINES = 16384
-MOST_SIDE = 1024
-MOST_PIPES = 8
-MOST_PORTS = 4
-MOST_MODES = 4
-MOST_NUMBER = 4_294_967_295
-MOST_PLACE = 16_384
 NUMBER = re.compile(r"-?[0-9]{1,10}\Z")
 UNSIGNED = re.compile(r"[0-9]{1,10}\Z")
 NAME = re.compile(r"[a-z][a-z0-9_]{0,15}\Z")
-HEX = re.compile(r"([0-9a-fA-F]{8}){1,1024}\Z")
+HEX = re.compile(rf"([0-9a-fA-F]{{8}}){{1,{MOST_SIDE}}}\Z")
 
 # The numbers of a paint: the least and the most of each, and whether it may have a sign, as all of x and y may; `pixels` is the word of
 # a row.

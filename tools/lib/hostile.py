@@ -2,18 +2,15 @@
 
 import random
 
-from lib.film import MOST_SIDE
+from lib.limits import MOST_FILM, MOST_INSERTED, MOST_LINES, MOST_SCRIPT, MOST_SIDE
 
-MOST_SCRIPT = 1_048_576
-MOST_FILM = 67_108_864
-MOST_LINES = 16_384
 LINE = MOST_SCRIPT // MOST_LINES
 START = b"WFS1\nport 1x1\n"
 END = b"end\n"
 SCENE = b"".join(
     [b"0 d = device\n0 c = screen d 1\n0 s = stream 1 1 rgbx 2\n0 x = source d c s\n"]
     + [b"0 e%d = element d c\n0 set d e%d source x\n0 set d e%d srcrect 0 0 1 1\n0 set d e%d dest 0 0 1 1\n0 insert d e%d none\n"
-       % (number, number, number, number, number) for number in range(32)]
+       % (number, number, number, number, number) for number in range(MOST_INSERTED)]
 )
 
 
@@ -50,8 +47,8 @@ SCRIPTS = {
     "ticks": (lambda size: filled(START, lambda number: b"0 tick", size), 0),
     "names": (lambda size: filled(START, lambda number: b"0 name_of_a%05d = stream 1 1 rgba 2" % number, size), 0),
     "names without an end": (lambda size: filled(START, lambda number: b"0 name_of_a%05d = stream 1 1 rgba 2" % number, size, b""), 5),
-    "commits of 32 elements": (lambda size: filled(START + SCENE, lambda number: b"0 commit d c", size), 0),
-    "rows of 1,024 pixels": (rows, 0),
+    f"commits of {MOST_INSERTED} elements": (lambda size: filled(START + SCENE, lambda number: b"0 commit d c", size), 0),
+    f"rows of {MOST_SIDE:,} pixels": (rows, 0),
 }
 
 

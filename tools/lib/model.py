@@ -2,11 +2,22 @@
 frame shows. It asks from scratch what names a stream and which layers a pixel has. Of rest and speed it knows nothing: calls come one
 after another, and a frame ends before the next call."""
 
+from lib.limits import (
+    MOST_BYTES,
+    MOST_CONTEXTS,
+    MOST_DEPTH,
+    MOST_DEVICES,
+    MOST_ELEMENTS,
+    MOST_INSERTED,
+    MOST_PLACE,
+    MOST_SIDE,
+    MOST_SOURCES,
+    MOST_STREAMS,
+)
+
 CODES = ("Ok", "OutOfMemory", "IllegalArgument", "Unsupported", "NotSupported", "BadAttribute", "InUse", "Busy", "NoBuffer", "BadDevice",
          "BadHandle", "Inconsistency", "Limit")
 PIXEL_BYTES = {"rgba": 4, "pre": 4, "rgbx": 4, "a8": 1}
-MOST_STREAMS, MOST_BYTES, MOST_DEVICES, MOST_CONTEXTS = 64, 134_217_728, 8, 16
-MOST_ELEMENTS, MOST_INSERTED, MOST_SOURCES, MOST_SIDE, MOST_PLACE = 64, 32, 256, 1024, 16_384
 ALPHA, SOURCE, MASK = 1, 2, 4
 FILTERS = {"none": 0, "faster": 1, "better": 2}
 FLAGS = {"none": 0, "alpha": ALPHA, "source": SOURCE, "mask": MASK}
@@ -40,14 +51,26 @@ class Thing:
         self.__dict__.update(has)
 
 
-def new_stream(width, height, form, buffers):
-    """A stream whose buffers are all free. What is out is None, `client` or `frame`."""
-    return Thing("stream", w=width, h=height, form=form, buffers=buffers, out=None, ready=None, read=None)
+def new_stream(width, height, form, buffers, depth=0):
+    """A stream whose buffers are all free, plain or a queue of a depth. What is out is None, `client` or `frame`."""
+    return Thing("stream", w=width, h=height, form=form, buffers=buffers, depth=depth, out=None, waiting=[], read=None)
 
 
-def free(stream):
-    """How many buffers of a stream are free."""
-    return stream.buffers - sum(each is not None for each in (stream.out, stream.ready, stream.read))
+def is_blocked(stream, waiting, read):
+    """Whether no buffer of a stream may be taken, with these images waiting and this one read."""
+    if stream.depth:
+        return len(waiting) == stream.depth
+    return stream.buffers == len(waiting) + sum(each is not None for each in (stream.out, read))
+
+
+def add(stream, image):
+    """A finished image waits: alone in a plain stream, behind the others in a queue."""
+    stream.waiting = [*stream.waiting, image] if stream.depth else [image]
+
+
+def taken(stream):
+    """What waits and what is read once a frame took its image."""
+    return (stream.waiting[1:], stream.waiting[0]) if stream.waiting else ([], stream.read)
 
 
 def bytes_of(stream):
@@ -153,7 +176,7 @@ class Machine:
         """What keeps a refusal of a call: the display, a live device or nothing."""
         if verb in OF_DISPLAY:
             return self
-        of_device = verb not in ("stream", "del_stream", "acquire", "post", "discard", "stat", "device", "derror")
+        of_device = verb not in ("stream", "queue", "del_stream", "acquire", "post", "discard", "stat", "device", "derror")
         device = self.live.get(words[0]) if of_device else None
         return device if device is not None and device.kind == "device" else None
 
@@ -171,7 +194,15 @@ class Machine:
     def stream(self, words, is_denied):
         width, height, form, buffers = words
         need(1 <= width <= MOST_SIDE and 1 <= height <= MOST_SIDE and 2 <= buffers <= 4, "IllegalArgument")
-        stream = new_stream(width, height, form, buffers)
+        return self.keep(new_stream(width, height, form, buffers), is_denied)
+
+    def queue(self, words, is_denied):
+        width, height, form, depth = words
+        need(1 <= width <= MOST_SIDE and 1 <= height <= MOST_SIDE and 1 <= depth <= MOST_DEPTH, "IllegalArgument")
+        return self.keep(new_stream(width, height, form, depth + 1, depth), is_denied)
+
+    def keep(self, stream, is_denied):
+        """Keeps a new stream, and answers its handle."""
         need(len(self.streams) < MOST_STREAMS, "Limit")
         need(sum(map(bytes_of, self.streams)) + bytes_of(stream) <= MOST_BYTES, "Limit")
         handle = self.make(stream, is_denied)
@@ -184,7 +215,7 @@ class Machine:
     def acquire(self, words, _):
         stream = self.find(words[0], "stream")
         need(stream.out is None, "Busy")
-        need(free(stream) > 0, "NoBuffer")
+        need(not is_blocked(stream, stream.waiting, stream.read), "NoBuffer")
         stream.out = "client"
 
     def stat(self, words, _):
@@ -464,11 +495,10 @@ class Machine:
     # Frames. Each answers what it takes to paint one: the scene and the images by their streams.
 
     def latch(self, scene):
-        """The newest images of a scene's streams."""
+        """The images that a frame takes of a scene's streams."""
         streams = [stream for layer in scene.layers for stream in (layer.stream, layer.mask) if stream is not None]
-        for stream in streams:
-            if stream.ready is not None:
-                stream.read, stream.ready = stream.ready, None
+        for stream in set(streams):
+            stream.waiting, stream.read = taken(stream)
         return {id(stream): stream.read for stream in streams if stream.read is not None}
 
     def begin(self, context, value):
@@ -476,15 +506,14 @@ class Machine:
         target, scene = context.target, context.committed
         need(target.out is None, "Busy", value)
         is_named = any(target in (layer.stream, layer.mask) for layer in scene.layers)
-        has_two = target.ready is not None and target.read is not None
-        need(free(target) + (is_named and has_two) > 0, "NoBuffer", value)
+        need(not is_blocked(target, *(taken(target) if is_named else (target.waiting, target.read))), "NoBuffer", value)
         target.out = "frame"
         return scene, self.latch(scene)
 
     def end(self, context, image):
         """Ends a frame of a context with the image that was painted."""
         context.target.out = None
-        context.target.ready = image
+        add(context.target, image)
         self.settle()
 
     def next_context(self, after):

@@ -4,7 +4,7 @@ docs/profile.md. Streams have numbers, which count from 1 all that were ever mad
 from collections import Counter
 from typing import NamedTuple
 
-from lib.model import Machine, Thing, need
+from lib.model import Machine, Thing, add, need
 
 
 class Frame(NamedTuple):
@@ -65,9 +65,9 @@ class Counted(Machine):
 
     # Streams.
 
-    def stream(self, words, is_denied):
-        handle = super().stream(words, is_denied)
-        self.number(self.live[handle])
+    def keep(self, stream, is_denied):
+        handle = super().keep(stream, is_denied)
+        self.number(stream)
         return handle
 
     def canvas(self, words):
@@ -79,7 +79,7 @@ class Counted(Machine):
         return stream
 
     def post(self, words, _):
-        self.canvas(words).ready = "an image"
+        add(self.canvas(words), "an image")
 
     def discard(self, words, _):
         self.canvas(words)

@@ -5,11 +5,11 @@ import struct
 from typing import NamedTuple
 
 from lib.grammar import PAINTS, is_number
-from lib.model import CODES, FILTERS, FLAGS, Machine, Refusal
+from lib.limits import MOST_CONTEXTS
+from lib.model import CODES, FILTERS, FLAGS, Machine, Refusal, add
 from lib.pictures import Canvas, picture
 from lib.verbs import ATTRIBUTES, CREATIONS, VERBS
 
-MOST_ASKED = 16
 MAGIC = {1: b"WFF1", 2: b"WFF2"}
 OUT_OF_MEMORY = CODES.index("OutOfMemory")
 
@@ -114,7 +114,7 @@ class Show:
         canvas = self.held.pop(client)
         canvas.stream.out = None
         if is_shown:
-            canvas.stream.ready = bytes(canvas.pixels)
+            add(canvas.stream, bytes(canvas.pixels))
         self.machine.settle()
         self.event(client, 0, 0)
 
@@ -147,7 +147,7 @@ class Show:
         """A tick: a frame of each active context, and then one of each port."""
         self.ticks += 1
         after = 0
-        for _ in range(MOST_ASKED):
+        for _ in range(MOST_CONTEXTS):
             context = self.machine.next_context(after)
             after = context.handle if context else 0
             if context is None:

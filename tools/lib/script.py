@@ -8,10 +8,10 @@ play and any other. Nothing here judges a script: the program does.
 from typing import NamedTuple, Optional
 
 from lib.film import CODES, OK
+from lib.limits import MOST_CONTEXTS, MOST_SIDE
 
 HEADER = "WFS1"
 CLIENTS = "01234567"
-MOST_ASKED = 16
 
 # What an event is in its line.
 CALL = "call"
@@ -33,13 +33,13 @@ ERRORS = ("error", "derror")
 RULES_OF_A_COMMIT = {
     1: "its source is no live source",
     2: "its source rectangle has no side, or does not lie inside of the stream",
-    3: "a side of its destination is not from 1 to 1024",
+    3: f"a side of its destination is not from 1 to {MOST_SIDE}",
     4: "its mask is no live mask, or not as large as the destination",
 }
 RULES_OF_A_DISPLAY_COMMIT = {
     1: "the source that it is asked to show is not live",
     2: "its source rectangle has no side, or does not lie inside of the stream",
-    3: "a side of its destination is not from 1 to 1024",
+    3: f"a side of its destination is not from 1 to {MOST_SIDE}",
     4: "it would go over to a port, or from one, that this commit does not take",
 }
 DISPLAY_COMMITS = ("commit_device", "commit_port", "commit_pipe")
@@ -126,7 +126,7 @@ def program(lines, ports):
 
 def tick(line, ports):
     """The part of a program that is a tick: contexts until there is no more, or sixteen times, and then each port."""
-    for _ in range(MOST_ASKED):
+    for _ in range(MOST_CONTEXTS):
         is_frame, context = yield Step(line, NEXT_CONTEXT)
         if is_frame:
             yield Step(line, END)

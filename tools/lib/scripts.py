@@ -4,10 +4,11 @@ from lib.grammar import PAINTS
 from lib.verbs import ATTRIBUTES, CREATIONS, VERBS, WORDS
 
 SIDES = (1, 2, 3, 4, 5, 7)
-BUILDS = ("stream", "source", "element", "mask", "wsource")
+BUILDS = ("stream", "queue", "source", "element", "mask", "wsource")
 OFTEN = ("set", "insert", "commit", "frame", "tick", "lset", "lsource", "activate", "commit_device", "lport", "compose")
 MAKERS = {"d": "device", "c": "context", "s": "stream", "x": "source", "m": "mask", "e": "element", "w": "wsource"}
-OF = {"screen": "c", "offscreen": "c", "stream": "s", "source": "x", "mask": "m", "element": "e", "wsource": "w", "device": "d"}
+OF = {"screen": "c", "offscreen": "c", "stream": "s", "queue": "s", "source": "x", "mask": "m", "element": "e", "wsource": "w",
+      "device": "d"}
 # The letters of the handles that a verb names, one after another.
 HANDLES = {
     "acquire": "s", "frame": "s", "del_stream": "s", "error": "d", "del_device": "d", "cset": "dc", "cget": "dc", "commit": "dc",
@@ -105,6 +106,8 @@ class Writer:
         words = list(self.words(verb, CREATIONS[verb] if verb in CREATIONS else VERBS[verb]))
         if verb == "stream":
             words = [self.side(), self.side(), chance.choice(WORDS["format"]), chance.choice((2, 2, 3, 4, 1))]
+        if verb == "queue":
+            words = [self.side(), self.side(), chance.choice(WORDS["format"]), chance.choice((1, 1, 2, 3, 8, 9))]
         if verb in CREATIONS:
             self.write_creation(client, verb, words)
         else:
@@ -119,7 +122,7 @@ class Writer:
 
     def scene(self):
         """Writes a layer that shows."""
-        self.write_creation(0, "stream", [4, 3, self.chance.choice(("rgba", "pre", "rgbx")), 3])
+        self.write_creation(0, self.chance.choice(("stream", "queue")), [4, 3, self.chance.choice(("rgba", "pre", "rgbx")), 3])
         stream = self.names["s"][-1]
         self.write_creation(0, "source", [self.names["d"][0], self.names["c"][0], stream])
         self.write_creation(0, "element", [self.names["d"][0], self.names["c"][0]])

@@ -3,6 +3,7 @@ the program cases_machine plays. They reach all that names a stream: handles, wr
 
 from typing import NamedTuple
 
+from lib.limits import MOST_SIDE
 from lib.model import ALPHA, CODES, MASK, SOURCE, bytes_of
 from lib.names import Counted, job_of
 
@@ -20,7 +21,7 @@ class Kind(NamedTuple):
 
 NAMED = {"make_stream": 2, "end_stream": 1, "make_window": 24, "make_plane": 12, "end_source": 1, "end_element": 1, "end_device": 0}
 KINDS = (Kind(30, (1, 3, 6), (1, 2, 3), {}), Kind(25, (8, 20, 40), (1, 2, 3), {}), Kind(25, (40, 62, 70), (1, 2), {}),
-         Kind(12, (2, 4, 12), (1, 2), NAMED), Kind(8, (10, 40, 70), (1, 900, 1024), {"make_stream": 12}))
+         Kind(12, (2, 4, 12), (1, 2), NAMED), Kind(8, (10, 40, 70), (1, 900, MOST_SIDE), {"make_stream": 12}))
 # Runs whose streams are large, and soon dropped, which come where they are asked for.
 LARGE = Kind(0, (4, 8, 16), (500, 1024), {"make_stream": 60, "end_stream": 40, "end_source": 20, "end_context": 20})
 # After so many deeds a run has another number of streams about.
@@ -156,8 +157,9 @@ class Soaking:
         width, height = self.chance.choice(self.kind.sides), self.chance.choice(self.kind.sides)
         form, buffers = self.chance.choice(FORMATS), self.chance.choice((2, 2, 3, 4))
         if self.is_astray():
-            width, buffers = self.chance.choice(((0, 2), (1025, 2), (1, 1), (1, 5)))
-        if self.call("stream", width, height, form, buffers) is not None:
+            width, buffers = self.chance.choice(((0, 2), (MOST_SIDE + 1, 2), (1, 1), (1, 5)))
+        word = self.chance.choice(("stream", "stream", "queue"))
+        if self.call(word, width, height, form, buffers) is not None:
             self.bytes += bytes_of(self.machine.streams[-1])
 
     def end_stream(self):

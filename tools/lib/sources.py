@@ -48,7 +48,7 @@ class Source:
         """Returns the words of the clauses of the functions of this name, of the clause `wanted` or of all where that is `*`, with the
         types of the values that they speak of."""
         words, text = set(), "\n".join(self.lines)
-        for found in re.finditer(rf"\bfn {function}\b.*?^ *(?:\{{|\}}|[^\n]*;)$", text, re.DOTALL | re.MULTILINE):
+        for found in re.finditer(rf"\bfn {function}\b.*?^ *(?:\{{\}}?|\}}|[^\n]*;)$", text, re.DOTALL | re.MULTILINE):
             clauses = [clause for clause in CLAUSE.finditer(found[0]) if wanted in ("*", (clause[1] or "").strip())]
             head = found[0][: next(CLAUSE.finditer(found[0])).start()] if clauses else ""
             if "self" in head:

@@ -92,6 +92,7 @@ VERBS = {
 }
 CREATIONS = {
     "stream": ["number", "number", "format", "number"],
+    "queue": ["number", "number", "format", "number"],
     "device": [],
     "screen": ["handle", "number"],
     "offscreen": ["handle", "handle"],

@@ -1,7 +1,7 @@
-//! The program `bench_pictures`: with the word `paint` it prints how long filling a canvas of 1024 by 1024 pixels takes,
-//! beside std's fill of as many bytes; with the word `picture`, what a pixel of a picture takes; with the word `rows`, how
-//! much sooner a picture is painted by several threads; with the word `order`, what calls on the order of elements take, by
-//! links and in vectors. With any other words it prints nothing.
+//! The program `bench_pictures`: with the word `paint` it prints how long filling the largest canvas takes, beside std's fill
+//! of as many bytes; with the word `picture`, what a pixel of a picture takes; with the word `rows`, how much sooner a picture
+//! is painted by several threads; with the word `order`, what calls on the order of elements take, by links and in vectors.
+//! With any other words it prints nothing.
 #![tactic(auto)]
 
 mod order;
@@ -14,12 +14,15 @@ use std::rt::{Clock, Env};
 use std::time::{Duration, Instant};
 use std::{env, io};
 use wf_image::{Canvas, Image, Paint};
-use wf_pixel::{Format, Rgba, Size};
+use wf_pixel::{Format, MOST_SIDE, Rgba, SIDE_LEN, Size};
 
 /// How many fills are timed; the shortest counts.
 const ROUNDS: u32 = 50;
 
-const SIZE: Size = Size { w: 1024, h: 1024 };
+const SIZE: Size = Size {
+    w: MOST_SIDE,
+    h: MOST_SIDE,
+};
 
 const COLOR: Rgba = Rgba {
     r: 1,
@@ -45,7 +48,7 @@ fn canvas_time(clock: &impl Clock, alloc: Global) -> io::Result<Duration> {
 
 /// The shortest time of std's fill over as many bytes.
 fn fill_time(clock: &impl Clock, alloc: Global) -> io::Result<Duration> {
-    let mut bytes = vec![in alloc; 0u8; 4 * 1024 * 1024]?;
+    let mut bytes = vec![in alloc; 0u8; 4 * SIDE_LEN * SIDE_LEN]?;
     let mut least = Duration::MAX;
     for round in 0..ROUNDS {
         let start = Instant::now(clock)?;
@@ -59,7 +62,10 @@ fn fill_time(clock: &impl Clock, alloc: Global) -> io::Result<Duration> {
 fn print_times(rt: &(impl Print + Clock + AllocGlobal)) -> io::Result<()> {
     let canvas = canvas_time(rt, rt.alloc())?;
     let fill = fill_time(rt, rt.alloc())?;
-    println!(rt; "a canvas of 1024x1024 filled: {} us", canvas.as_micros())?;
+    println!(rt;
+        "a canvas of {MOST_SIDE}x{MOST_SIDE} filled: {} us",
+        canvas.as_micros()
+    )?;
     println!(rt; "std's fill of as many bytes: {} us", fill.as_micros())
 }
 

@@ -7,19 +7,13 @@ use std::io;
 use std::rt::Clock;
 use std::time::{Duration, Instant};
 use wf_pixel::Size;
-use wf_scene::Cached;
+use wf_scene::{Cached, MOST_ELEMENTS, MOST_INSERTED};
 
 /// How many calls are timed.
 const CALLS: u32 = 100_000;
 
 /// How often they are; the shortest time counts.
 const ROUNDS: u32 = 20;
-
-/// How many elements there are, with the handles from 1 on.
-const ELEMENTS: u32 = 64;
-
-/// How many of them are inserted at once, at most.
-const MOST_INSERTED: usize = 32;
 
 /// A call on the order: an element is taken out, or put directly above another one, or lowest by 0.
 #[derive(Clone, Copy)]
@@ -32,11 +26,11 @@ struct Change {
 /// The call of a number: each third one takes an element out, and each other one of the rest puts one lowest.
 fn change_of(number: u32) -> Change {
     Change {
-        element: 1 + number % 61 * 37 % ELEMENTS,
+        element: 1 + number % 61 * 37 % MOST_ELEMENTS,
         below: if number % 2 == 0 {
             0
         } else {
-            1 + number % 53 * 23 % ELEMENTS
+            1 + number % 53 * 23 % MOST_ELEMENTS
         },
         is_removal: number % 3 == 2,
     }
@@ -114,9 +108,9 @@ fn in_scene(alloc: Global) -> io::Result<Cached> {
     let Ok(mut cached) = Cached::new(alloc, Size { w: 8, h: 8 }, true) else {
         return Err(io::ErrorKind::OutOfMemory.into());
     };
-    for before in 0..ELEMENTS {
+    for before in 0..MOST_ELEMENTS {
         let element = before + 1;
-        if cached.count() < ELEMENTS && !cached.has(element) {
+        if cached.count() < MOST_ELEMENTS && !cached.has(element) {
             cached.add(element);
         }
     }
@@ -125,8 +119,8 @@ fn in_scene(alloc: Global) -> io::Result<Cached> {
 
 /// The same elements in vectors.
 fn in_vectors(alloc: Global) -> io::Result<Plain> {
-    let mut elements = Vec::with_capacity(alloc, ELEMENTS as usize)?;
-    for before in 0..ELEMENTS {
+    let mut elements = Vec::with_capacity(alloc, MOST_ELEMENTS as usize)?;
+    for before in 0..MOST_ELEMENTS {
         elements.push(before + 1)?;
     }
     Ok(Plain {
@@ -170,7 +164,7 @@ pub(crate) fn print_times(rt: &(impl Print + Clock + AllocGlobal)) -> io::Result
     let (by_links, done) = cached_time(rt, &mut in_scene(rt.alloc())?)?;
     let (by_vectors, same) = plain_time(rt, &mut in_vectors(rt.alloc())?)?;
     println!(rt;
-        "{CALLS} calls on the order of {ELEMENTS} elements, {done} done by links, {same} by vectors: {} us by links, {} us by vectors",
+        "{CALLS} calls on the order of {MOST_ELEMENTS} elements, {done} done by links, {same} by vectors: {} us by links, {} us by vectors",
         by_links.as_micros(),
         by_vectors.as_micros()
     )

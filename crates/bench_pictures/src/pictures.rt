@@ -12,7 +12,7 @@ use std::thread::Threads;
 use std::time::{Duration, Instant};
 use wf_image::{Contents, Image};
 use wf_kernel::{picture, picture_rows};
-use wf_pixel::{Format, Rgba, Size};
+use wf_pixel::{Format, MOST_SIDE, Rgba, Size};
 use wf_scene::Scene;
 
 /// How many pictures are timed; the shortest counts.
@@ -27,7 +27,7 @@ const BACKGROUND: Rgba = Rgba {
 
 /// Prints what a pixel of each kind takes, at three sizes.
 pub(crate) fn print_times(rt: &(impl Print + Clock + AllocGlobal)) -> io::Result<()> {
-    for (w, h) in [(320, 240), (640, 480), (1024, 1024)] {
+    for (w, h) in [(320, 240), (640, 480), (MOST_SIDE, MOST_SIDE)] {
         for kind in KINDS {
             let time = picture_time(rt, rt.alloc(), kind, Size { w, h })?;
             let nanos = time.as_secs_f64() * 1e9 / f64::from(w * h);
@@ -55,7 +55,7 @@ pub(crate) fn print_times(rt: &(impl Print + Clock + AllocGlobal)) -> io::Result
 pub(crate) fn print_rows<R: Print + Clock + Threads + Sync + AllocGlobal>(
     rt: &R,
 ) -> io::Result<()> {
-    for (w, h) in [(64, 48), (320, 240), (640, 480), (1024, 1024)] {
+    for (w, h) in [(64, 48), (320, 240), (640, 480), (MOST_SIDE, MOST_SIDE)] {
         for kind in [Kind::Opaque, Kind::Straight, Kind::Translucent] {
             let size = Size { w, h };
             let one = rows_time(rt, kind, size, 1)?.as_secs_f64();
@@ -80,9 +80,9 @@ fn rows_time<R: Clock + Threads + Sync + AllocGlobal>(
     workers: u32,
 ) -> io::Result<Duration>
     requires w_low { 8 ≤ size.w }
-    requires w_high { size.w ≤ 1024 }
+    requires w_high { size.w ≤ MOST_SIDE }
     requires h_low { 8 ≤ size.h }
-    requires h_high { size.h ≤ 1024 }
+    requires h_high { size.h ≤ MOST_SIDE }
     requires some { 1 ≤ workers }
     requires few { workers ≤ 16 }
 {
@@ -100,9 +100,9 @@ fn rows_time<R: Clock + Threads + Sync + AllocGlobal>(
 /// The shortest time of a picture.
 fn picture_time(clock: &impl Clock, alloc: Global, kind: Kind, size: Size) -> io::Result<Duration>
     requires w_low { 8 ≤ size.w }
-    requires w_high { size.w ≤ 1024 }
+    requires w_high { size.w ≤ MOST_SIDE }
     requires h_low { 8 ≤ size.h }
-    requires h_high { size.h ≤ 1024 }
+    requires h_high { size.h ≤ MOST_SIDE }
 {
     let (scene, contents) = scene_of(alloc, kind, size)?;
     let mut target = noise(alloc, size, Format::Rgba8Pre)?;
@@ -118,9 +118,9 @@ fn picture_time(clock: &impl Clock, alloc: Global, kind: Kind, size: Size) -> io
 /// The scene of a kind with its images.
 fn scene_of(alloc: Global, kind: Kind, size: Size) -> io::Result<(Scene, Contents)>
     requires w_low { 8 ≤ size.w }
-    requires w_high { size.w ≤ 1024 }
+    requires w_high { size.w ≤ MOST_SIDE }
     requires h_low { 8 ≤ size.h }
-    requires h_high { size.h ≤ 1024 }
+    requires h_high { size.h ≤ MOST_SIDE }
     ensures size { IfOk result (λ p. p.0.size ≡ size) }
     ensures fits { IfOk result (λ p. Fits p.0 p.1) }
 {

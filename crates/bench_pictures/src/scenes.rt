@@ -4,8 +4,8 @@ ghost use Rattle.std.specs.Prelude.{◌≡◌, ◌≢◌, ◌≤◌, All, false,
 ghost use Rattle.bench_pictures.specs.Shown.{IsShown};
 
 use arrayvec::ArrayVec;
-use wf_pixel::{Format, Rect, Rotation, Size, Transparency};
-use wf_scene::Layer;
+use wf_pixel::{Format, MOST_SIDE, Rect, Rotation, Size, Transparency};
+use wf_scene::{Layer, MOST_INSERTED};
 
 /// What a scene shows.
 #[derive(Clone, Copy, Debug, PartialEq, Eq)]
@@ -86,11 +86,11 @@ impl Kind {
 
 /// The layers of a scene of this size from the bottom up, which show parts of an image as wide and as high as the size's
 /// longer side.
-pub(crate) fn layers_of(kind: Kind, size: Size) -> ArrayVec<Layer, 32>
+pub(crate) fn layers_of(kind: Kind, size: Size) -> ArrayVec<Layer, MOST_INSERTED>
     requires w_low { 8 ≤ size.w }
-    requires w_high { size.w ≤ 1024 }
+    requires w_high { size.w ≤ MOST_SIDE }
     requires h_low { 8 ≤ size.h }
-    requires h_high { size.h ≤ 1024 }
+    requires h_high { size.h ≤ MOST_SIDE }
     ensures { All (IsShown size (max size.w size.h)) result.items }
 {
     let whole = corner(size.w, size.h);
@@ -179,7 +179,7 @@ fn turn_layer(turn: Rotation, layer: Layer) -> Layer
 }
 
 /// So many layers of one kind, 32 at most.
-fn stack(count: u32, size: Size, layer: Layer) -> ArrayVec<Layer, 32>
+fn stack(count: u32, size: Size, layer: Layer) -> ArrayVec<Layer, MOST_INSERTED>
     requires { IsShown size (max size.w size.h) layer }
     ensures { All (IsShown size (max size.w size.h)) result.items }
 {
@@ -191,23 +191,23 @@ fn stack(count: u32, size: Size, layer: Layer) -> ArrayVec<Layer, 32>
 }
 
 /// Adds a layer where there is room.
-fn add(layers: &mut ArrayVec<Layer, 32>, size: Size, layer: Layer)
+fn add(layers: &mut ArrayVec<Layer, MOST_INSERTED>, size: Size, layer: Layer)
     requires layer { IsShown size (max size.w size.h) layer }
     requires layers { All (IsShown size (max size.w size.h)) layers.old.items }
     ensures { All (IsShown size (max size.w size.h)) layers.new.items }
 {
     let _ = size;
-    if layers.len() < 32 {
+    if layers.len() < MOST_INSERTED {
         layers.push(layer);
     }
 }
 
 /// A wallpaper, and 15 opaque windows of three quarters of the sides over one another.
-fn windows(size: Size) -> ArrayVec<Layer, 32>
+fn windows(size: Size) -> ArrayVec<Layer, MOST_INSERTED>
     requires w_low { 8 ≤ size.w }
-    requires w_high { size.w ≤ 1024 }
+    requires w_high { size.w ≤ MOST_SIDE }
     requires h_low { 8 ≤ size.h }
-    requires h_high { size.h ≤ 1024 }
+    requires h_high { size.h ≤ MOST_SIDE }
     ensures { All (IsShown size (max size.w size.h)) result.items }
 {
     let whole = corner(size.w, size.h);
@@ -225,11 +225,11 @@ fn windows(size: Size) -> ArrayVec<Layer, 32>
 }
 
 /// 32 translucent layers of half the sides.
-fn panes(size: Size, transparency: Transparency) -> ArrayVec<Layer, 32>
+fn panes(size: Size, transparency: Transparency) -> ArrayVec<Layer, MOST_INSERTED>
     requires w_low { 8 ≤ size.w }
-    requires w_high { size.w ≤ 1024 }
+    requires w_high { size.w ≤ MOST_SIDE }
     requires h_low { 8 ≤ size.h }
-    requires h_high { size.h ≤ 1024 }
+    requires h_high { size.h ≤ MOST_SIDE }
     requires mask { transparency.mask ≡ false }
     ensures { All (IsShown size (max size.w size.h)) result.items }
 {
@@ -248,8 +248,8 @@ fn panes(size: Size, transparency: Transparency) -> ArrayVec<Layer, 32>
 
 /// A rectangle in the corner, moved.
 fn moved(r: Rect, x: u32, y: u32) -> Rect
-    requires x { x ≤ 1024 }
-    requires y { y ≤ 1024 }
+    requires x { x ≤ MOST_SIDE }
+    requires y { y ≤ MOST_SIDE }
     ensures { result ≡ record r { x = pos x; y = pos y } }
 {
     Rect {

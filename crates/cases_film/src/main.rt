@@ -15,7 +15,7 @@ use wf_cases::{Stage, color, number, size, word, words_of};
 use wf_film::{FilmForm, WriteStop, Writer};
 use wf_image::Image;
 use wf_io::MemorySink;
-use wf_pixel::{Format, Rgba, Size};
+use wf_pixel::{Format, MOST_SIDE, Rgba, Size};
 
 /// The most entries of a journal here.
 const MOST_TURNS: usize = 1000;
@@ -86,12 +86,12 @@ impl<R: AllocGlobal> Stage<R> for Films {
     }
 }
 
-/// An image of one colour, where the sides are from 1 to 1024.
+/// An image of one colour, where the sides are in their range.
 fn image_of(alloc: Global, size: Size, color: Rgba) -> Option<Image>
     ensures { IfSome result (λ image. pixel_bytes image.format ≡ 4) }
 {
     let Size { w, h } = size;
-    if 1 <= w && w <= 1024 && 1 <= h && h <= 1024 {
+    if 1 <= w && w <= MOST_SIDE && 1 <= h && h <= MOST_SIDE {
         let mut image = Image::new(alloc, Size { w, h }, Format::Rgba8).ok()?;
         for pixel in image.bytes_mut().chunks_exact_mut(4) {
             pixel[0] = color.r;

@@ -1,24 +1,30 @@
 //! The paint that a line stands for, in the words of scripts.
 
-ghost use Rattle.std.specs.Prelude.{IfOk, IfSome, IsTrue};
+ghost use Rattle.std.specs.Prelude.{◌≡◌, IfOk, IfSome, IsTrue};
 ghost use Rattle.wf_image.specs.Paints.{is_paint};
+ghost use Rattle.wf_pixel.specs.Choice.{is_coordinate};
 
 use std::alloc::{AllocError, Global};
 use wf_cases::{color, number, rect, word};
 use wf_image::{Paint, Pixels};
-use wf_pixel::Rgba;
+use wf_pixel::{MOST_COORDINATE, MOST_SIDE, Rgba, SIDE_LEN};
+
+/// Whether a number is in the range of coordinates.
+fn is_coordinate(z: i32) -> bool
+    ensures { result ≡ is_coordinate z }
+{
+    z.unsigned_abs() <= MOST_COORDINATE
+}
 
 /// A rectangle, where its numbers are in their ranges.
 fn rectangle(words: &[&str]) -> Option<Paint>
     ensures { IfSome result (λ paint. IsTrue (is_paint paint)) }
 {
     let area = rect(words, 1);
-    if -16384 <= area.x
-        && area.x <= 16384
-        && -16384 <= area.y
-        && area.y <= 16384
-        && area.w <= 16384
-        && area.h <= 16384
+    if is_coordinate(area.x)
+        && is_coordinate(area.y)
+        && area.w <= MOST_COORDINATE
+        && area.h <= MOST_COORDINATE
     {
         let color = color(words, 5);
         Some(Paint::Rectangle { area, color })
@@ -27,12 +33,12 @@ fn rectangle(words: &[&str]) -> Option<Paint>
     }
 }
 
-/// Squares, where their side is from 1 to 1024.
+/// Squares, where their side is in its range.
 fn checker(words: &[&str]) -> Option<Paint>
     ensures { IfSome result (λ paint. IsTrue (is_paint paint)) }
 {
     let n: u32 = number(words, 1);
-    if 1 <= n && n <= 1024 {
+    if 1 <= n && n <= MOST_SIDE {
         let (first, second) = (color(words, 2), color(words, 6));
         Some(Paint::Checker { n, first, second })
     } else {
@@ -51,7 +57,7 @@ fn row(alloc: Global, words: &[&str]) -> Result<Option<Paint>, AllocError>
         pixels.push(color(four, 0))?;
     }
     let count = pixels.len();
-    if y <= 1023 && 1 <= count && count <= 1024 {
+    if y < MOST_SIDE && 1 <= count && count <= SIDE_LEN {
         let pixels = Pixels::new(pixels);
         Ok(Some(Paint::Row { y, pixels }))
     } else {

@@ -16,14 +16,22 @@ pub(crate) fn call_of(words: &[&str]) -> Option<Call> {
 
 /// A call of the subject streams.
 fn of_streams(words: &[&str]) -> Option<Call> {
+    let width = number(words, 1);
+    let height = number(words, 2);
     let stream = number(words, 1);
     let device = number(words, 1);
     let call = match word(words, 0) {
         "stream" => Call::StreamNew {
-            width: number(words, 1),
-            height: number(words, 2),
+            width,
+            height,
             format: format(words, 3),
             buffers: number(words, 4),
+        },
+        "queue" => Call::StreamQueue {
+            width,
+            height,
+            format: format(words, 3),
+            depth: number(words, 4),
         },
         "del_stream" => Call::StreamDestroy { stream },
         "acquire" => Call::Acquire { stream },

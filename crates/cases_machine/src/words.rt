@@ -3,7 +3,7 @@
 use wf_calls::{PipeAttr, PortAttr, StatWord, Transition};
 use wf_cases::word;
 
-/// The `PortAttr` of the word at a place, or the last one where it is none of its words.
+/// Returns the `PortAttr` of the word at a place, or the last one where it is none of its words.
 pub(crate) fn port_attr(words: &[&str], at: usize) -> PortAttr {
     match word(words, at) {
         "mode" => PortAttr::Mode,
@@ -15,7 +15,7 @@ pub(crate) fn port_attr(words: &[&str], at: usize) -> PortAttr {
     }
 }
 
-/// The `PipeAttr` of the word at a place, or the last one where it is none of its words.
+/// Returns the `PipeAttr` of the word at a place, or the last one where it is none of its words.
 pub(crate) fn pipe_attr(words: &[&str], at: usize) -> PipeAttr {
     match word(words, at) {
         "dest" => PipeAttr::Dest,
@@ -31,7 +31,7 @@ pub(crate) fn pipe_attr(words: &[&str], at: usize) -> PipeAttr {
     }
 }
 
-/// The `StatWord` of the word at a place, or the last one where it is none of its words.
+/// Returns the `StatWord` of the word at a place, or the last one where it is none of its words.
 pub(crate) fn stat_word(words: &[&str], at: usize) -> StatWord {
     match word(words, at) {
         "streams" => StatWord::Streams,
@@ -39,7 +39,7 @@ pub(crate) fn stat_word(words: &[&str], at: usize) -> StatWord {
     }
 }
 
-/// The `Transition` of the word at a place, or the last one where it is none of its words.
+/// Returns the `Transition` of the word at a place, or the last one where it is none of its words.
 pub(crate) fn transition_word(words: &[&str], at: usize) -> Transition {
     match word(words, at) {
         "now" => Transition::Now,

@@ -8,7 +8,7 @@ ghost use Rattle.wf_scene.specs.Layers.{holds_rect};
 ghost use Rattle.wf_model.specs.Picture.{Fits, LayerFits};
 
 use wf_image::{Contents, Image};
-use wf_pixel::{Format, Rect, Size};
+use wf_pixel::{Format, MOST_COORDINATE, MOST_SIDE, Rect, Size};
 use wf_scene::{Layer, Scene};
 
 /// Whether there is a picture of the scene with these images.
@@ -80,11 +80,14 @@ fn lies_within(start: i32, side: u32, len: u32) -> bool
 fn is_drawn(r: Rect) -> bool
     ensures { IsTrue result → IsDrawn r }
 {
-    is_side(r.w) && is_side(r.h) && -16384 <= r.x && r.x <= 16384 && -16384 <= r.y && r.y <= 16384
+    is_side(r.w)
+        && is_side(r.h)
+        && r.x.unsigned_abs() <= MOST_COORDINATE
+        && r.y.unsigned_abs() <= MOST_COORDINATE
 }
 
 fn is_side(n: u32) -> bool
     ensures { IsTrue result → IsTrue (is_side n) }
 {
-    1 <= n && n <= 1024
+    1 <= n && n <= MOST_SIDE
 }

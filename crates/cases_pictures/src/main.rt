@@ -22,7 +22,7 @@ use std::process::ExitCode;
 use std::thread::Threads;
 use wf_image::{Contents, Image};
 use wf_kernel::{picture, picture_rows};
-use wf_pixel::{Format, Size};
+use wf_pixel::{Format, MOST_SIDE, Size};
 use wf_scene::Scene;
 
 /// How many scenes are painted.
@@ -89,10 +89,10 @@ fn paint_all<R: Threads + Sync + AllocGlobal>(
 /// How long sides are at most: short ones for most scenes, so that there are many edges.
 fn most(number: u32) -> u32
     ensures low { 1 ≤ result }
-    ensures high { result ≤ 1024 }
+    ensures high { result ≤ MOST_SIDE }
 {
     if number % 250 == 249 {
-        1024
+        MOST_SIDE
     } else if number % 50 == 49 {
         200
     } else {

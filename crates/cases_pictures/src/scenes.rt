@@ -8,15 +8,15 @@ use crate::dice::Dice;
 use arrayvec::ArrayVec;
 use std::alloc::Global;
 use std::io;
-use wf_image::{Contents, Image};
-use wf_pixel::{Format, Rect, Rotation, Size, Transparency, turned};
-use wf_scene::{Layer, Scene};
+use wf_image::{Contents, Image, MOST_CONTENTS};
+use wf_pixel::{Format, MOST_COORDINATE, MOST_SIDE, Rect, Rotation, Size, Transparency, turned};
+use wf_scene::{Layer, MOST_INSERTED, Scene};
 
 /// A scene, and the images that it shows. Its sides and those of its images are at most so long. Sources have the streams 1
 /// to 4; a fifth, and one mask in eight, has no image.
 pub(crate) fn scene_of(alloc: Global, dice: &mut Dice, most: u32) -> io::Result<(Scene, Contents)>
     requires low { 1 ≤ most }
-    requires high { most ≤ 1024 }
+    requires high { most ≤ MOST_SIDE }
     ensures { IfOk result (λ p. IsTrue (has_sides p.0.size)) }
 {
     let mut contents = Contents::new();
@@ -28,8 +28,12 @@ pub(crate) fn scene_of(alloc: Global, dice: &mut Dice, most: u32) -> io::Result<
     }
     let turn = dice.turn();
     let space = turned(turn, size);
-    let count = if dice.one_in(24) { 32 } else { dice.below(7) };
-    let mut layers: ArrayVec<Layer, 32> = ArrayVec::new();
+    let count = if dice.one_in(24) {
+        MOST_INSERTED as u32
+    } else {
+        dice.below(7)
+    };
+    let mut layers: ArrayVec<Layer, MOST_INSERTED> = ArrayVec::new();
     for i in 0..count {
         let layer = layer_of(dice, &contents, space, most, 10 + i);
         if layer.transparency.mask && !dice.one_in(8) {
@@ -54,7 +58,7 @@ pub(crate) fn scene_of(alloc: Global, dice: &mut Dice, most: u32) -> io::Result<
 /// Sides of at most so many pixels.
 fn sides(dice: &mut Dice, most: u32) -> Size
     requires low { 1 ≤ most }
-    requires high { most ≤ 1024 }
+    requires high { most ≤ MOST_SIDE }
     ensures { IsTrue (has_sides result) }
 {
     let w = side(dice, most);
@@ -65,7 +69,7 @@ fn sides(dice: &mut Dice, most: u32) -> Size
 /// The sides of a source, which is often as wide as the scene.
 fn source_sides(dice: &mut Dice, most: u32, scene: Size) -> Size
     requires low { 1 ≤ most }
-    requires high { most ≤ 1024 }
+    requires high { most ≤ MOST_SIDE }
     requires scene { IsTrue (has_sides scene) }
     ensures { IsTrue (has_sides result) }
 {
@@ -79,7 +83,7 @@ fn source_sides(dice: &mut Dice, most: u32, scene: Size) -> Size
 
 fn side(dice: &mut Dice, most: u32) -> u32
     requires low { 1 ≤ most }
-    requires high { most ≤ 1024 }
+    requires high { most ≤ MOST_SIDE }
     ensures low { 1 ≤ result }
     ensures high { result ≤ most }
 {
@@ -88,7 +92,7 @@ fn side(dice: &mut Dice, most: u32) -> u32
 
 /// Adds an image where there is room, and none yet of its stream.
 fn add(contents: &mut Contents, stream: u32, image: Image) {
-    if contents.len() < 64 && contents.find(stream).is_none() {
+    if contents.len() < MOST_CONTENTS && contents.find(stream).is_none() {
         contents.put(stream, image);
     }
 }
@@ -114,12 +118,12 @@ fn noise(alloc: Global, dice: &mut Dice, size: Size, format: Format) -> io::Resu
 /// A layer whose mask has this stream.
 fn layer_of(dice: &mut Dice, contents: &Contents, space: Size, most: u32, mask: u32) -> Layer
     requires low { 1 ≤ most }
-    requires high { most ≤ 1024 }
+    requires high { most ≤ MOST_SIDE }
     requires space { IsTrue (has_sides space) }
     ensures w_low { 1 ≤ result.dest.w }
-    ensures w_high { result.dest.w ≤ 1024 }
+    ensures w_high { result.dest.w ≤ MOST_SIDE }
     ensures h_low { 1 ≤ result.dest.h }
-    ensures h_high { result.dest.h ≤ 1024 }
+    ensures h_high { result.dest.h ≤ MOST_SIDE }
 {
     if dice.one_in(12) {
         return sheet_of(dice, contents, space, mask);
@@ -170,9 +174,9 @@ fn layer_of(dice: &mut Dice, contents: &Contents, space: Size, most: u32, mask: 
 fn sheet_of(dice: &mut Dice, contents: &Contents, space: Size, mask: u32) -> Layer
     requires space { IsTrue (has_sides space) }
     ensures w_low { 1 ≤ result.dest.w }
-    ensures w_high { result.dest.w ≤ 1024 }
+    ensures w_high { result.dest.w ≤ MOST_SIDE }
     ensures h_low { 1 ≤ result.dest.h }
-    ensures h_high { result.dest.h ≤ 1024 }
+    ensures h_high { result.dest.h ≤ MOST_SIDE }
 {
     let stream = 1 + dice.below(5);
     let size = source_size(contents, stream);
@@ -215,7 +219,7 @@ fn source_size(contents: &Contents, stream: u32) -> Size
 /// A part of a side, often the whole: where it begins, and how long it is.
 fn part(dice: &mut Dice, n: u32) -> (u32, u32)
     requires low { 1 ≤ n }
-    requires high { n ≤ 1024 }
+    requires high { n ≤ MOST_SIDE }
     ensures low { 1 ≤ result.1 }
     ensures within { result.0 + result.1 ≤ n }
 {
@@ -228,12 +232,12 @@ fn part(dice: &mut Dice, n: u32) -> (u32, u32)
 
 /// Where a side begins on one of `n` points: it may lie before or behind all of them.
 fn start(dice: &mut Dice, side: u32, n: u32) -> i32
-    requires side { side ≤ 1024 }
-    requires n { n ≤ 1024 }
+    requires side { side ≤ MOST_SIDE }
+    requires n { n ≤ MOST_SIDE }
 {
     match dice.below(64) {
-        0 => -16384,
-        1 => 16384,
+        0 => -(MOST_COORDINATE as i32),
+        1 => MOST_COORDINATE as i32,
         2..=9 => 0,
         _ => dice.below(side + n + 3) as i32 - side as i32 - 1,
     }

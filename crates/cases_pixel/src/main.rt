@@ -5,7 +5,9 @@ use std::alloc::{AllocError, Global};
 use std::io;
 use std::process::ExitCode;
 use wf_cases::{Stage, color, format, number, transparency, turn, word, words_of};
-use wf_pixel::{Format, Rect, Rgba, Size, along, lift, mul, over, samp, source_place, turned};
+use wf_pixel::{
+    Format, MOST_SIDE, Rect, Rgba, Size, along, lift, mul, over, samp, source_place, turned,
+};
 
 /// Colours and places have no state.
 #[derive(Drop)]
@@ -56,7 +58,7 @@ fn nearest() -> u32 {
 /// The pixels of a source of `s` pixels that show on `w` points.
 fn samples(alloc: Global, w: u32, s: u32) -> Result<String, AllocError> {
     let mut shown = String::new(alloc);
-    if w <= 1024 && 1 <= s && s <= 1024 {
+    if w <= MOST_SIDE && 1 <= s && s <= MOST_SIDE {
         for i in 0..w {
             let text = format!(in alloc; "{} ", samp(i, w, s))?;
             shown.push_str(&text)?;

@@ -30,7 +30,7 @@ impl<R: AllocGlobal> Stage<R> for Streams {
         let words = words_of(alloc, call)?;
         let words = words.as_slice();
         match word(words, 0) {
-            "make" | "mint" => self.make(alloc, words),
+            "make" | "queue" | "mint" => self.make(alloc, words),
             "number" => told(alloc, self.store.number(number(words, 1)).ok()),
             "find" => told(
                 alloc,
@@ -69,13 +69,17 @@ fn kind(words: &[&str], at: usize) -> Kind {
 }
 
 impl Streams {
-    /// Makes a stream, `make W H FORMAT BUFFERS`, or a handle of another kind, `mint KIND KEY`, and tells the handle.
+    /// Makes a stream, `make W H FORMAT BUFFERS` or `queue W H FORMAT DEPTH`, or a handle of another kind, `mint KIND KEY`, and
+    /// tells the handle.
     fn make(&mut self, alloc: Global, words: &[&str]) -> Result<String, AllocError> {
         let buffers: u32 = number(words, 4);
         let (kind, key) = (kind(words, 1), number(words, 2));
         let made = match size(words, 1) {
             Some(size) if word(words, 0) == "make" && 2 <= buffers && buffers <= 4 => {
                 self.store.make(size, format(words, 3), buffers)
+            }
+            Some(size) if word(words, 0) == "queue" && 1 <= buffers && buffers <= 8 => {
+                self.store.queue(size, format(words, 3), buffers)
             }
             _ if kind != Kind::Stream => self.store.mint(kind, key),
             _ => return format!(in alloc; "not done"),

@@ -58,7 +58,7 @@ fn screened(core: &mut Core, store: &mut Store, device: u32, port: i64) -> (Code
     ensures fits { Fits core.new store.new }
     ensures ours { AreOurs (core_names core.new) store.new }
 {
-    core.few_names();
+    core.prove_few_names();
     let screen = screen(store);
     told(core.screen_context(store, device, port, screen))
 }
@@ -70,12 +70,12 @@ fn made(core: &mut Core, store: &mut Store) -> [(Code, u32); 6]
 {
     let device = told(core.device_new(store));
     let context = screened(core, store, 4, 1);
-    core.few_names();
+    core.prove_few_names();
     let off_screen = told(core.stream_context(store, 4, 3));
     let element = told(core.element_new(store, 4, 5));
-    core.few_names();
+    core.prove_few_names();
     let source = told(core.source_new(store, 4, 5, 1));
-    core.few_names();
+    core.prove_few_names();
     let mask = told(core.mask_new(store, 4, 5, 2));
     [device, context, off_screen, element, source, mask]
 }

@@ -43,6 +43,12 @@ fn creations_have_memory(rt: HostRuntime) -> Result<(), Fail> {
         stream_new(Format::Rgba8Pre),
         Call::StreamContext { device, stream: 8 },
         Call::DisplaySource { pipe: 1, stream: 4 },
+        Call::StreamQueue {
+            width: 4,
+            height: 2,
+            format: Format::Rgba8,
+            depth: 8,
+        },
     ];
     let mut handle = 0u32;
     for call in creations {

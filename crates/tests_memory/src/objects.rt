@@ -66,12 +66,12 @@ fn made(objects: &mut Objects, store: &mut Store) -> Result<[u32; 4], Refusal>
     let device = objects.add_device(store)?;
     let target = target(store).ok_or(none)?;
     objects.check_device(store, device)?;
-    objects.few_names();
+    objects.prove_few_names();
     let context = objects.add_context(store, device, 0, target)?;
     let place = objects.context_place(store, device, context)?;
     let element = objects.add_element(store, place)?;
     let stream = pixels(store).ok_or(none)?;
-    objects.few_names();
+    objects.prove_few_names();
     objects.context_place(store, device, context)?;
     let source = objects.add_link(store, false, context, stream)?;
     Ok([device, context, element, source])

@@ -7,6 +7,7 @@ use Rattle.wf_calls.specs.Parts.{carries, part_of}
 -- a creation, which answers a new handle, and alone takes memory
 abbrev pub is_creation : Call → Bool
 is_creation (call.StreamNew width height format buffers) = true
+is_creation (call.StreamQueue width height format depth) = true
 is_creation (call.StreamDestroy stream) = false
 is_creation (call.Acquire stream) = false
 is_creation (call.Post canvas) = false
@@ -56,6 +57,7 @@ is_creation (call.End job) = false
 -- nothing goes with a creation or comes with its answer
 pub creations_carry_nothing : (c : Call) → is_creation c ≡ true → carries (part_of c) ≡ false
 creations_carry_nothing (call.StreamNew width height format buffers) made = refl
+creations_carry_nothing (call.StreamQueue width height format depth) made = refl
 creations_carry_nothing call.DeviceNew made = refl
 creations_carry_nothing (call.ScreenContext device port) made = refl
 creations_carry_nothing (call.StreamContext device stream) made = refl

@@ -8,6 +8,7 @@ use Rattle.wf_calls.specs.declared.part.Part.TheVariants as part
 abbrev pub part_of : Call → Part
 -- tools/calls writes what stands from here on, from crates/calls.table
 part_of (call.StreamNew width height format buffers) = part.Streams
+part_of (call.StreamQueue width height format depth) = part.Streams
 part_of (call.StreamDestroy stream) = part.Streams
 part_of (call.Acquire stream) = part.Buffers
 part_of (call.Post canvas) = part.Buffers

@@ -7,6 +7,7 @@ use Rattle.wf_calls.specs.declared.request.Request.TheVariants as request
 
 abbrev pub call_of : Request → Call
 call_of (request.StreamNew width height format buffers) = call.StreamNew width height format buffers
+call_of (request.StreamQueue width height format depth) = call.StreamQueue width height format depth
 call_of (request.StreamDestroy stream) = call.StreamDestroy stream
 call_of (request.Acquire stream) = call.Acquire stream
 call_of (request.Stat what) = call.Stat what
@@ -53,6 +54,7 @@ call_of (request.BeginContext device context) = call.BeginContext device context
 -- a call that brings a write buffer or a Job
 abbrev pub brings : Call → Bool
 brings (call.StreamNew width height format buffers) = false
+brings (call.StreamQueue width height format depth) = false
 brings (call.StreamDestroy stream) = false
 brings (call.Acquire stream) = false
 brings (call.Post canvas) = true

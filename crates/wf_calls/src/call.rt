@@ -40,12 +40,20 @@ pub struct Job {
 #[derive(Drop)]
 pub enum Call {
     // tools/calls writes what stands from here on, from crates/calls.table
-    /// Makes a stream of 2 to 4 buffers, each an image of this size and format with sides from 1 to 1024.
+    /// Makes a stream of 2 to 4 buffers, each an image of this size and format with sides from 1 to `MOST_SIDE`.
     StreamNew {
         width: i64,
         height: i64,
         format: Format,
         buffers: i64,
+    },
+    /// Makes a queue stream, in which up to `depth` posted images wait, from 1 to 8, and of which each frame shows the
+    /// next.
+    StreamQueue {
+        width: i64,
+        height: i64,
+        format: Format,
+        depth: i64,
     },
     /// Destroys a stream. What names it otherwise keeps it.
     StreamDestroy {
@@ -55,7 +63,7 @@ pub enum Call {
     Acquire {
         stream: u32,
     },
-    /// Makes a write buffer the newest image of its stream.
+    /// Posts a write buffer, which waits in its stream as a finished image.
     Post(Canvas),
     /// Gives a write buffer back unseen.
     Discard(Canvas),

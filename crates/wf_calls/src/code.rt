@@ -22,14 +22,14 @@ pub enum Code {
 }
 
 impl Code {
-    /// Whether this says that a call was carried out.
+    /// Tells whether the code says that a call was carried out.
     pub fn is_ok(self) -> bool
         ensures { result ≡ is_ok_code self }
     {
         matches!(self, Code::Ok)
     }
 
-    /// The number that stands for the code in the journal, from 0 for Ok to 12 for Limit.
+    /// Returns the number that stands for the code in the journal, from 0 for Ok to 12 for Limit.
     pub fn number(self) -> u8
         ensures { result ≡ code_number self }
     {

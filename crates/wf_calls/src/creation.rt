@@ -7,13 +7,14 @@ ghost use Rattle.wf_calls.specs.Requests.{call_of};
 use crate::request::Request;
 
 impl Request {
-    /// Whether this call makes an object, whose handle it answers. No other call can answer OutOfMemory.
+    /// Tells whether this call makes an object, whose handle it answers. No other call can answer OutOfMemory.
     pub fn is_creation(&self) -> bool
         ensures { result ≡ is_creation (call_of self.now) }
     {
         matches!(
             self,
             Request::StreamNew { .. }
+                | Request::StreamQueue { .. }
                 | Request::DeviceNew
                 | Request::ScreenContext { .. }
                 | Request::StreamContext { .. }

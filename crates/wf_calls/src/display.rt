@@ -20,7 +20,7 @@ pub enum PortAttr {
 /// The attributes of a pipeline. `Port`, `Pending` and `Showing` can't be set.
 #[derive(Clone, Copy, Debug, PartialEq, Eq)]
 pub enum PipeAttr {
-    /// Four numbers x, y, w, h: where it shows. x and y are from -16,384 to 16,384, w and h from 0 to 16,384.
+    /// Four numbers x, y, w, h: where it shows. x and y are at most `MOST_COORDINATE` from 0, and w and h at most that.
     Dest,
     /// Four numbers x, y, w, h, in the ranges of `Dest`: which part of its source it shows.
     SrcRect,

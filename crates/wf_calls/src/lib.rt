@@ -21,3 +21,6 @@ pub use place::JobPlace;
 pub use ports::{Modes, Ports};
 pub use reply::{Answer, Payload, Refusal, Reply};
 pub use request::Request;
+
+/// The most pipelines.
+pub const MOST_PIPELINES: u32 = 8;

@@ -25,14 +25,16 @@ pub enum Part {
 }
 
 impl Request {
-    /// Who answers this call.
+    /// Returns who answers this call.
     pub fn part(&self) -> Part
         ensures { result ≡ part_of (call_of self.now) }
     {
         match self {
             // tools/calls writes what stands from here on, from crates/calls.table
-            Request::StreamNew { .. } | Request::StreamDestroy { .. } | Request::Stat { .. } =>
-                Part::Streams,
+            Request::StreamNew { .. }
+            | Request::StreamQueue { .. }
+            | Request::StreamDestroy { .. }
+            | Request::Stat { .. } => Part::Streams,
             Request::Acquire { .. } => Part::Buffers,
             Request::DeviceNew => Part::Composition { device: 0 },
             Request::DeviceDestroy { device }
@@ -78,7 +80,7 @@ impl Request {
         }
     }
 
-    /// The device that this call of composition names, or 0, which no device has.
+    /// Returns the device that this call of composition names, or 0, which no device has.
     pub fn device(&self) -> u32
         ensures { result ≡ device_of (call_of self.now) }
     {
@@ -88,7 +90,7 @@ impl Request {
         }
     }
 
-    /// Whether this call begins a frame.
+    /// Tells whether this call begins a frame.
     pub fn is_begin(&self) -> bool
         ensures { result ≡ is_begin (call_of self.now) }
     {
@@ -97,7 +99,7 @@ impl Request {
 }
 
 impl Call {
-    /// Whether this call begins a frame.
+    /// Tells whether this call begins a frame.
     pub fn is_begin(&self) -> bool
         ensures { result ≡ is_begin self.now }
     {

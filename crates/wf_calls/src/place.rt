@@ -1,12 +1,15 @@
 //! A place for a Job, in which one Job after another stands, so that none is moved.
 
 ghost use Rattle.std.specs.Prelude.{◌≡◌, None, Some, is_some, option_map, IfOk};
+ghost use Rattle.std.specs.Borrow.{sem};
 ghost use Rattle.std.specs.Option.{option_copied};
+ghost use Rattle.wf_calls.specs.Lending.{LendsJob};
 ghost use Rattle.wf_calls.specs.Places.{job_in};
 
 use crate::call::{Job, JobKind};
 use arrayvec::ArrayVec;
 use std::alloc::Global;
+use std::marker::Model;
 use std::mem;
 use wf_image::{Contents, Image};
 use wf_pixel::{Format, Rgba, Rotation, Size};
@@ -17,9 +20,18 @@ use wf_scene::{NoMemory, Scene};
 #[derive(Drop)]
 pub struct JobPlace {
     /// The Job, or what the last one left.
-    pub job: Job,
+    job: Job,
     /// The image of one pixel that stands in for a Job's where there is none. It is put aside here while there is one.
-    pub aside: Option<Image>,
+    aside: Option<Image>,
+}
+
+impl Model for JobPlace {
+    ghost use Rattle.std.specs.Prelude.{is_some};
+    ghost use Rattle.wf_calls.specs.Places.{Place};
+
+    ghost Value = { Place };
+
+    ghost view = { λ p. record { job = p.job; held = is_some p.aside } };
 }
 
 /// A Job that shows nothing, with this image.
@@ -44,7 +56,7 @@ fn empty_job(image: Image) -> Job {
 }
 
 impl JobPlace {
-    /// A place without a Job. No other call of it can lack memory.
+    /// Makes a place without a Job. No other call of it can lack memory.
     pub fn new(alloc: Global) -> Result<JobPlace, NoMemory>
         ensures { IfOk result (λ place. job_in place ≡ None) }
     {
@@ -55,14 +67,14 @@ impl JobPlace {
         })
     }
 
-    /// Whether a Job stands here.
+    /// Returns whether a Job stands here.
     pub fn is_held(&self) -> bool
         ensures { result ≡ is_some (job_in self.now) }
     {
         self.aside.is_some()
     }
 
-    /// The Job that stands here.
+    /// Returns the Job that stands here, or `None` where none does.
     pub fn job(&self) -> Option<&Job>
         ensures { option_copied result ≡ job_in self.now }
     {
@@ -73,8 +85,17 @@ impl JobPlace {
         }
     }
 
-    /// Makes what stands here a Job, of this number and kind, which draws into this image. Its scene and its contents are those
-    /// that were written here before, while it was none.
+    /// Lends the Job that stands here, or, where none does, the room of the next one, whose scene and contents are written there
+    /// before it begins. No Job comes or goes by it.
+    pub fn job_mut(&mut self) -> &mut Job
+        ensures* writes_back { sem 𝓛 (LendsJob self.entry result) }
+        ensures job { result.now ≡ self.old.job }
+    {
+        &mut self.job
+    }
+
+    /// Begins the Job of this `number` and `kind`, which draws into `image`. Its scene and its contents are those that `job_mut`
+    /// wrote here before.
     pub fn begin(&mut self, number: u64, kind: JobKind, image: Image)
         ensures { job_in self.new ≡ Some (record self.old.job { number = number; kind = kind; image = image }) }
     {
@@ -86,7 +107,7 @@ impl JobPlace {
         }
     }
 
-    /// Takes the image out of the Job that stands here, which is none then.
+    /// Ends the Job that stands here, and returns its image, or `None` where none stands.
     pub fn end(&mut self) -> Option<Image>
         ensures image { result ≡ option_map (λ job. job.image) (job_in self.old) }
         ensures none { job_in self.new ≡ None }
@@ -97,7 +118,7 @@ impl JobPlace {
         }
     }
 
-    /// Takes the Job out that stands here.
+    /// Takes out and returns the Job that stands here, or `None` where none does.
     pub fn take(&mut self) -> Option<Job>
         ensures job { result ≡ job_in self.old }
         ensures none { job_in self.new ≡ None }
@@ -117,7 +138,7 @@ impl JobPlace {
         }
     }
 
-    /// Puts a Job here, in the place of another one, if there is one.
+    /// Puts `job` here. A Job that stood here is dropped.
     pub fn put(&mut self, job: Job)
         ensures { job_in self.new ≡ Some job }
     {

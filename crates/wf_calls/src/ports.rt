@@ -21,7 +21,7 @@ impl Default for Modes {
     }
 }
 
-/// The 1 to 4 ports, each with its modes, and how many pipelines there are (at most 8).
+/// The 1 to 4 ports, each with its modes, and how many pipelines there are.
 #[derive(Drop)]
 pub struct Ports {
     pub modes: ArrayVec<Modes, 4>,

@@ -40,7 +40,7 @@ pub struct Refusal {
 }
 
 impl Refusal {
-    /// The refusal by a code alone.
+    /// Makes a refusal of `code` alone, with the value 0.
     pub fn of(code: Code) -> Refusal
         ensures { result ≡ refusal code }
     {
@@ -49,7 +49,7 @@ impl Refusal {
 }
 
 impl Answer {
-    /// The call was carried out, and answers this value.
+    /// Makes the answer of a call that was carried out, with `value`.
     pub fn done(value: u32) -> Answer
         ensures { result ≡ done value }
     {
@@ -59,7 +59,7 @@ impl Answer {
         }
     }
 
-    /// The call is refused.
+    /// Makes the answer of a call that was refused by `refusal`.
     pub fn refused(refusal: Refusal) -> Answer
         ensures { result ≡ refused refusal }
     {
@@ -69,7 +69,7 @@ impl Answer {
         }
     }
 
-    /// The journal's entry of this answer to a client.
+    /// Returns the journal's entry of this answer to `client`.
     pub fn entry(&self, client: u8) -> Turn
         ensures { result ≡ entry client (bare self.now) }
     {
@@ -82,7 +82,7 @@ impl Answer {
 }
 
 impl Reply {
-    /// The reply with which nothing comes.
+    /// Makes the reply of `answer` with which nothing comes.
     pub fn bare(answer: Answer) -> Reply
         ensures { result ≡ bare answer }
     {
@@ -93,7 +93,7 @@ impl Reply {
         }
     }
 
-    /// The reply with which a write buffer comes, or nothing.
+    /// Makes the reply of `answer` with which `canvas` comes, or nothing.
     pub fn with_canvas(answer: Answer, canvas: Option<Canvas>) -> Reply
         ensures { result ≡ with_canvas (answer, canvas) }
     {
@@ -107,7 +107,7 @@ impl Reply {
         }
     }
 
-    /// The reply with which a Job comes, or nothing.
+    /// Makes the reply of `answer` with which `job` comes, or nothing.
     pub fn with_job(answer: Answer, job: Option<Job>) -> Reply
         ensures { result ≡ with_job answer job }
     {
@@ -131,7 +131,7 @@ impl Reply {
         }
     }
 
-    /// The journal's entry of this reply to a client.
+    /// Returns the journal's entry of this reply to `client`.
     pub fn entry(&self, client: u8) -> Turn
         ensures { result ≡ entry client self.now }
     {

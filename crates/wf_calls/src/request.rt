@@ -18,6 +18,12 @@ pub enum Request {
         format: Format,
         buffers: i64,
     },
+    StreamQueue {
+        width: i64,
+        height: i64,
+        format: Format,
+        depth: i64,
+    },
     StreamDestroy {
         stream: u32,
     },
@@ -186,7 +192,7 @@ pub enum Request {
 }
 
 impl Request {
-    /// The call that it is.
+    /// Returns the call that it is.
     pub fn call(self) -> Call
         ensures { result ≡ call_of self }
     {
@@ -201,6 +207,17 @@ impl Request {
                 height,
                 format,
                 buffers,
+            },
+            Request::StreamQueue {
+                width,
+                height,
+                format,
+                depth,
+            } => Call::StreamQueue {
+                width,
+                height,
+                format,
+                depth,
             },
             Request::StreamDestroy { stream } => Call::StreamDestroy { stream },
             Request::Acquire { stream } => Call::Acquire { stream },
@@ -321,7 +338,7 @@ impl Request {
 }
 
 impl Call {
-    /// What this call asks for, or none where it brings a canvas or a Job.
+    /// Returns what this call asks for, or `None` where it brings a canvas or a Job.
     pub fn request(&self) -> Option<Request>
         ensures { MatchOption result (brings self.now ≡ true) (λ request. call_of request ≡ self.now) }
     {
@@ -337,6 +354,17 @@ impl Call {
                 height: *height,
                 format: *format,
                 buffers: *buffers,
+            },
+            Call::StreamQueue {
+                width,
+                height,
+                format,
+                depth,
+            } => Request::StreamQueue {
+                width: *width,
+                height: *height,
+                format: *format,
+                depth: *depth,
             },
             Call::StreamDestroy { stream } => Request::StreamDestroy { stream: *stream },
             Call::Acquire { stream } => Request::Acquire { stream: *stream },

@@ -3,7 +3,7 @@
 use crate::words::word;
 use wf_scene::{ContextAttr, ElementAttr};
 
-/// The `ElementAttr` of the word at a place, or the last one where it is none of its words.
+/// Returns the `ElementAttr` of the word at a place, or the last one where it is none of its words.
 pub fn element_attr(words: &[&str], at: usize) -> ElementAttr {
     match word(words, at) {
         "dest" => ElementAttr::Dest,
@@ -18,7 +18,7 @@ pub fn element_attr(words: &[&str], at: usize) -> ElementAttr {
     }
 }
 
-/// The `ContextAttr` of the word at a place, or the last one where it is none of its words.
+/// Returns the `ContextAttr` of the word at a place, or the last one where it is none of its words.
 pub fn context_attr(words: &[&str], at: usize) -> ContextAttr {
     match word(words, at) {
         "rotation" => ContextAttr::Rotation,

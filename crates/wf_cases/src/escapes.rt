@@ -23,7 +23,7 @@ fn escaped(letter: u8, high: u8, low: u8) -> (u8, usize) {
     }
 }
 
-/// The bytes that a text stands for.
+/// Returns the bytes that a text stands for.
 pub fn bytes_of(alloc: Global, text: &str) -> Result<Vec<u8>, AllocError> {
     let mut bytes = Vec::new(alloc);
     let mut skipped = 0usize;

@@ -7,7 +7,7 @@ use crate::words::{number, word};
 use std::alloc::{AllocError, Global};
 use wf_pixel::{Format, MOST_SIDE, Rect, Rgba, Rotation, Size, Transparency};
 
-/// A colour, from the four words at a place and behind it.
+/// Reads a colour from the four words at `at` and after it.
 pub fn color(words: &[&str], at: usize) -> Rgba {
     let at = at.min(10_000);
     Rgba {
@@ -18,7 +18,7 @@ pub fn color(words: &[&str], at: usize) -> Rgba {
     }
 }
 
-/// A rectangle, from four words: x, y, width and height.
+/// Reads a rectangle from four words: x, y, width and height.
 pub fn rect(words: &[&str], at: usize) -> Rect {
     let at = at.min(10_000);
     Rect {
@@ -29,7 +29,7 @@ pub fn rect(words: &[&str], at: usize) -> Rect {
     }
 }
 
-/// A size, from two words, or None where a side is not from 1 to 1024.
+/// Reads a size from two words, or returns `None` where a side is not from 1 to `MOST_SIDE`.
 pub fn size(words: &[&str], at: usize) -> Option<Size>
     ensures { IfSome result (λ size. IsTrue (has_sides size)) }
 {
@@ -42,7 +42,7 @@ pub fn size(words: &[&str], at: usize) -> Option<Size>
     }
 }
 
-/// A format, from a word as scripts have it.
+/// Reads a format from a word as scripts have it.
 pub fn format(words: &[&str], at: usize) -> Format {
     match word(words, at) {
         "rgba" => Format::Rgba8,
@@ -52,7 +52,7 @@ pub fn format(words: &[&str], at: usize) -> Format {
     }
 }
 
-/// A turn, from its degrees.
+/// Reads a turn from its degrees.
 pub fn turn(words: &[&str], at: usize) -> Rotation {
     match word(words, at) {
         "90" => Rotation::R90,
@@ -62,7 +62,7 @@ pub fn turn(words: &[&str], at: usize) -> Rotation {
     }
 }
 
-/// Transparencies, from the words of a script joined by `+`.
+/// Reads transparencies from the words of a script joined by `+`.
 pub fn transparency(words: &[&str], at: usize) -> Transparency {
     let joined = word(words, at);
     Transparency {

@@ -10,7 +10,7 @@ fn told_rect(alloc: Global, rect: Rect) -> Result<String, AllocError> {
     format!(in alloc; "{x} {y} {w} {h}")
 }
 
-/// A scene: its size, its turn, its background and how many layers it has.
+/// Tells a scene: its size, its turn, its background and how many layers it has.
 pub fn told_scene(alloc: Global, scene: &Scene) -> Result<String, AllocError> {
     let (size, color) = (scene.size, scene.background);
     let background = format!(in alloc; "{} {} {} {}", color.r, color.g, color.b, color.a)?;
@@ -21,8 +21,8 @@ pub fn told_scene(alloc: Global, scene: &Scene) -> Result<String, AllocError> {
     )
 }
 
-/// A layer by its place from the bottom, counted from 1: its stream and its mask, the part of the stream and where it shows,
-/// whether it is flipped, how it is turned, whether its own alpha, that of its source and its mask apply, and its alpha.
+/// Tells a layer by its place from the bottom, counted from 1: its stream and its mask, the part of the stream and where it
+/// shows, whether it is flipped, how it is turned, whether its own alpha, that of its source and its mask apply, and its alpha.
 pub fn told_layer(alloc: Global, scene: &Scene, place: usize) -> Result<String, AllocError> {
     let Some(layer) = scene.layers.get(place.wrapping_sub(1)) else {
         return format!(in alloc; "no layer");

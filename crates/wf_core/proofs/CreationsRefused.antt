@@ -14,6 +14,8 @@ use Rattle.wf_objects.specs.Does.{Does, context_made, element_made, link_made, r
 use Rattle.wf_objects.specs.Fits.{Fits}
 use Rattle.wf_objects.specs.Sides.{core_side_of}
 use Rattle.wf_core.specs.Steps.{Asks}
+use Rattle.wf_scene.specs.declared.TheConstants.{MOST_ELEMENTS}
+use Rattle.wf_model.specs.declared.TheConstants.{MOST_DEVICES}
 
 -- what is refused is refused whatever was to follow
 refused_first : {A B : Type 0} (o : Result A Refusal) (f : A → Result B Refusal) (r : Refusal) → o ≡ Err r → (o >>= f) ≡ Err r
@@ -36,7 +38,7 @@ module _ {A : Type 0} (plain : Bool → CoreSide → Outcome CoreSide) (made : A
 -- what is made of what was found is refused for want of room
 
 module _ (w : CoreSide) (r : Refusal) where
-  pub no_device : room (nat_le 8 (length w.core.devices)) true w ≡ Err r → device_new true w ≡ Err r
+  pub no_device : room (nat_le MOST_DEVICES (length w.core.devices)) true w ≡ Err r → device_new true w ≡ Err r
   no_device is = refused_first _ _ r is
 
   pub no_context : (d port : ℕ) (target : Seen) → room (contexts_full w) true w ≡ Err r → context_made d port target true w ≡ Err r
@@ -45,6 +47,6 @@ module _ (w : CoreSide) (r : Refusal) where
   pub no_link : (mask : Bool) (context stream : ℕ) → room (sources_full w) true w ≡ Err r → link_made mask context stream true w ≡ Err r
   no_link mask context stream is = refused_first _ _ r is
 
-  pub no_element : (handle : ℕ) (c : Context) → room (nat_le 64 (length c.cached.elements)) true w ≡ Err r
+  pub no_element : (handle : ℕ) (c : Context) → room (nat_le MOST_ELEMENTS (length c.cached.elements)) true w ≡ Err r
       → element_made handle true c w ≡ Err r
   no_element handle c is = refused_first _ _ r is

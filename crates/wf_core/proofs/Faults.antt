@@ -9,6 +9,7 @@ use Rattle.wf_scene.specs.Cached.{CachedScene, IsOrderly, element_at}
 use Rattle.wf_scene.specs.Consistent.{broken_rule, consistent, elements_of, fault, fault_from, faults_from, has_destination, has_source}
 use Rattle.wf_scene.specs.Consistent.{inserted_elements, is_covered, is_inside, scene_of, unless}
 use Rattle.wf_scene.specs.Sight.{Sight}
+use Rattle.wf_scene.specs.declared.TheConstants.{MOST_INSERTED}
 
 -- of four rules the first that is broken, counted from 1
 abbrev first_of : Bool → Bool → Bool → Bool → Option ℕ
@@ -87,7 +88,8 @@ told_fault : (o : Option Fault) (s : Scene) (f : Fault) → unless o s ≡ Err f
 told_fault None s f is = absurd cc
 told_fault (Some g) s f is = let same : g ≡ f = cc in ap (λ x. Some x) same
 
-pub small_fault : (sight : Sight) (c : CachedScene) (f : Fault) → IsOrderly c → Err f ≡ consistent sight c → (f.place ≤ 32) × (f.rule ≤ 4)
+pub small_fault : (sight : Sight) (c : CachedScene) (f : Fault) → IsOrderly c → Err f ≡ consistent sight c
+    → (f.place ≤ MOST_INSERTED) × (f.rule ≤ 4)
 small_fault sight c f orderly is =
     let bounds = bounded sight 1 (inserted_elements c) f (told_fault (fault sight c) (scene_of sight c) f (sym is)) in
     (omega (arith, bounds.0, as_many c.order c.elements, orderly.room), bounds.1)

@@ -11,6 +11,7 @@ ghost use Rattle.wf_objects.specs.Shows.{next_shown, shown_context};
 use std::alloc::Global;
 use std::marker::Model;
 use wf_calls::Code;
+use wf_model::MOST_CORE_NAMES;
 use wf_objects::{Objects, Shown};
 use wf_words::NoMemory;
 
@@ -30,7 +31,7 @@ impl Model for Core {
 }
 
 impl Core {
-    /// No objects, with the room for all that may live.
+    /// Makes the calls of composition without objects, with the room for all that may live.
     pub fn new(alloc: Global) -> Result<Core, NoMemory>
         ensures { IfOk result (λ made. made ≡ no_objects) }
     {
@@ -39,14 +40,14 @@ impl Core {
         })
     }
 
-    /// What a context shows. BadDevice is no live device, BadHandle no context of it.
+    /// Returns what a context shows. BadDevice is no live device, BadHandle no context of it.
     pub fn context(&self, device: u32, context: u32) -> Result<Shown, Code>
         ensures { result ≡ shown_context device context self.now }
     {
         self.objects.context(device, context)
     }
 
-    /// The active context with the least handle above another, of any device, and what it shows.
+    /// Returns the active context with the least handle above `after`, of any device, and what it shows.
     pub fn next(&self, after: u32) -> Option<(u32, Shown)>
         ensures { result ≡ next_shown after self.now }
     {
@@ -61,10 +62,10 @@ impl Core {
         self.objects.record(device, code);
     }
 
-    /// There are few names of streams: 256 sources and masks each, and 16 contexts with a target and 32 layers.
-    pub fn few_names(&self)
-        ensures { length (core_names self.now) ≤ 1552 }
+    /// Shows the prover that there are few names of streams. Does nothing at run time.
+    pub fn prove_few_names(&self)
+        ensures { length (core_names self.now) ≤ MOST_CORE_NAMES }
     {
-        self.objects.few_names();
+        self.objects.prove_few_names();
     }
 }

@@ -247,7 +247,7 @@ impl Core {
         reply(&mut self.objects, store, device, done)
     }
 
-    /// One number of an attribute of a context, by its index from 0.
+    /// Answers one number of an attribute of a context, by its index from 0.
     pub fn context_get(
         &mut self,
         store: &mut Store,

@@ -48,7 +48,7 @@ impl Core {
         reply(&mut self.objects, store, device, done)
     }
 
-    /// The number of the code in a device's register, or 0 for an empty one. The register is emptied.
+    /// Answers the number of the code in a device's register, or 0 for an empty one, and empties the register.
     pub fn get_error(&mut self, store: &mut Store, device: u32) -> Reply
         requires { Fits self.old store.old }
         ensures { Steps device (λ _. get_error device) KeepsAll self.old self.new store.old store.new result }

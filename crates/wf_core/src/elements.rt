@@ -164,7 +164,7 @@ impl Core {
         reply(&mut self.objects, store, device, done)
     }
 
-    /// One number of an attribute of an element, by its index from 0. A negative one is answered in two's complement.
+    /// Answers one number of an attribute of an element, by its index from 0. A negative one is answered in two's complement.
     pub fn element_get(
         &mut self,
         store: &mut Store,
@@ -205,7 +205,7 @@ impl Core {
         reply(&mut self.objects, store, device, done)
     }
 
-    /// The element directly above an inserted one, or 0.
+    /// Answers the element directly above an inserted one, or 0.
     pub fn element_above(&mut self, store: &mut Store, device: u32, element: u32) -> Reply
         requires { Fits self.old store.old }
         ensures { Steps device (λ _. element_above device element) KeepsAll self.old self.new store.old store.new result }
@@ -214,7 +214,7 @@ impl Core {
         reply(&mut self.objects, store, device, done)
     }
 
-    /// The element directly below an inserted one, or 0.
+    /// Answers the element directly below an inserted one, or 0.
     pub fn element_below(&mut self, store: &mut Store, device: u32, element: u32) -> Reply
         requires { Fits self.old store.old }
         ensures { Steps device (λ _. element_below device element) KeepsAll self.old self.new store.old store.new result }

@@ -125,6 +125,7 @@ pub(crate) fn carry_out(
             objects, store, false, *device, *context,
         ),
         Request::StreamNew { .. }
+        | Request::StreamQueue { .. }
         | Request::StreamDestroy { .. }
         | Request::Acquire { .. }
         | Request::Stat { .. }
@@ -182,6 +183,7 @@ pub(crate) fn deny(
             stream,
         } => deny_link(objects, store, true, *device, *context, *stream),
         Request::StreamNew { .. }
+        | Request::StreamQueue { .. }
         | Request::StreamDestroy { .. }
         | Request::Acquire { .. }
         | Request::Stat { .. }

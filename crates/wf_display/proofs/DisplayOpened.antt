@@ -21,6 +21,7 @@ use Rattle.wf_model.specs.State.{initial_pipeline, initial_port, mode_size, open
 use Rattle.wf_display.specs.Display.{IsDisplay, IsPipeline, IsPort}
 use Rattle.wf_display.specs.Fits.{Fits, IsScreen, PipelineFits, ScreensFit}
 use Rattle.wf_display.specs.Opening.{with_screens}
+use Rattle.wf_calls.specs.declared.TheConstants.{MOST_PIPELINES}
 
 -- modes that may be declared
 
@@ -52,14 +53,15 @@ may_at all i m within is may = ap may_have is ∙ of_read (may_have (get_or all 
 
 -- the ports that may be declared have modes that a port may have, and there are 8 pipelines at most
 pub declared_of : (ports : Ports) → may_declare ports ≡ true
-    → (length ports.modes.items ≤ 4) × (list_all may_have ports.modes.items ≡ true) × (ports.pipes ≤ 8)
+    → (length ports.modes.items ≤ 4) × (list_all may_have ports.modes.items ≡ true) × (ports.pipes ≤ MOST_PIPELINES)
 declared_of ports may = of_parts (nat_le 1 (length ports.modes.items)) (nat_le (length ports.modes.items) 4)
-    (list_all may_have ports.modes.items) (nat_le ports.pipes 8) refl refl refl may
+    (list_all may_have ports.modes.items) (nat_le ports.pipes MOST_PIPELINES) refl refl refl may
   where
     of_parts : (a b c e : Bool) → nat_le (length ports.modes.items) 4 ≡ b → list_all may_have ports.modes.items ≡ c
-        → nat_le ports.pipes 8 ≡ e → (a && b && c && e) ≡ true
-        → (length ports.modes.items ≤ 4) × (list_all may_have ports.modes.items ≡ true) × (ports.pipes ≤ 8)
-    of_parts true true true true few modes pipes h = (leb-true (length ports.modes.items) 4 few, modes, leb-true ports.pipes 8 pipes)
+        → nat_le ports.pipes MOST_PIPELINES ≡ e → (a && b && c && e) ≡ true
+        → (length ports.modes.items ≤ 4) × (list_all may_have ports.modes.items ≡ true) × (ports.pipes ≤ MOST_PIPELINES)
+    of_parts true true true true few modes pipes h =
+        (leb-true (length ports.modes.items) 4 few, modes, leb-true ports.pipes MOST_PIPELINES pipes)
     of_parts true true true false few modes pipes h = absurd cc
     of_parts true true false e few modes pipes h = absurd cc
     of_parts true false c e few modes pipes h = absurd cc

@@ -28,6 +28,7 @@ use Rattle.wf_model.specs.Numbered.{each_from}
 use Rattle.wf_model.specs.State.{DisplayState}
 use Rattle.wf_display.specs.Display.{IsDisplay, IsPipeline, IsPort, IsStyle}
 use Rattle.wf_display.specs.Fits.{Fits, IsScreen, PipelineFits, ScreensFit, ShowsPixels, ShowsWell}
+use Rattle.wf_calls.specs.declared.TheConstants.{MOST_PIPELINES}
 
 -- the beginning of a frame
 
@@ -61,7 +62,7 @@ begun_holds n d is =
         committed = subst IsStyle (sym (begun_committed n x)) holds.committed;
       }) d.pipelines is.pipelines;
       few_ports = is.few_ports;
-      few_pipelines = subst (λ k. k ≤ 8) (sym (as_many_mapped (begun_pipeline n) d.pipelines)) is.few_pipelines;
+      few_pipelines = subst (λ k. k ≤ MOST_PIPELINES) (sym (as_many_mapped (begun_pipeline n) d.pipelines)) is.few_pipelines;
     }
 
 pub begun_fits : (n : ℕ) (d : DisplayState) (store : StoreView) → Fits d store → Fits (begun_display n d) store
@@ -126,7 +127,7 @@ committed_display e d is =
       ports = each_given IsPort IsPort (port_after e) (port_holds e) 1 d.ports is.ports;
       pipelines = each_given IsPipeline IsPipeline (pipeline_after e d.sources) (pipeline_holds e d.sources) 1 d.pipelines is.pipelines;
       few_ports = subst (λ k. k ≤ 4) (sym (as_many_given (port_after e) 1 d.ports)) is.few_ports;
-      few_pipelines = subst (λ k. k ≤ 8) (sym (as_many_given (pipeline_after e d.sources) 1 d.pipelines)) is.few_pipelines;
+      few_pipelines = subst (λ k. k ≤ MOST_PIPELINES) (sym (as_many_given (pipeline_after e d.sources) 1 d.pipelines)) is.few_pipelines;
     }
 
 -- screens do not change

@@ -21,6 +21,8 @@ use Rattle.wf_model.specs.DisplaySides.{source_at}
 use Rattle.wf_model.specs.Names.{display_names, pipeline_names}
 use Rattle.wf_model.specs.State.{DisplayState}
 use Rattle.wf_display.proofs.FramesAndCommitsFit.{pipeline_after}
+use Rattle.wf_calls.specs.declared.TheConstants.{MOST_PIPELINES}
+use Rattle.wf_model.specs.declared.TheConstants.{MOST_DISPLAY_NAMES, MOST_SOURCES}
 
 abbrev pub source_names : List DisplaySource → List ℕ
 source_names sources = map (λ s. s.stream) sources
@@ -210,8 +212,8 @@ begun_names p n x =
     of_pending (Some s) there = (let both = times_append n (x.current ∷ []) (s ∷ []) in omega (arith, both, there))
 
 -- how many names there are
-pub names_in_all : (d : DisplayState) → length d.ports ≤ 4 → length d.sources ≤ 256 → length d.pipelines ≤ 8
-    → length (display_names d) ≤ 276
+pub names_in_all : (d : DisplayState) → length d.ports ≤ 4 → length d.sources ≤ MOST_SOURCES → length d.pipelines ≤ MOST_PIPELINES
+    → length (display_names d) ≤ MOST_DISPLAY_NAMES
 names_in_all d ports sources pipelines =
     let screens = range_with_len 1 (length d.ports) in
     let all = length-append (screens ++ source_names d.sources) (pipelines_names d.pipelines) in

@@ -15,6 +15,7 @@ use Rattle.wf_model.specs.State.{DisplayState}
 use Rattle.wf_display.specs.Fits.{Fits}
 use Rattle.wf_display.specs.Named.{AreKept, named_fits}
 use Rattle.wf_display.proofs.NameCounts.{in_parts, one_name, pipeline_changed, pipeline_of_all, pipelines_names, source_names, two_names}
+use Rattle.wf_calls.specs.declared.TheConstants.{MOST_PIPELINES}
 
 -- the same change told by other lists of names, from a store with other handles
 pub told_as : (u v : StoreView) (made : ℕ) (others : List Live) (first firsts ended began : List ℕ)
@@ -99,7 +100,7 @@ none_renamed xs u =
     }
 
 module _ (count : ℕ) (xs ys : List Pipeline) (u v : StoreView) (so_far : Renamed count xs ys u v) where
-  pub enough_room : HasRoom u → count ≤ 8 → (n : ℕ) → count_of n v < 4000000000
+  pub enough_room : HasRoom u → count ≤ MOST_PIPELINES → (n : ℕ) → count_of n v < 4000000000
   enough_room room few n = (let more = so_far.room n in omega (arith, room n, more, few))
 
   module _ (names : List ℕ) (fit : NamesFit (names ++ pipelines_names xs) u) where

@@ -6,6 +6,7 @@ use Rattle.wf_scene.specs.declared.style.Style.{Style}
 use Rattle.wf_model.specs.declared.display.Pipeline.{Pipeline}
 use Rattle.wf_model.specs.declared.display.Port.{Port}
 use Rattle.wf_model.specs.State.{DisplayState}
+use Rattle.wf_calls.specs.declared.TheConstants.{MOST_PIPELINES}
 
 -- a number of a mode of a port
 abbrev pub IsMode : ℕ → Port → Type 0
@@ -30,4 +31,4 @@ pub record IsDisplay (d : DisplayState) : Type 0 where
   pub ports : AllByRecursion IsPort d.ports
   pub pipelines : AllByRecursion IsPipeline d.pipelines
   pub few_ports : length d.ports ≤ 4
-  pub few_pipelines : length d.pipelines ≤ 8
+  pub few_pipelines : length d.pipelines ≤ MOST_PIPELINES

@@ -4,6 +4,7 @@ use Rattle.std.specs.Vec.{vec_capacity}
 use Rattle.wf_display.specs.declared.display.Display.TheInside.{Inside}
 use Rattle.wf_display.specs.Display.{IsDisplay}
 use Rattle.wf_model.specs.State.{DisplayState}
+use Rattle.wf_model.specs.declared.TheConstants.{MOST_SOURCES}
 
 -- what the fields stand for
 abbrev pub display_of : Inside → DisplayState
@@ -18,4 +19,4 @@ display_of i =
 -- there is room for all sources that may live
 pub record IsSound (i : Inside) : Type 0 where
   pub display : IsDisplay (display_of i)
-  pub room : vec_capacity i.sources ≡ 256
+  pub room : vec_capacity i.sources ≡ MOST_SOURCES

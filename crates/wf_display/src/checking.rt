@@ -7,6 +7,7 @@ ghost use Rattle.wf_model.specs.DisplayCommits.{is_inside, keeps_port, requested
 use crate::commits::takes_pipeline;
 use crate::display::Display;
 use crate::finding::source_at;
+use wf_calls::MOST_PIPELINES;
 use wf_model::{DisplaySource, Extent, Pipeline};
 use wf_scene::{Fault, Style, has_sides, holds_rect};
 use wf_stream::Store;
@@ -64,7 +65,7 @@ fn is_inside(store: &Store, stream: u32, style: Style) -> bool
     }
 }
 
-/// Whether a destination has sides of 1 to 1024, where a stream is shown.
+/// Whether a destination has sides from 1 to `MOST_SIDE`, where a stream is shown.
 fn has_destination(stream: u32, style: Style) -> bool
     ensures { result ≡ has_destination stream style }
 {
@@ -137,7 +138,7 @@ impl Display {
     /// The first fault of the pipelines that a commit takes.
     pub(crate) fn first_fault(&self, store: &Store, extent: Extent) -> Option<Fault>
         ensures fault { result ≡ fault_from extent store.now.streams self.now.sources 1 self.now.pipelines }
-        ensures most { IfSome result (λ fault. (fault.place ≤ 8) × (fault.rule ≤ 4)) }
+        ensures most { IfSome result (λ fault. (fault.place ≤ MOST_PIPELINES) × (fault.rule ≤ 4)) }
     {
         for place in 0..self.pipelines.len() {
             let found = fault_at(

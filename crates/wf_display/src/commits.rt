@@ -14,7 +14,7 @@ ghost use Rattle.wf_display.specs.Sides.{KeepsRest};
 use crate::checking::requested_stream;
 use crate::display::Display;
 use crate::naming::rename;
-use wf_calls::{Code, Refusal, Reply, Transition};
+use wf_calls::{Code, MOST_PIPELINES, Refusal, Reply, Transition};
 use wf_model::{DisplaySource, Extent, Pipeline, Port, PortStyle};
 use wf_stream::Store;
 
@@ -124,7 +124,7 @@ fn commit_pipelines(
     sources: &[DisplaySource],
     extent: Extent,
 )
-    requires few { length pipelines.old ≤ 8 }
+    requires few { length pipelines.old ≤ MOST_PIPELINES }
     requires names { NamesFit (map (λ s. s.stream) sources.now ++ flat_map pipeline_names pipelines.old) store.old }
     requires room { HasRoom store.old }
     ensures names { Recounts (flat_map pipeline_names pipelines.old) (flat_map pipeline_names pipelines.new) store.old store.new }

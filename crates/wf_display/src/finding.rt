@@ -8,7 +8,7 @@ ghost use Rattle.wf_model.specs.Outcome.{at_place};
 ghost use Rattle.wf_display.specs.Places.{FindsPlace};
 
 use crate::display::Display;
-use wf_calls::{Code, Refusal};
+use wf_calls::{Code, MOST_PIPELINES, Refusal};
 use wf_model::DisplaySource;
 
 /// The source of a handle.
@@ -39,7 +39,7 @@ impl Display {
     /// The place of a pipeline, which is counted from 1 in calls and from 0 here.
     fn pipeline_at(&self, number: i64) -> Option<usize>
         ensures { MatchOption result (nth (count_of number) self.now.pipelines ≡ None) (λ place. (count_of number ≡ place + 1)
-            × (place < length self.now.pipelines) × (place < 8)) }
+            × (place < length self.now.pipelines) × (place < MOST_PIPELINES)) }
     {
         if 1 <= number && number <= self.pipelines.len() as i64 {
             Some((number - 1) as usize)
@@ -64,7 +64,7 @@ impl Display {
     pub(crate) fn pipeline_place(&self, number: i64) -> Result<usize, Refusal>
         ensures found { at_place result self.now.pipelines ≡ pipeline number self.now }
         ensures place { FindsPlace number self.now.pipelines result }
-        ensures few { IfOk result (λ place. place < 8) }
+        ensures few { IfOk result (λ place. place < MOST_PIPELINES) }
     {
         match self.pipeline_at(number) {
             Some(place) => Ok(place),

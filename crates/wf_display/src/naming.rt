@@ -7,7 +7,7 @@ ghost use Rattle.wf_model.specs.Names.{display_names, pipeline_names};
 ghost use Rattle.wf_display.specs.Named.{AreKept};
 
 use crate::display::Display;
-use wf_model::Pipeline;
+use wf_model::{MOST_DISPLAY_NAMES, Pipeline};
 use wf_stream::{Store, begin_name, end_name};
 
 /// The names of a pipeline begin: what it shows, and what waits there.
@@ -53,9 +53,10 @@ pub(crate) fn rename(store: &mut Store, old: Pipeline, new: Pipeline)
 }
 
 impl Display {
-    /// The objects have at most 276 names of streams: those of 4 screens, of 256 sources, and two of each of 8 pipelines.
-    pub fn few_names(&self)
-        ensures { length (display_names self.now) ≤ 276 }
+    /// Shows the prover that there are few names of streams: those of screens, of sources, and two of each pipeline. Does nothing
+    /// at run time.
+    pub fn prove_few_names(&self)
+        ensures { length (display_names self.now) ≤ MOST_DISPLAY_NAMES }
     {
         let _sources = &self.sources;
     }

@@ -11,11 +11,10 @@ ghost use Rattle.wf_display.specs.Opening.{with_screens};
 ghost use Rattle.wf_display.specs.Fits.{Fits};
 
 use crate::display::Display;
-use crate::sources::MOST_SOURCES;
 use arrayvec::ArrayVec;
 use std::alloc::Global;
 use wf_calls::{Modes, Ports};
-use wf_model::{Pipeline, Port, PortStyle};
+use wf_model::{MOST_SOURCES, Pipeline, Port, PortStyle};
 use wf_pixel::{Rgba, Size};
 use wf_scene::Style;
 use wf_stream::Store;
@@ -61,8 +60,8 @@ fn initial_pipeline() -> Pipeline
 }
 
 impl Display {
-    /// The ports and the pipelines that are declared, with the screens of the ports in a store in which nothing was made, as
-    /// streams 1, 2 and so on.
+    /// Makes the ports and the pipelines that are declared, with the screens of the ports in a store in which nothing was made,
+    /// as streams 1, 2 and so on.
     pub fn new(alloc: Global, ports: &Ports, store: &mut Store) -> Result<Display, NoMemory>
         requires declared { IsTrue (may_declare ports.now) }
         requires empty { store.old ≡ empty }
@@ -85,7 +84,7 @@ impl Display {
         })
     }
 
-    /// The number of a port's screen: the port's own number, or None for one that was not declared.
+    /// Returns the number of a port's screen, which is the port's own number, or `None` for a port that was not declared.
     pub fn screen(&self, port: u32) -> Option<u32>
         ensures { result ≡ screen_at port self.now }
     {

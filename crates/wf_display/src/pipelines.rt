@@ -222,8 +222,8 @@ impl Display {
         Reply::bare(self.answer(store, done))
     }
 
-    /// One number of an attribute of a pipeline, by its index from 0. BadHandle is no pipeline; IllegalArgument an index that
-    /// the attribute does not have.
+    /// Answers one number of an attribute of a pipeline, by its index from 0. BadHandle is no pipeline; IllegalArgument an
+    /// index that the attribute does not have.
     pub fn pipe_get(&mut self, store: &mut Store, pipe: i64, attr: PipeAttr, index: i64) -> Reply
         requires { Fits self.old store.old }
         ensures { Steps (λ _. on_display (pipe_get pipe attr index)) KeepsAll self.old self.new store.old store.new result }

@@ -163,8 +163,8 @@ impl Display {
         Reply::bare(self.answer(store, done))
     }
 
-    /// One number of an attribute of a port, by its index from 0: the cached one, but that the size is the committed mode's.
-    /// BadHandle is no port; IllegalArgument an index that the attribute does not have.
+    /// Answers one number of an attribute of a port, by its index from 0: the cached one, but that the size is the committed
+    /// mode's. BadHandle is no port; IllegalArgument an index that the attribute does not have.
     pub fn port_get(&mut self, store: &mut Store, port: i64, attr: PortAttr, index: i64) -> Reply
         requires { Fits self.old store.old }
         ensures { Steps (λ _. on_display (port_get port attr index)) KeepsAll self.old self.new store.old store.new result }

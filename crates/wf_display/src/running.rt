@@ -38,7 +38,7 @@ impl Display {
         Ok(number)
     }
 
-    /// The number of the code in the register, or 0 for an empty one. The register is emptied.
+    /// Answers the number of the code in the register, or 0 for an empty one, and empties the register.
     pub fn display_error(&mut self, store: &mut Store) -> Reply
         requires { Fits self.old store.old }
         ensures { Steps (λ _. on_display display_error) KeepsAll self.old self.new store.old store.new result }

@@ -16,9 +16,10 @@ use crate::display::Display;
 use crate::naming::rename;
 use crate::ports::{mode_size, shown_size};
 use arrayvec::ArrayVec;
+use wf_calls::MOST_PIPELINES;
 use wf_model::{Pipeline, Port};
 use wf_pixel::{Rect, Rotation, Size};
-use wf_scene::{Layer, Scene, Style};
+use wf_scene::{Layer, MOST_INSERTED, Scene, Style};
 use wf_stream::Store;
 
 /// All of a size.
@@ -57,8 +58,8 @@ fn pipeline_layer(number: u32, pipeline: Pipeline) -> Option<Layer>
 }
 
 /// One more layer, if there is one.
-fn push_layer(layers: &mut ArrayVec<Layer, 32>, layer: Option<Layer>)
-    requires { length layers.old.items < 32 }
+fn push_layer(layers: &mut ArrayVec<Layer, MOST_INSERTED>, layer: Option<Layer>)
+    requires { length layers.old.items < MOST_INSERTED }
     ensures layers { layers.new.items ≡ layers.old.items ++ option_to_list layer }
     ensures most { length layers.new.items ≤ length layers.old.items + 1 }
 {
@@ -68,8 +69,8 @@ fn push_layer(layers: &mut ArrayVec<Layer, 32>, layer: Option<Layer>)
 }
 
 /// A layer, and those of the pipelines of a port over it, by rising number.
-fn layers_of(number: u32, lowest: Layer, pipelines: &[Pipeline]) -> ArrayVec<Layer, 32>
-    requires { length pipelines.now ≤ 8 }
+fn layers_of(number: u32, lowest: Layer, pipelines: &[Pipeline]) -> ArrayVec<Layer, MOST_INSERTED>
+    requires { length pipelines.now ≤ MOST_PIPELINES }
     ensures { result.items ≡ lowest ∷ filter_map (pipeline_layer number) pipelines.now }
 {
     let mut layers = ArrayVec::new();
@@ -104,7 +105,7 @@ fn begun_pipeline(number: u32, pipeline: &Pipeline) -> Pipeline
 
 /// Pipelines at a frame of a port, whose names are counted.
 fn begin_pipelines(store: &mut Store, number: u32, pipelines: &mut [Pipeline])
-    requires few { length pipelines.old ≤ 8 }
+    requires few { length pipelines.old ≤ MOST_PIPELINES }
     requires names { NamesFit (flat_map pipeline_names pipelines.old) store.old }
     requires room { HasRoom store.old }
     ensures names { Recounts (flat_map pipeline_names pipelines.old) (flat_map pipeline_names pipelines.new) store.old store.new }
@@ -122,7 +123,7 @@ fn begin_pipelines(store: &mut Store, number: u32, pipelines: &mut [Pipeline])
 
 /// The scene of a port: its background, its screen, and its pipelines by rising number.
 fn scene_of_port(number: u32, pipelines: &[Pipeline], port: &Port) -> Scene
-    requires { length pipelines.now ≤ 8 }
+    requires { length pipelines.now ≤ MOST_PIPELINES }
     ensures { result ≡ scene_of_port number pipelines.now port.now }
 {
     let size = shown_size(port);
@@ -146,7 +147,7 @@ fn port_of(ports: &[Port], number: u32) -> Option<&Port>
 }
 
 impl Display {
-    /// Whether a port, which is counted from 1, gives frames: it was declared, it is on, and it has a display attached.
+    /// Tells whether a port, which is counted from 1, gives frames: it was declared, it is on, and it has a display attached.
     pub fn gives_frames(&self, port: u32) -> bool
         ensures { result ≡ is_some (port_scene port (begun_display port self.now)) }
     {
@@ -156,9 +157,9 @@ impl Display {
         }
     }
 
-    /// The scene of a port, which is counted from 1: its background, its screen, scaled to the committed mode, and each
-    /// pipeline that is committed to it and shows a stream, by rising number. None is a port that was not declared, is off, or
-    /// has no display attached.
+    /// Returns the scene of a port, which is counted from 1: its background, its screen, scaled to the committed mode, and each
+    /// pipeline that is committed to it and shows a stream, by rising number. `None` is a port that was not declared, is off,
+    /// or has no display attached.
     pub fn scene(&self, port: u32) -> Option<Scene>
         ensures { result ≡ port_scene port self.now }
     {
@@ -168,7 +169,7 @@ impl Display {
         }
     }
 
-    /// The committed mode of a port, both counted from 1, or None for a port that was not declared.
+    /// Returns the committed mode of a port, both counted from 1, or `None` for a port that was not declared.
     pub fn mode(&self, port: u32) -> Option<u32>
         ensures mode { result ≡ option_map (λ p. p.committed.mode) (nth port self.now.ports) }
         ensures display { IsDisplay self.now }

@@ -16,11 +16,8 @@ ghost use Rattle.wf_display.specs.Sides.{KeepsRest, display_side_of};
 use crate::display::Display;
 use crate::finding::source_at;
 use wf_calls::{Code, Refusal, Reply};
-use wf_model::DisplaySource;
+use wf_model::{DisplaySource, MOST_SOURCES};
 use wf_stream::{Kind, MakeStop, Store, begin_name, end_name};
-
-/// How many sources and masks live at most, those of composition included.
-pub(crate) const MOST_SOURCES: usize = 256;
 
 /// The handle of a new source, under which the store keeps the number of its stream.
 fn mint(store: &mut Store, stream: u32) -> Result<u32, Refusal>

@@ -55,6 +55,7 @@ impl Display {
             Request::CommitPipe { pipe } => self.try_commit_pipe(store, *pipe),
             Request::DisplayError => self.try_display_error(store),
             Request::StreamNew { .. }
+            | Request::StreamQueue { .. }
             | Request::StreamDestroy { .. }
             | Request::Acquire { .. }
             | Request::Stat { .. }
@@ -99,6 +100,7 @@ impl Display {
                 store, *pipe, *stream,
             ),
             Request::StreamNew { .. }
+            | Request::StreamQueue { .. }
             | Request::StreamDestroy { .. }
             | Request::Acquire { .. }
             | Request::Stat { .. }

@@ -1,5 +1,7 @@
 -- Images: what one is, what a paint leaves, images by the number of their stream, and what an image is once its lent
 -- bytes come back.
+
+-- What is promised: the words that the clauses of public functions stand on.
 pub mod Bitmap
 pub mod Paints
 pub mod Contents

@@ -16,8 +16,8 @@ pub struct Canvas {
 
 impl Canvas {
     /// Paints `p` on the image. What lies outside of it is dropped, and pixels that the paint does not name stay. It cannot
-    /// lack memory. The numbers of the paint are in their ranges: coordinates from -16,384 to 16,384, sides of a rectangle up
-    /// to 16,384, sides of squares from 1 to 1024, rows up to 1023, and 1 to 1024 pixels in a row.
+    /// lack memory. The numbers of the paint are in their ranges: coordinates and sides of a rectangle as far as
+    /// `MOST_COORDINATE`, sides of squares from 1 to `MOST_SIDE`, rows below that, and from 1 to `MOST_SIDE` pixels in a row.
     pub fn paint(&mut self, p: &Paint)
         requires { IsTrue (is_paint p.now) }
         ensures { self.new ≡ record self.old { image = painted self.old.image p.now } }

@@ -3,15 +3,16 @@
 ghost use Rattle.std.specs.Prelude.{◌≡◌, ◌++◌, ◌∷◌, [], ◌<◌, ◌≤◌, length, None, Some, IfSome, IfNone, option_to_list};
 ghost use Rattle.wf_image.specs.Contents.{AreApart, image_of, somes};
 
+use crate::MOST_CONTENTS;
 use crate::image::Image;
 use arrayvec::ArrayVec;
 use std::marker::Model;
 
-/// At most 64 images, each with the number of its stream, and no number twice. No call can lack memory.
+/// Images, each with the number of its stream, and no number twice. No call can lack memory.
 #[derive(Drop)]
 pub struct Contents {
     // No pair is None: it is an Option because what stands in an ArrayVec has a Default.
-    pairs: ArrayVec<Option<(u32, Image)>, 64>,
+    pairs: ArrayVec<Option<(u32, Image)>, MOST_CONTENTS>,
 }
 
 impl Model for Contents {
@@ -38,7 +39,7 @@ impl Contents {
 
     /// Adds the `image` of `stream`, which has none here yet. There is a place for it.
     pub fn put(&mut self, stream: u32, image: Image)
-        requires room { length self.old < 64 }
+        requires room { length self.old < MOST_CONTENTS }
         requires apart { image_of stream self.old ≡ None }
         ensures { self.new ≡ self.old ++ (stream, image) ∷ [] }
     {
@@ -56,7 +57,7 @@ impl Contents {
     /// Returns the number of images.
     pub fn len(&self) -> usize
         ensures count { result ≡ length self.now }
-        ensures most { result ≤ 64 }
+        ensures most { result ≤ MOST_CONTENTS }
         ensures apart { AreApart self.now }
     {
         self.pairs.len()

@@ -31,7 +31,7 @@ impl Model for Image {
 }
 
 impl Image {
-    /// Makes an image of zeros of `size` and `format`. Each side is from 1 to 1024.
+    /// Makes an image of zeros of `size` and `format`. Each side is from 1 to `MOST_SIDE`.
     pub fn new(alloc: Global, size: Size, format: Format) -> Result<Image, NoMemory>
         requires { IsTrue (has_sides size) }
         ensures { IfOk result (λ image. image ≡ blank size format) }

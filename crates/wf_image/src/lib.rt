@@ -13,3 +13,6 @@ pub use canvas::Canvas;
 pub use contents::Contents;
 pub use image::{Image, bytes_of_pixel};
 pub use paint::{Paint, Pixels};
+
+/// The most images of a frame. Each layer shows one, and may have another as its mask.
+pub const MOST_CONTENTS: usize = 64;

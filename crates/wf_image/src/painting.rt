@@ -4,7 +4,7 @@ ghost use Rattle.std.specs.Prelude.{◌≡◌, ℕ, ◌+◌, ◌*◌, ◌<◌, �
 ghost use Rattle.std.specs.Prelude.{IsTrue, Some, slice_get};
 ghost use Rattle.std.specs.Int.{int_max, int_min};
 ghost use Rattle.wf_pixel.specs.Along.{along};
-ghost use Rattle.wf_pixel.specs.Choice.{has_sides, is_coordinate};
+ghost use Rattle.wf_pixel.specs.Choice.{has_sides, is_coordinate, most_extent};
 ghost use Rattle.wf_image.specs.Bitmap.{image_bytes, pixel_bytes, stored};
 ghost use Rattle.wf_image.specs.Paints.{is_paint, ramp_channel, ramp_colour, named_colour, painted_row, painted_bytes};
 
@@ -87,8 +87,8 @@ fn span_of_row(p: &Paint, size: Size, y: u32) -> (u32, u32)
 fn span_of_rectangle(area: Rect, width: u32, y: u32) -> (u32, u32)
     requires x { IsTrue (is_coordinate area.x) }
     requires y { IsTrue (is_coordinate area.y) }
-    requires w { area.w ≤ 16384 }
-    requires h { area.h ≤ 16384 }
+    requires w { area.w ≤ most_extent }
+    requires h { area.h ≤ most_extent }
     requires width { width ≤ MOST_SIDE }
     requires row { y < MOST_SIDE }
     ensures order { result.0 ≤ result.1 }
@@ -114,7 +114,7 @@ fn contains(span: (u32, u32), n: u32) -> bool
 /// The numbers below `len` that lie along a side.
 fn span_of_side(start: i32, side: u32, len: u32) -> (u32, u32)
     requires start { IsTrue (is_coordinate start) }
-    requires side { side ≤ 16384 }
+    requires side { side ≤ most_extent }
     requires len { len ≤ MOST_SIDE }
     ensures order { result.0 ≤ result.1 }
     ensures within { result.1 ≤ len }

@@ -24,6 +24,7 @@ impl<R: Read> Model for StdSource<R> {
 }
 
 impl<R: Read> StdSource<R> {
+    /// Makes a source of what `reader` has left.
     pub fn new(reader: R) -> StdSource<R>
         ensures { result ≡ record { left = R.remaining reader; faults = 0 } }
     {
@@ -70,6 +71,7 @@ impl<W: Write> Model for StdSink<W> {
 }
 
 impl<W: Write> StdSink<W> {
+    /// Makes a sink over `writer`.
     pub fn new(writer: W) -> StdSink<W>
         ensures { result ≡ 0 }
     {

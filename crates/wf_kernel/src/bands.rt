@@ -15,7 +15,7 @@ use crate::tables::{count_tables, fill_tables};
 use std::thread::{Threads, join_mut};
 use wf_image::{Contents, Image};
 use wf_pixel::{MOST_SIDE, Rgba, SIDE_LEN};
-use wf_scene::Scene;
+use wf_scene::{MOST_INSERTED, Scene};
 
 /// What a worker's rows cost at least, in pixels that are copied, where there are several workers: four times what it costs to start one.
 const LEAST: u32 = 262144;
@@ -63,7 +63,7 @@ fn rows_of_scene<R: Threads + Sync>(
     } else if count <= 4 {
         rows_by_tables::<R, 4>(rt, workers, bytes, scene, contents);
     } else {
-        rows_by_tables::<R, 32>(rt, workers, bytes, scene, contents);
+        rows_by_tables::<R, MOST_INSERTED>(rt, workers, bytes, scene, contents);
     }
 }
 
@@ -77,7 +77,7 @@ fn rows_by_tables<R: Threads + Sync, const N: usize>(
     contents: &Contents,
 )
     requires room { table_count scene.now ≤ N }
-    requires small { N ≤ 32 }
+    requires small { N ≤ MOST_INSERTED }
     requires some { 1 ≤ workers }
     requires few { workers ≤ 16 }
     requires count { length bytes.old ≡ scene.now.size.w * scene.now.size.h * 4 }
@@ -108,7 +108,7 @@ fn rows_of_bound<R: Threads + Sync>(
     if scene.layers.len() <= 4 {
         rows_of_layers::<R, 4>(rt, workers, bytes, scene, contents, tables);
     } else {
-        rows_of_layers::<R, 32>(rt, workers, bytes, scene, contents, tables);
+        rows_of_layers::<R, MOST_INSERTED>(rt, workers, bytes, scene, contents, tables);
     }
 }
 
@@ -123,7 +123,7 @@ fn rows_of_layers<R: Threads + Sync, const N: usize>(
     tables: &[[u16; SIDE_LEN]],
 )
     requires room { length scene.now.layers.items ≤ N }
-    requires small { N ≤ 32 }
+    requires small { N ≤ MOST_INSERTED }
     requires some { 1 ≤ workers }
     requires few { workers ≤ 16 }
     requires count { length bytes.old ≡ scene.now.size.w * scene.now.size.h * 4 }

@@ -21,7 +21,10 @@ mod tables;
 pub use bands::picture_rows;
 pub use painter::{Painter, Plain};
 pub use painting::picture;
-use wf_pixel::SIDE_LEN;
+use wf_pixel::{MOST_COORDINATE, MOST_SIDE, SIDE_LEN};
+
+/// The farthest that a rectangle on a target may begin from 0, to either side, however the target is turned.
+const FARTHEST: u32 = MOST_COORDINATE + MOST_SIDE;
 
 /// The bytes of a row of pixels.
 const ROW_BYTES: usize = 4 * SIDE_LEN;

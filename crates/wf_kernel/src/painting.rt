@@ -18,12 +18,12 @@ use crate::strips::{Strip, no_strip, strip_for};
 use crate::tables::{count_tables, fill_tables};
 use wf_image::{Contents, Image};
 use wf_pixel::{Format, MOST_SIDE, Rgba, SIDE_LEN};
-use wf_scene::Scene;
+use wf_scene::{MOST_INSERTED, Scene};
 
 /// Writes into `target` the picture of `scene` with the images of `contents` by stream. It cannot lack memory and refuses
-/// nothing. The target has the scene's size and 4 bytes a pixel; scene and images fit: the scene's sides are from 1 to 1024,
-/// the rectangles of each layer are in their ranges, an image of its stream is no mask and holds its source rectangle, and an
-/// image of its mask, where that applies, is a mask of its destination's size.
+/// nothing. The target has the scene's size and 4 bytes a pixel; scene and images fit: the scene's sides are from 1 to
+/// `MOST_SIDE`, the rectangles of each layer are in their ranges, an image of its stream is no mask and holds its source
+/// rectangle, and an image of its mask, where that applies, is a mask of its destination's size.
 pub fn picture(scene: &Scene, contents: &Contents, target: &mut Image)
     requires size { target.old.size ≡ scene.now.size }
     requires pixels { pixel_bytes target.old.format ≡ 4 }
@@ -49,7 +49,7 @@ fn paint_scene(bytes: &mut [u8], scene: &Scene, contents: &Contents)
     } else if count <= 4 {
         paint_by_tables::<4>(bytes, scene, contents);
     } else {
-        paint_by_tables::<32>(bytes, scene, contents);
+        paint_by_tables::<MOST_INSERTED>(bytes, scene, contents);
     }
 }
 
@@ -58,7 +58,7 @@ fn paint_scene(bytes: &mut [u8], scene: &Scene, contents: &Contents)
 #[inline(never)]
 fn paint_by_tables<const N: usize>(bytes: &mut [u8], scene: &Scene, contents: &Contents)
     requires room { table_count scene.now ≤ N }
-    requires small { N ≤ 32 }
+    requires small { N ≤ MOST_INSERTED }
     requires count { length bytes.old ≡ scene.now.size.w * scene.now.size.h * 4 }
     requires fits { Fits scene.now contents.now }
     ensures { bytes.new ≡ bound_picture scene.now contents.now }
@@ -78,7 +78,7 @@ fn paint_bound(bytes: &mut [u8], scene: &Scene, contents: &Contents, tables: &[[
     if scene.layers.len() <= 4 {
         paint_layers::<4>(bytes, scene, contents, tables);
     } else {
-        paint_layers::<32>(bytes, scene, contents, tables);
+        paint_layers::<MOST_INSERTED>(bytes, scene, contents, tables);
     }
 }
 
@@ -91,7 +91,7 @@ fn paint_layers<const N: usize>(
     tables: &[[u16; SIDE_LEN]],
 )
     requires room { length scene.now.layers.items ≤ N }
-    requires small { N ≤ 32 }
+    requires small { N ≤ MOST_INSERTED }
     requires count { length bytes.old ≡ scene.now.size.w * scene.now.size.h * 4 }
     requires fits { Fits scene.now contents.now }
     requires tables { AreTables scene.now tables.now }

@@ -2,12 +2,13 @@
 
 ghost use Rattle.std.specs.Prelude.{◌≡◌, ◌≢◌, ◌+◌, ◌-◌, ◌*◌, ◌<◌, ◌≤◌, ◌≤ℤ◌, pos, negsuc, nat_abs, true, IsTrue};
 ghost use Rattle.wf_pixel.specs.Arithmetic.{samp};
-ghost use Rattle.wf_pixel.specs.Choice.{has_sides};
+ghost use Rattle.wf_pixel.specs.Choice.{has_sides, least_coordinate, most_coordinate};
 ghost use Rattle.wf_pixel.specs.Place.{turned, size_of, IsDrawn};
 ghost use Rattle.wf_kernel.specs.Placed.{mirrored, left_on, top_on, turned_rect, flipped, left_of, top_of, across, down, is_quarter};
 ghost use Rattle.wf_kernel.specs.Placed.{is_crossed, is_backward};
 ghost use Rattle.wf_kernel.specs.Prepared.{IsWalk, needs_table};
 
+use crate::FARTHEST;
 use wf_pixel::{MOST_SIDE, Rect, Rotation, Size, samp, turned};
 use wf_scene::Layer;
 
@@ -29,10 +30,10 @@ pub(crate) fn turned_rect(turn: Rotation, space: Size, r: Rect) -> Rect
     ensures value { result ≡ turned_rect turn space r }
     ensures w { result.w ≤ MOST_SIDE }
     ensures h { result.h ≤ MOST_SIDE }
-    ensures x_low { negsuc (16383 + MOST_SIDE) ≤ℤ result.x }
-    ensures x_high { result.x ≤ℤ pos (16384 + MOST_SIDE) }
-    ensures y_low { negsuc (16383 + MOST_SIDE) ≤ℤ result.y }
-    ensures y_high { result.y ≤ℤ pos (16384 + MOST_SIDE) }
+    ensures x_low { negsuc (FARTHEST - 1) ≤ℤ result.x }
+    ensures x_high { result.x ≤ℤ pos FARTHEST }
+    ensures y_low { negsuc (FARTHEST - 1) ≤ℤ result.y }
+    ensures y_high { result.y ≤ℤ pos FARTHEST }
 {
     let size = turned(turn, Size { w: r.w, h: r.h });
     Rect {
@@ -48,8 +49,8 @@ fn left_on(turn: Rotation, space: Size, r: Rect) -> i32
     requires sides { IsTrue (has_sides space) }
     requires r { IsDrawn r }
     ensures value { result ≡ left_on turn space r }
-    ensures low { negsuc (16383 + MOST_SIDE) ≤ℤ result }
-    ensures high { result ≤ℤ pos (16384 + MOST_SIDE) }
+    ensures low { negsuc (FARTHEST - 1) ≤ℤ result }
+    ensures high { result ≤ℤ pos FARTHEST }
 {
     match turn {
         Rotation::R0 => r.x,
@@ -64,8 +65,8 @@ fn top_on(turn: Rotation, space: Size, r: Rect) -> i32
     requires sides { IsTrue (has_sides space) }
     requires r { IsDrawn r }
     ensures value { result ≡ top_on turn space r }
-    ensures low { negsuc (16383 + MOST_SIDE) ≤ℤ result }
-    ensures high { result ≤ℤ pos (16384 + MOST_SIDE) }
+    ensures low { negsuc (FARTHEST - 1) ≤ℤ result }
+    ensures high { result ≤ℤ pos FARTHEST }
 {
     match turn {
         Rotation::R0 => r.y,
@@ -79,11 +80,11 @@ fn top_on(turn: Rotation, space: Size, r: Rect) -> i32
 fn mirrored(n: u32, x: i32, w: u32) -> i32
     requires n { n ≤ MOST_SIDE }
     requires w { w ≤ MOST_SIDE }
-    requires low { negsuc 16383 ≤ℤ x }
-    requires high { x ≤ℤ pos 16384 }
+    requires low { least_coordinate ≤ℤ x }
+    requires high { x ≤ℤ most_coordinate }
     ensures value { result ≡ mirrored n x w }
-    ensures result_low { negsuc (16383 + MOST_SIDE) ≤ℤ result }
-    ensures result_high { result ≤ℤ pos (16384 + MOST_SIDE) }
+    ensures result_low { negsuc (FARTHEST - 1) ≤ℤ result }
+    ensures result_high { result ≤ℤ pos FARTHEST }
 {
     n as i32 - (x + w as i32)
 }

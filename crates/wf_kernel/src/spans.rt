@@ -3,6 +3,7 @@
 ghost use Rattle.std.specs.Prelude.{◌+◌, ◌-◌, ◌<◌, ◌≤◌, ◌≤ℤ◌, pos, negsuc};
 ghost use Rattle.wf_kernel.specs.Spans.{IsReach};
 
+use crate::FARTHEST;
 use wf_pixel::{MOST_SIDE, Rect};
 
 /// The pixels of a row or a column of the target that the side of a destination covers.
@@ -32,8 +33,8 @@ pub(crate) const NONE: Span = Span {
 
 /// The columns that a rectangle on the target covers, however long the rows are.
 pub(crate) fn columns_of(r: Rect) -> Span
-    requires low { negsuc (16383 + MOST_SIDE) ≤ℤ r.x }
-    requires high { r.x ≤ℤ pos (16384 + MOST_SIDE) }
+    requires low { negsuc (FARTHEST - 1) ≤ℤ r.x }
+    requires high { r.x ≤ℤ pos FARTHEST }
     requires w { r.w ≤ MOST_SIDE }
     ensures { IsReach r.x r.w result }
 {
@@ -42,8 +43,8 @@ pub(crate) fn columns_of(r: Rect) -> Span
 
 /// The rows that it covers.
 pub(crate) fn rows_of(r: Rect) -> Span
-    requires low { negsuc (16383 + MOST_SIDE) ≤ℤ r.y }
-    requires high { r.y ≤ℤ pos (16384 + MOST_SIDE) }
+    requires low { negsuc (FARTHEST - 1) ≤ℤ r.y }
+    requires high { r.y ≤ℤ pos FARTHEST }
     requires h { r.h ≤ MOST_SIDE }
     ensures { IsReach r.y r.h result }
 {
@@ -52,8 +53,8 @@ pub(crate) fn rows_of(r: Rect) -> Span
 
 /// The pixels that a side of `w` pixels from `x` on covers.
 fn reach_of(x: i32, w: u32) -> Span
-    requires low { negsuc (16383 + MOST_SIDE) ≤ℤ x }
-    requires high { x ≤ℤ pos (16384 + MOST_SIDE) }
+    requires low { negsuc (FARTHEST - 1) ≤ℤ x }
+    requires high { x ≤ℤ pos FARTHEST }
     requires w { w ≤ MOST_SIDE }
     ensures { IsReach x w result }
 {
@@ -82,7 +83,7 @@ fn reach_before(before: u32, w: u32) -> Span
 
 /// The same of a side that begins in the row or behind it.
 fn reach_at(start: u32, w: u32) -> Span
-    requires high { start ≤ 16384 + MOST_SIDE }
+    requires high { start ≤ FARTHEST }
     requires w { w ≤ MOST_SIDE }
     ensures { IsReach (pos start) w result }
 {

@@ -40,7 +40,7 @@ pub use Rattle.wf_model.specs.Composing.{screen_of}
 pub use Rattle.wf_model.specs.Display.{begun_display, port_scene}
 pub use Rattle.wf_model.specs.Effects.{Effect, effect}
 pub use Rattle.wf_model.specs.Frames.{Beginning, begin_port, brought_home, content_shape, delivered, drawing, end, has_shape, home_if}
-pub use Rattle.wf_model.specs.Frames.{is_of_frame, is_running, is_target, job_of, latch, latched_among, newest_images, newest_of}
+pub use Rattle.wf_model.specs.Frames.{is_of_frame, is_running, is_target, job_of, latch, latched_among, next_images, next_image_of}
 pub use Rattle.wf_model.specs.Frames.{scene_streams, start, target_ready}
 pub use Rattle.wf_model.specs.Kept.{modes_of}
 pub use Rattle.wf_model.specs.Names.{all_names, core_names, display_names, frame_names, kept, layer_names, own_names, settle, settle_if}
@@ -65,7 +65,7 @@ pub use Rattle.wf_scene.specs.Layers.{holds_rect}
 pub use Rattle.wf_scene.specs.declared.Layer.{Layer}
 pub use Rattle.wf_scene.specs.declared.Scene.{Scene}
 pub use Rattle.wf_stream.specs.Buffers.{Buffers, HasShape, acquired, away, away_if, buffer_bytes, discarded, fresh, is_blocked, latched}
-pub use Rattle.wf_stream.specs.Buffers.{latched_if, newest, posted, returned}
+pub use Rattle.wf_stream.specs.Buffers.{latched_if, next_image, posted, returned}
 pub use Rattle.wf_stream.specs.Streams.{IsNumbered, KeptStream, StoreView, buffers_at, change_stream, has_number, held, stream_at}
 pub use Rattle.wf_stream.specs.Streams.{stream_of, unnamed, with_live_stream}
 pub use Rattle.wf_words.specs.Keyed.{is_in, nth, once}

@@ -2,7 +2,8 @@
 use Rattle.wf_machine.proofs.Common.{◌≡◌, ℕ, Bool, true, false, cond, ◌==◌, List, Option, Some, None, refl, sym, Ok, ap, subst, ◌∙◌}
 use Rattle.wf_machine.proofs.Common.{option_map, IfSome, IsSomeAnd, eq-eqb, is_in, is_a8, Bitmap, Scene, Buffers, away_if, latched}
 use Rattle.wf_machine.proofs.Common.{latched_if}
-use Rattle.wf_machine.proofs.Common.{newest, KeptStream, StoreView, buffers_at, change_stream, stream_at, has_number, Context, is_running}
+use Rattle.wf_machine.proofs.Common.{next_image, KeptStream, StoreView, buffers_at, change_stream}
+use Rattle.wf_machine.proofs.Common.{stream_at, has_number, Context, is_running}
 use Rattle.wf_machine.proofs.Common.{latch, latched_among, target_ready, State, ContextFits, Fits, next_shown, IsComposable, MayStart}
 use Rattle.std.specs.Prelude.{◌&&◌, Result, Err}
 use Rattle.std.proofs.lemmas.Bool.{and_parts, eqb-true}
@@ -189,7 +190,7 @@ changed_here f n ss b keeps found = of_stream (stream_at n ss) refl
         ∙ ap (λ o. option_map (λ t. (changed_at n f t).buffers) o) at
         ∙ ap (λ x. Some (cond x (record s { buffers = f s.buffers }) s).buffers) here ∙ ap (λ c. Some (f c)) same
 
--- the buffers of a stream after the newest images of some went away
+-- the buffers of a stream after a frame took the images of some
 pub latched_here : (ns : List ℕ) (n : ℕ) (ss : List KeptStream) (b : Buffers) → buffers_at n ss ≡ Some b
     → buffers_at n (latch ns ss) ≡ Some (latched_if (is_in n ns) b)
 latched_here ns n ss b found = of_stream (stream_at n ss) refl
@@ -210,11 +211,11 @@ latched_here ns n ss b found = of_stream (stream_at n ss) refl
         ∙ ap (λ c. Some (latched_if (is_in n ns) c)) same
 
 latched_out : (b : Buffers) → (latched b).out ≡ b.out
-latched_out b = of_newest (newest b)
+latched_out b = of_next_image (next_image b)
   where
-    of_newest : (o : Option Bitmap) → (away_if o b).out ≡ b.out
-    of_newest None = refl
-    of_newest (Some image) = refl
+    of_next_image : (o : Option Bitmap) → (away_if o b).out ≡ b.out
+    of_next_image None = refl
+    of_next_image (Some image) = refl
 
 -- a target that is ready has its write buffer at home, and a free one after the latches
 pub is_ready : (target : ℕ) (scene : Scene) (b : Buffers) (h : State) → target_ready 0 target scene b h ≡ Ok tt

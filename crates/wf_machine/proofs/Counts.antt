@@ -12,6 +12,7 @@ use Rattle.wf_stream.specs.Renames.{Renames}
 use Rattle.wf_stream.specs.Streams.{count_of}
 use Rattle.wf_model.specs.Counting.{CountsNames, all_times, handle_own, kept_is, own_few, settled_counts}
 use Rattle.wf_machine.proofs.DropsKeepInvariant.{none_at_zero, sound_settled}
+use Rattle.wf_model.specs.declared.TheConstants.{MOST_CORE_NAMES, MOST_DISPLAY_NAMES}
 
 -- the names of a frame
 
@@ -86,7 +87,7 @@ module _ (m : Inside) (sound : IsSound m) where
   display_fits = fits (display_names m.display) (λ n. (let parts = all_times n (state_of m) in omega (arith, parts)))
 
   -- and has room for further names, since there are few
-  pub room : length (core_names m.core) ≤ 1552 → length (display_names m.display) ≤ 276 → HasRoom m.store
+  pub room : length (core_names m.core) ≤ MOST_CORE_NAMES → length (display_names m.display) ≤ MOST_DISPLAY_NAMES → HasRoom m.store
   room core display zero =
       let absent : is_some (stream_at 0 m.store.streams) ≡ false =
       rw (none_at_zero 0 m.store.numbered m.store.streams sound.holds.numbered) refl in

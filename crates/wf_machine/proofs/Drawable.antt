@@ -11,7 +11,7 @@ use Rattle.std.specs.Prelude.{◌≤ℤ◌, ◌+ℤ◌, int_le}
 use Rattle.std.specs.List.{All}
 use Rattle.std.proofs.lemmas.Bool.{ltb-true}
 use Rattle.wf_pixel.specs.declared.Rect.{Rect}
-use Rattle.wf_pixel.specs.Choice.{is_coordinate}
+use Rattle.wf_pixel.specs.Choice.{is_coordinate, least_coordinate, most_coordinate}
 use Rattle.wf_pixel.specs.Place.{size_of}
 use Rattle.wf_scene.specs.Layers.{is_placed_layer}
 use Rattle.wf_model.specs.Picture.{Fits, LayerFits as Shows}
@@ -77,17 +77,17 @@ dest_drawn l sides placed =
     let w = and_parts (nat_le 1 l.dest.w) (nat_le l.dest.w MOST_SIDE) each.0 in
     let h = and_parts (nat_le 1 l.dest.h) (nat_le l.dest.h MOST_SIDE) each.1 in
     let place = and_parts (is_coordinate l.dest.x) (is_coordinate l.dest.y) placed in
-    let x = and_parts (int_le (negsuc 16383) l.dest.x) (int_le l.dest.x (pos 16384)) place.0 in
-    let y = and_parts (int_le (negsuc 16383) l.dest.y) (int_le l.dest.y (pos 16384)) place.1 in
+    let x = and_parts (int_le least_coordinate l.dest.x) (int_le l.dest.x most_coordinate) place.0 in
+    let y = and_parts (int_le least_coordinate l.dest.y) (int_le l.dest.y most_coordinate) place.1 in
     record {
       w_low = leb-true 1 l.dest.w w.0;
       w_high = leb-true l.dest.w MOST_SIDE w.1;
       h_low = leb-true 1 l.dest.h h.0;
       h_high = leb-true l.dest.h MOST_SIDE h.1;
-      x_low = in_order (negsuc 16383) l.dest.x x.0;
-      x_high = in_order l.dest.x (pos 16384) x.1;
-      y_low = in_order (negsuc 16383) l.dest.y y.0;
-      y_high = in_order l.dest.y (pos 16384) y.1;
+      x_low = in_order least_coordinate l.dest.x x.0;
+      x_high = in_order l.dest.x most_coordinate x.1;
+      y_low = in_order least_coordinate l.dest.y y.0;
+      y_high = in_order l.dest.y most_coordinate y.1;
     }
 
 is_mask : (f : Format) → is_a8 f ≡ true → f ≡ A8

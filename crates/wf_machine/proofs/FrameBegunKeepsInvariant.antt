@@ -4,7 +4,7 @@ use Rattle.wf_machine.proofs.Common.{subst, ◌∙◌, arith, is_some, nat_lt, o
 use Rattle.wf_machine.proofs.Common.{Buffers, acquired, KeptStream, StoreView, IsNumbered, buffers_at, held, Job, JobKind, gives_job}
 use Rattle.wf_machine.proofs.Common.{Content, DisplayState, Running, State, CoreState, content_shape, drawing, Beginning, is_running}
 use Rattle.wf_machine.proofs.Common.{job_of, latch}
-use Rattle.wf_machine.proofs.Common.{latched_among, newest_images, scene_streams, start, layer_names, Images, Frame, Inside, AllFit}
+use Rattle.wf_machine.proofs.Common.{latched_among, next_images, scene_streams, start, layer_names, Images, Frame, Inside, AllFit}
 use Rattle.wf_machine.proofs.Common.{KindFits, PortsFit, contents_of, Holds, state_of, AreShapedAs, IsAnswer, IsOfSomePort, SameImage}
 use Rattle.wf_machine.proofs.Common.{modes_of, running_of, sizes_of}
 use Rattle.std.proofs.Common.{flat_map}
@@ -56,7 +56,7 @@ begun_seen k ns n ss =
 -- a frame has begun: from the machine as it was to the machine as it is now, with what it took
 pub record HasBegun (was now : Inside) (b : Beginning) (frame : Frame) (contents : Images) : Type 0 where
   pub free : was.frame ≡ None
-  pub taken : contents ≡ newest_images (scene_streams b.scene) was.store.streams
+  pub taken : contents ≡ next_images (scene_streams b.scene) was.store.streams
   pub store : now.store ≡ record was.store { streams = drawing b.kind (latch (scene_streams b.scene) was.store.streams) }
   pub core : now.core ≡ was.core
   pub shaped : AreShapedAs (latch (scene_streams b.scene) was.store.streams) contents
@@ -91,11 +91,11 @@ module _ (was now : Inside) (b : Beginning) (frame : Frame) (contents : Images) 
   no_contents : contents_of (option_map running_of was.frame) ≡ []
   no_contents = ap (λ f. contents_of (option_map running_of f)) begun.free
 
-  pub contents_are : contents_of (option_map running_of now.frame) ≡ map content_shape (newest_images names streams)
+  pub contents_are : contents_of (option_map running_of now.frame) ≡ map content_shape (next_images names streams)
   contents_are = ap (λ f. contents_of (option_map running_of f)) begun.frame_is ∙ begun.shapes
       ∙ ap (λ c. map content_shape c) begun.taken
 
-  shaped_now : AreShapedAs (latch names streams) (newest_images names streams)
+  shaped_now : AreShapedAs (latch names streams) (next_images names streams)
   shaped_now = subst (λ c. AreShapedAs (latch names streams) c) begun.taken begun.shaped
 
   as_many : length now.ports.items ≡ length was.ports.items
@@ -113,7 +113,7 @@ module _ (was now : Inside) (b : Beginning) (frame : Frame) (contents : Images) 
   latched_numbered : IsNumbered 0 (latch names streams) was.store.numbered
   latched_numbered = numbered_latch names 0 was.store.numbered streams sound.numbered
 
-  pub latched_fit : AllFit (map content_shape (newest_images names streams)) (latch names streams)
+  pub latched_fit : AllFit (map content_shape (next_images names streams)) (latch names streams)
   latched_fit =
       let fit = subst (λ cs. AllFit cs streams) no_contents sound.streams in
       all_latched names was.store.numbered streams sound.numbered shaped_now fit
@@ -137,10 +137,10 @@ module _ (was now : Inside) (b : Beginning) (frame : Frame) (contents : Images) 
           bytes_mapped (latched_among names) (latch_keeps names) streams,
         ));
         streams = rw (contents_are, streams_are)
-            (drawn_fit b.kind (map content_shape (newest_images names streams)) (latch names streams) latched_fit);
+            (drawn_fit b.kind (map content_shape (next_images names streams)) (latch names streams) latched_fit);
         frame = rw (begun.frame_is, begun.kind_is, begun.size, begun.format_is, begun.modes, streams_are) begun.own;
         once = rw contents_are (taken_once (flat_map layer_names b.scene.layers.items) streams);
-        known = rw (contents_are, numbered_now) (all_numbered was.store.numbered (latch names streams) (newest_images names streams)
+        known = rw (contents_are, numbered_now) (all_numbered was.store.numbered (latch names streams) (next_images names streams)
             latched_numbered shaped_now);
       }
 

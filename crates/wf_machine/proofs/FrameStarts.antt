@@ -5,7 +5,7 @@ use Rattle.wf_machine.proofs.Common.{refl, sym, ap, subst, ◌∙◌, arith, sli
 use Rattle.wf_machine.proofs.Common.{is_in, nth, Size, has_sides, is_a8, Bitmap, blank, Scene, Buffers, acquired, is_blocked}
 use Rattle.wf_machine.proofs.Common.{latched_if, KeptStream, StoreView, buffers_at, gives_job, Job, JobKind, Beginning, content_shape}
 use Rattle.wf_machine.proofs.Common.{drawing}
-use Rattle.wf_machine.proofs.Common.{latch, latched_among, newest_images, scene_streams, start, target_ready, Images, State, mode_size}
+use Rattle.wf_machine.proofs.Common.{latch, latched_among, next_images, scene_streams, start, target_ready, Images, State, mode_size}
 use Rattle.wf_machine.proofs.Common.{Frame}
 use Rattle.wf_machine.proofs.Common.{Inside, AllFit, KindFits, PortsFit, away_of, contents_of, Holds, state_of, AreShapedAs, IsAnswer}
 use Rattle.wf_machine.proofs.Common.{IsOfMode, IsOfSomePort, SameImage, HoldsBut, IsFrameImage, running_of, sizes_of, IsReady, MayStart}
@@ -183,7 +183,7 @@ pub record Starts (was now : Inside) (kind_of : JobKind) (mode : ℕ) (scene : S
   pub free : was.frame ≡ None
   pub sound : Holds was
   pub may : MayStart kind_of mode scene (state_of was)
-  pub taken : images ≡ newest_images (scene_streams scene) was.store.streams
+  pub taken : images ≡ next_images (scene_streams scene) was.store.streams
   pub latched_is : latched ≡ record was.store { streams = latch (scene_streams scene) was.store.streams }
   pub shaped : AreShapedAs latched.streams images
   pub store : now.store ≡ record latched { streams = drawing kind_of latched.streams }
@@ -248,7 +248,7 @@ module _ (was now : Inside) (k : JobKind) (mode : ℕ) (scene : Scene) (value : 
   -- what is shown fits the images
   shown_fits : Fits scene contents
   shown_fits =
-      scene_shows (map content_shape (newest_images (scene_streams scene) was.store.streams)) after contents
+      scene_shows (map content_shape (next_images (scene_streams scene) was.store.streams)) after contents
       (latched_fit was now b frame contents begun s.sound) shaped_contents scene
       (scene_sides was mode scene value s.sound s.free k s.may.draws)
       (layers_kept was.store.streams after scene.layers.items

@@ -1,11 +1,12 @@
 -- What holds of the streams once a frame has taken their images.
 use Rattle.wf_machine.proofs.Common.{◌≡◌, ℕ, ◌+◌, ◌<◌, ◌≤◌, Bool, true, false, cond, ◌==◌, List, [], ◌∷◌, map, Option, Some, None, refl}
 use Rattle.wf_machine.proofs.Common.{sym, ap, subst, ◌∙◌, arith, find, option_map, IsSomeAnd, eq-eqb, nat_tests, is_in, once}
-use Rattle.wf_machine.proofs.Common.{Bitmap, image_of, Buffers, HasShape, latched, newest, KeptStream, IsNumbered, buffers_at, stream_at}
-use Rattle.wf_machine.proofs.Common.{Content, content_shape, latch, latched_among, newest_images, newest_of, Images, AreAtHome}
+use Rattle.wf_machine.proofs.Common.{Bitmap, image_of, Buffers, HasShape, latched, next_image}
+use Rattle.wf_machine.proofs.Common.{KeptStream, IsNumbered, buffers_at, stream_at}
+use Rattle.wf_machine.proofs.Common.{Content, content_shape, latch, latched_among, next_images, next_image_of, Images, AreAtHome}
 use Rattle.wf_machine.proofs.Common.{AreShapedAs, IsShapedAs, Inside, AllFit, AreNumbered, AreOnce, IsRead, StreamFits}
 use Rattle.wf_machine.proofs.Common.{content_at, contents_of, Holds, running_of, by_number, NoneTwice, once_none_twice}
-use Rattle.wf_machine.proofs.StreamsLatched.{image_newest, latched_keeps}
+use Rattle.wf_machine.proofs.StreamsLatched.{image_is_next, latched_keeps}
 use Rattle.wf_machine.proofs.StreamsMapped.{found_mapped, latch_keeps}
 
 -- the shape of a stream's image among the contents
@@ -39,7 +40,7 @@ latched_size : (b : Buffers) → (latched b).size ≡ b.size
 latched_size b = latched_keeps.size b
 
 -- the read image of a stream that is latched
-read_latched : (b : Buffers) (n : ℕ) (o : Option Bitmap) → newest b ≡ o → IsRead b None
+read_latched : (b : Buffers) (n : ℕ) (o : Option Bitmap) → next_image b ≡ o → IsRead b None
     → ((image : Bitmap) → o ≡ Some image → HasShape (latched b).size (latched b).format image)
     → IsRead (latched b) (option_map (λ image. content_shape (n, image)) o)
 read_latched b n None is home shape = rw is home
@@ -47,9 +48,9 @@ read_latched b n (Some image) is home shape =
     let has = shape image refl in
     (rw is refl, sym has.size_is, sym has.format_is)
 
-module _ (ns : List ℕ) (whole : List KeptStream) (shaped : AreShapedAs (latch ns whole) (newest_images ns whole)) where
+module _ (ns : List ℕ) (whole : List KeptStream) (shaped : AreShapedAs (latch ns whole) (next_images ns whole)) where
   abbrev taken : List Content
-  taken = map content_shape (newest_images ns whole)
+  taken = map content_shape (next_images ns whole)
 
   one_fits : (s : KeptStream) → stream_at s.number whole ≡ Some s → StreamFits [] s → StreamFits taken (latched_among ns s)
   one_fits s found fits = by_member (is_in s.number ns) refl
@@ -57,19 +58,19 @@ module _ (ns : List ℕ) (whole : List KeptStream) (shaped : AreShapedAs (latch 
       Fits : Bool → Type 0
       Fits b = StreamFits taken (cond b (record s { buffers = latched s.buffers }) s)
 
-      image_is : (b : Bool) → is_in s.number ns ≡ b → image_of s.number (newest_images ns whole) ≡ cond b (newest s.buffers) None
-      image_is b is = image_newest ns s.number whole ∙ ap (λ c. cond c (newest_of (stream_at s.number whole)) None) is
-          ∙ ap (λ o. cond b (newest_of o) None) found
+      image_is : (b : Bool) → is_in s.number ns ≡ b → image_of s.number (next_images ns whole) ≡ cond b (next_image s.buffers) None
+      image_is b is = image_is_next ns s.number whole ∙ ap (λ c. cond c (next_image_of (stream_at s.number whole)) None) is
+          ∙ ap (λ o. cond b (next_image_of o) None) found
 
       content_is : (b : Bool) → is_in s.number ns ≡ b → content_at s.number taken
-          ≡ option_map (λ image. content_shape (s.number, image)) (cond b (newest s.buffers) None)
-      content_is b is = content_of_image s.number (newest_images ns whole)
+          ≡ option_map (λ image. content_shape (s.number, image)) (cond b (next_image s.buffers) None)
+      content_is b is = content_of_image s.number (next_images ns whole)
           ∙ ap (λ o. option_map (λ image. content_shape (s.number, image)) o) (image_is b is)
 
-      shape : is_in s.number ns ≡ true → (image : Bitmap) → newest s.buffers ≡ Some image
+      shape : is_in s.number ns ≡ true → (image : Bitmap) → next_image s.buffers ≡ Some image
           → HasShape (latched s.buffers).size (latched s.buffers).format image
       shape within image is =
-          let has = shaped_at s.number image (latch ns whole) (newest_images ns whole) shaped (image_is true within ∙ is) in
+          let has = shaped_at s.number image (latch ns whole) (next_images ns whole) shaped (image_is true within ∙ is) in
           let here : stream_at s.number (latch ns whole) ≡ Some (record s { buffers = latched s.buffers }) =
           stream_latched ns s.number whole ∙ ap (λ o. option_map (latched_among ns) o) found
           ∙ ap (λ b. Some (cond b (record s { buffers = latched s.buffers }) s)) within in
@@ -80,7 +81,7 @@ module _ (ns : List ℕ) (whole : List KeptStream) (shaped : AreShapedAs (latch 
       by_member true is =
           record {
             sides = rw (latched_size s.buffers) fits.sides;
-            read = rw (content_is true is) (read_latched s.buffers s.number (newest s.buffers) refl fits.read (shape is));
+            read = rw (content_is true is) (read_latched s.buffers s.number (next_image s.buffers) refl fits.read (shape is));
           }
 
 -- each stream is found by its number
@@ -103,29 +104,29 @@ all_found low high (s ∷ streams) rising =
 
 -- all streams fit beside the frame that took their images
 pub all_latched : (ns : List ℕ) (high : ℕ) (streams : List KeptStream) → IsNumbered 0 streams high
-    → AreShapedAs (latch ns streams) (newest_images ns streams) → AllFit [] streams
-    → AllFit (map content_shape (newest_images ns streams)) (latch ns streams)
+    → AreShapedAs (latch ns streams) (next_images ns streams) → AllFit [] streams
+    → AllFit (map content_shape (next_images ns streams)) (latch ns streams)
 all_latched ns high streams rising shaped fit = each streams (all_found 0 high streams rising) fit
   where
     each : (ss : List KeptStream) → AllFound streams ss → AllFit [] ss
-        → AllFit (map content_shape (newest_images ns streams)) (latch ns ss)
+        → AllFit (map content_shape (next_images ns streams)) (latch ns ss)
     each [] found fits = tt
     each (s ∷ ss) found fits = (one_fits ns streams shaped s found.0 fits.0, each ss found.1 fits.1)
 
-contents_once : (ns : List ℕ) (streams : List KeptStream) → NoneTwice ns → AreOnce (map content_shape (newest_images ns streams))
+contents_once : (ns : List ℕ) (streams : List KeptStream) → NoneTwice ns → AreOnce (map content_shape (next_images ns streams))
 contents_once [] streams none = tt
-contents_once (n ∷ ns) streams none = of_newest (contents_once ns streams none.1) (newest_of (stream_at n streams)) refl
+contents_once (n ∷ ns) streams none = of_next_image (contents_once ns streams none.1) (next_image_of (stream_at n streams)) refl
   where
-    of_newest : AreOnce (map content_shape (newest_images ns streams)) → (o : Option Bitmap) → newest_of (stream_at n streams) ≡ o
-        → AreOnce (map content_shape (newest_images (n ∷ ns) streams))
-    of_newest later None is = rw is later
-    of_newest later (Some image) is =
-        let absent : content_at n (map content_shape (newest_images ns streams)) ≡ None = content_of_image n (newest_images ns streams)
-        ∙ ap (λ o. option_map (λ i. content_shape (n, i)) o) (image_newest ns n streams
-        ∙ ap (λ b. cond b (newest_of (stream_at n streams)) None) none.0) in
+    of_next_image : AreOnce (map content_shape (next_images ns streams)) → (o : Option Bitmap) → next_image_of (stream_at n streams) ≡ o
+        → AreOnce (map content_shape (next_images (n ∷ ns) streams))
+    of_next_image later None is = rw is later
+    of_next_image later (Some image) is =
+        let absent : content_at n (map content_shape (next_images ns streams)) ≡ None = content_of_image n (next_images ns streams)
+        ∙ ap (λ o. option_map (λ i. content_shape (n, i)) o) (image_is_next ns n streams
+        ∙ ap (λ b. cond b (next_image_of (stream_at n streams)) None) none.0) in
         rw is (absent, later)
 
-pub taken_once : (ns : List ℕ) (streams : List KeptStream) → AreOnce (map content_shape (newest_images (once ns) streams))
+pub taken_once : (ns : List ℕ) (streams : List KeptStream) → AreOnce (map content_shape (next_images (once ns) streams))
 taken_once ns streams = contents_once (once ns) streams (once_none_twice ns)
 
 -- a stream that is kept was numbered

@@ -29,6 +29,7 @@ use Rattle.wf_display.specs.Opening.{with_screens}
 use Rattle.wf_machine.specs.declared.port.Port as declared
 use Rattle.wf_pixel.specs.declared.TheConstants.{MOST_SIDE}
 use Rattle.wf_stream.specs.declared.TheConstants.{SCREEN_BYTES}
+use Rattle.wf_calls.specs.declared.TheConstants.{MOST_PIPELINES}
 
 -- the screens of ports that are numbered from one on
 abbrev pub screens : ℕ → List Modes → List KeptStream
@@ -151,7 +152,7 @@ declared_ports ports may =
     let first = nat_le 1 (length ports.modes.items) in
     let second = nat_le (length ports.modes.items) 4 in
     let third = list_all may_have ports.modes.items in
-    let outer = and_parts (first && second && third) (nat_le ports.pipes 8) may in
+    let outer = and_parts (first && second && third) (nat_le ports.pipes MOST_PIPELINES) may in
     let inner = and_parts (first && second) third outer.0 in
     (leb-true (length ports.modes.items) 4 (and_parts first second inner.0).1, inner.1)
 

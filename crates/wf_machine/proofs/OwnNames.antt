@@ -91,11 +91,11 @@ pub own_latched : (ns : List ℕ) (ss : List KeptStream) → flat_map own_names 
 own_latched ns ss = own_same (latched_among ns) ss same
   where
     out : (b : Buffers) → (latched b).out ≡ b.out
-    out b = of_newest _
+    out b = of_next_image _
       where
-        of_newest : (o : Option Bitmap) → (Rattle.wf_stream.specs.Buffers.away_if o b).out ≡ b.out
-        of_newest None = refl
-        of_newest (Some image) = refl
+        of_next_image : (o : Option Bitmap) → (Rattle.wf_stream.specs.Buffers.away_if o b).out ≡ b.out
+        of_next_image None = refl
+        of_next_image (Some image) = refl
 
     same : (s : KeptStream) → own_names (latched_among ns s) ≡ own_names s
     same s = elim (is_in s.number ns) as (λ b. own_names (cond b (record s { buffers = latched s.buffers }) s) ≡ own_names s) [

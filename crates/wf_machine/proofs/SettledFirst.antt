@@ -3,7 +3,7 @@ use Rattle.wf_machine.proofs.Common.{◌≡◌, ℕ, ◌<◌, Bool, true, false,
 use Rattle.wf_machine.proofs.Common.{Option, Some, None, refl, sym, ap, subst, ◌∙◌, arith, is_some, option_map, eqb-true, eq-eqb, nat_tests}
 use Rattle.wf_machine.proofs.Common.{list_any-append, is_in, Bitmap, Buffers, latched, KeptStream, IsNumbered, stream_at}
 use Rattle.wf_machine.proofs.Common.{all_names, core_names, display_names, frame_names, kept, layer_names, own_names, settle, Layer}
-use Rattle.wf_machine.proofs.Common.{Scene, State, Beginning, content_shape, job_of, latch, latched_among, newest_images, newest_of}
+use Rattle.wf_machine.proofs.Common.{Scene, State, Beginning, content_shape, job_of, latch, latched_among, next_images, next_image_of}
 use Rattle.wf_machine.proofs.Common.{scene_streams}
 use Rattle.wf_machine.proofs.Common.{start, LayerFits, beginning_of, gives_job, settled_so}
 use Rattle.std.specs.List.{AllByRecursion}
@@ -65,27 +65,27 @@ in_among n ns (s ∷ ss) there =
 
 -- a frame takes images of its scene's streams alone
 images_among : (n : ℕ) (ns : List ℕ) (ss : List KeptStream)
-    → is_in n (map (λ c. c.stream) (map content_shape (newest_images ns ss))) ≡ true → is_in n ns ≡ true
+    → is_in n (map (λ c. c.stream) (map content_shape (next_images ns ss))) ≡ true → is_in n ns ≡ true
 images_among n [] ss within = absurd cc
-images_among n (k ∷ ns) ss within = of_newest (newest_of (stream_at k ss)) refl (images_among n ns ss)
+images_among n (k ∷ ns) ss within = of_next_image (next_image_of (stream_at k ss)) refl (images_among n ns ss)
   where
     or_later : (b : Bool) → is_in n ns ≡ true → (b || is_in n ns) ≡ true
     or_later true later = refl
     or_later false later = later
 
-    of_newest : (o : Option Bitmap) → newest_of (stream_at k ss) ≡ o
-        → (is_in n (map (λ c. c.stream) (map content_shape (newest_images ns ss))) ≡ true → is_in n ns ≡ true) → is_in n (k ∷ ns) ≡ true
-    of_newest None at later = or_later (k == n) (later (rw at at within))
-    of_newest (Some image) at later = first (k == n) (rw at at within)
+    of_next_image : (o : Option Bitmap) → next_image_of (stream_at k ss) ≡ o
+        → (is_in n (map (λ c. c.stream) (map content_shape (next_images ns ss))) ≡ true → is_in n ns ≡ true) → is_in n (k ∷ ns) ≡ true
+    of_next_image None at later = or_later (k == n) (later (rw at at within))
+    of_next_image (Some image) at later = first (k == n) (rw at at within)
       where
-        first : (b : Bool) → (b || is_in n (map (λ c. c.stream) (map content_shape (newest_images ns ss)))) ≡ true
+        first : (b : Bool) → (b || is_in n (map (λ c. c.stream) (map content_shape (next_images ns ss)))) ≡ true
             → (b || is_in n ns) ≡ true
         first true there = refl
         first false there = later there
 
 -- the same images, of streams that are found alike
 images_same : (ns : List ℕ) (ss ts : List KeptStream) → ((n : ℕ) → is_in n ns ≡ true → stream_at n ss ≡ stream_at n ts)
-    → newest_images ns ss ≡ newest_images ns ts
+    → next_images ns ss ≡ next_images ns ts
 images_same [] ss ts same = refl
 images_same (k ∷ ns) ss ts same =
     let first : (k == k) ≡ true = eq-eqb k k refl in
@@ -94,15 +94,15 @@ images_same (k ∷ ns) ss ts same =
       | true ↦ refl
       | false ↦ within
     ])) in
-    joined (newest_of (stream_at k ss)) refl here later
+    joined (next_image_of (stream_at k ss)) refl here later
   where
-    joined : (o : Option Bitmap) → newest_of (stream_at k ss) ≡ o → stream_at k ss ≡ stream_at k ts
-        → newest_images ns ss ≡ newest_images ns ts → newest_images (k ∷ ns) ss ≡ newest_images (k ∷ ns) ts
+    joined : (o : Option Bitmap) → next_image_of (stream_at k ss) ≡ o → stream_at k ss ≡ stream_at k ts
+        → next_images ns ss ≡ next_images ns ts → next_images (k ∷ ns) ss ≡ next_images (k ∷ ns) ts
     joined None at here later =
-        let there : newest_of (stream_at k ts) ≡ None = ap newest_of (sym here) ∙ at in
+        let there : next_image_of (stream_at k ts) ≡ None = ap next_image_of (sym here) ∙ at in
         rw (at, there) later
     joined (Some image) at here later =
-        let there : newest_of (stream_at k ts) ≡ Some image = ap newest_of (sym here) ∙ at in
+        let there : next_image_of (stream_at k ts) ≡ Some image = ap next_image_of (sym here) ∙ at in
         rw (at, there) (ap (λ images. (k, image) ∷ images) later)
 
 module _ (p value high : ℕ) (scene : Scene) (g : State) (rising : IsNumbered 0 g.streams high) (free : g.frame ≡ None)
@@ -144,7 +144,7 @@ module _ (p value high : ℕ) (scene : Scene) (g : State) (rising : IsNumbered 0
   begun_named : (n : ℕ) → 0 < n → is_in n (all_names begun) ≡ is_in n (all_names g)
   begun_named n some =
       let before : List ℕ = (flat_map own_names g.streams ++ core_names g.core) ++ display_names g.display in
-      let taken : List ℕ = map (λ c. c.stream) (map content_shape (newest_images ns g.streams)) in
+      let taken : List ℕ = map (λ c. c.stream) (map content_shape (next_images ns g.streams)) in
       let own = own_latched ns g.streams in
       ap (λ os. is_in n (((os ++ core_names g.core) ++ display_names g.display) ++ (taken ++ []))) own
       ∙ list_any-append (λ x. x == n) before (taken ++ [])

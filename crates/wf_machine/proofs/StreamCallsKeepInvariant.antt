@@ -1,5 +1,6 @@
 -- What holds of the machine holds after each call on streams.
-use Rattle.wf_machine.proofs.Common.{◌≡◌, ℕ, ◌+◌, ◌≤◌, true, false, ◌||◌, ◌==◌, List, [], ◌∷◌, ◌++◌, length, map, cond, Option, Some, None}
+use Rattle.wf_machine.proofs.Common.{◌≡◌, ℕ, ◌+◌, ◌≤◌, Bool, true, false, ◌||◌, ◌==◌, List, [], ◌∷◌, ◌++◌, length, map, cond}
+use Rattle.wf_machine.proofs.Common.{Option, Some, None}
 use Rattle.wf_machine.proofs.Common.{refl, sym, ap, subst, ◌∙◌, arith, nat_le, nat_lt, ℤ, pos, negsuc, option_map, IfSome, and_parts}
 use Rattle.wf_machine.proofs.Common.{count_of, Size, Format, has_sides, is_side, Buffers, buffer_bytes, fresh, KeptStream}
 use Rattle.wf_machine.proofs.Common.{StoreView, buffers_at, change_stream, held, stream_at, unnamed, with_live_stream, JobKind, Reply}
@@ -11,11 +12,12 @@ use Rattle.std.proofs.lemmas.Bool.{and_from, ltb-false}
 use Rattle.std.proofs.lemmas.List.Sums.{sum_by_push}
 use Rattle.wf_pixel.specs.Choice.{is_between}
 use Rattle.wf_life.specs.Handles.{is_full}
+use Rattle.wf_stream.specs.Buffers.{never}
 use Rattle.wf_stream.specs.Counts.{Counts}
 use Rattle.wf_stream.specs.Streams.{has_no_room}
 use Rattle.wf_calls.specs.declared.code.Code.TheVariants as code
 use Rattle.wf_calls.specs.declared.call.JobKind.TheVariants as kind
-use Rattle.wf_model.specs.Streams.{may_make, is_wide_side, stream_made}
+use Rattle.wf_model.specs.Streams.{is_buffer_count, is_wide_side, may_make, stream_made}
 use Rattle.wf_machine.proofs.ImageOfRunningFrame.{frame_unnamed}
 use Rattle.wf_machine.proofs.StreamsMapped.{bytes_mapped, changed_at, changed_keeps, numbered_mapped, seen_mapped, unnamed_keeps}
 use Rattle.wf_machine.proofs.StreamsStillFit.{KeepsRead, all_kept, all_push, all_unnamed, known_more, new_fits, numbered_push, shape_kept}
@@ -114,17 +116,16 @@ frame_pushed modes ss t (Some f) fits = of_kind f.kind fits
     of_kind (kind.Context handle target) is = of_target target ss is
     of_kind (kind.Port port) is = is
 
--- the machine with one more stream
-pub sound_made : (m : Inside) (size : Size) (format : Format) (buffers : ℕ) → has_sides size ≡ true
-    → has_no_room (fresh size format buffers) m.store.streams ≡ false → Holds m
-    → Holds (record m { store = with_live_stream (fresh size format buffers) m.store })
-sound_made m size format buffers sides free sound =
-    let new : KeptStream = record { number = m.store.numbered + 1; handle = m.store.made + 1; buffers = fresh size format buffers } in
+-- the machine with one more stream, which no frame read
+pub sound_made : (m : Inside) (b : Buffers) → has_sides b.size ≡ true → b.read ≡ never → has_no_room b m.store.streams ≡ false
+    → Holds m → Holds (record m { store = with_live_stream b m.store })
+sound_made m b sides unread free sound =
+    let new : KeptStream = record { number = m.store.numbered + 1; handle = m.store.made + 1; buffers = b } in
     let contents = contents_of (option_map running_of m.frame) in
     record {
-      fits = still_fits m.core m.store (with_live_stream (fresh size format buffers) m.store) refl (omega arith)
+      fits = still_fits m.core m.store (with_live_stream b m.store) refl (omega arith)
           (λ k within. found_pushed k m.store.streams new) sound.fits;
-      shows = still_shown m.display m.store (with_live_stream (fresh size format buffers) m.store) refl (omega arith)
+      shows = still_shown m.display m.store (with_live_stream b m.store) refl (omega arith)
           (zero_unseen 0 m.store.numbered m.store.streams (m.store.streams ++ new ∷ []) sound.numbered)
           (λ k within. found_pushed k m.store.streams new) sound.shows;
       numbered = numbered_push 0 m.store.numbered m.store.streams new sound.numbered refl;
@@ -133,10 +134,10 @@ sound_made m size format buffers sides free sound =
       ports = sound.ports;
       small = omega (
         arith,
-        room (fresh size format buffers) m.store.streams free,
+        room b m.store.streams free,
         sum_by_push (λ s. buffer_bytes s.buffers) m.store.streams new,
       );
-      streams = all_push contents m.store.streams new sound.streams (new_fits contents m.store.numbered new sound.known refl sides refl);
+      streams = all_push contents m.store.streams new sound.streams (new_fits contents m.store.numbered new sound.known refl sides unread);
       frame = frame_pushed (map sizes_of m.ports.items) m.store.streams new m.frame sound.frame;
       once = sound.once;
       known = known_more m.store.numbered contents sound.known;
@@ -144,28 +145,43 @@ sound_made m size format buffers sides free sound =
 
 -- a call that makes a stream
 
--- the sides of the stream that it makes
-pub made_sides : (w h b : ℤ) → may_make w h b ≡ true → has_sides (size_from w h) ≡ true
-made_sides w h b is =
-    let both = (and_parts (is_wide_side w && is_wide_side h) (is_between (pos 2) (pos 4) b) is).0 in
-    let each = and_parts (is_wide_side w) (is_wide_side h) both in
-    and_from (is_side (count_of w)) (is_side (count_of h)) (side w each.0) (side h each.1)
-  where
-    side : (z : ℤ) → is_wide_side z ≡ true → is_side (count_of z) ≡ true
-    side (pos n) is = is
-    side (negsuc n) is = absurd cc
+module _ (w h b : ℤ) (format : Format) where
+  -- no frame read the stream that it makes, and no write buffer is out
+  pub made_unread : (queue : Bool) → (new_buffers queue w h format b).read ≡ never
+  made_unread true = refl
+  made_unread false = refl
 
-module _ (w h b : ℤ) (format : Format) (s : State) (is : may_make w h b ≡ true) where
-  pub limited : (has_no_room (new_buffers w h format b) s.streams || is_full s.made) ≡ true
-      → stream_step s (stream_new w h format b false s) ≡ (s, bare (refused (refusal code.Limit)))
+  pub made_home : (queue : Bool) → (new_buffers queue w h format b).out ≡ false
+  made_home true = refl
+  made_home false = refl
+
+  made_size : (queue : Bool) → (new_buffers queue w h format b).size ≡ size_from w h
+  made_size true = refl
+  made_size false = refl
+
+  -- its sides are those of the call
+  pub made_sides : (queue : Bool) → may_make queue w h b ≡ true → has_sides (new_buffers queue w h format b).size ≡ true
+  made_sides queue is =
+      let both = (and_parts (is_wide_side w && is_wide_side h) (is_buffer_count queue b) is).0 in
+      let each = and_parts (is_wide_side w) (is_wide_side h) both in
+      ap has_sides (made_size queue) ∙ and_from (is_side (count_of w)) (is_side (count_of h)) (side w each.0) (side h each.1)
+    where
+      side : (z : ℤ) → is_wide_side z ≡ true → is_side (count_of z) ≡ true
+      side (pos n) is = is
+      side (negsuc n) is = absurd cc
+
+module _ (queue : Bool) (w h b : ℤ) (format : Format) (s : State) (is : may_make queue w h b ≡ true) where
+  pub limited : (has_no_room (new_buffers queue w h format b) s.streams || is_full s.made) ≡ true
+      → stream_step s (stream_new queue w h format b false s) ≡ (s, bare (refused (refusal code.Limit)))
   limited full = rw (is, full) refl
 
-  pub unmade : (has_no_room (new_buffers w h format b) s.streams || is_full s.made) ≡ false
-      → stream_step s (stream_new w h format b true s) ≡ (s, bare (refused (refusal code.OutOfMemory)))
+  pub unmade : (has_no_room (new_buffers queue w h format b) s.streams || is_full s.made) ≡ false
+      → stream_step s (stream_new queue w h format b true s) ≡ (s, bare (refused (refusal code.OutOfMemory)))
   unmade free = rw (is, free) refl
 
-  pub made : has_no_room (new_buffers w h format b) s.streams ≡ false → is_full s.made ≡ false
-      → stream_step s (stream_new w h format b false s) ≡ ((stream_made (new_buffers w h format b) s).0, bare (done (s.made + 1)))
+  pub made : has_no_room (new_buffers queue w h format b) s.streams ≡ false → is_full s.made ≡ false
+      → stream_step s (stream_new queue w h format b false s)
+      ≡ ((stream_made (new_buffers queue w h format b) s).0, bare (done (s.made + 1)))
   made free few = rw (is, free, few) refl
 
 -- a call of the machine as it is kept is one of the machine as it is seen

@@ -198,13 +198,13 @@ module _ (m : Inside) (sound : IsSound m) (h k : ℕ) (s : KeptStream) (found : 
         ∙ settles nameless nameless_holds nameless_counted (released k nameless.store) (k ∷ []) [] (handle_ends some) handle_comes
 
 -- a stream that is made has one name, its handle
-pub sound_pushed : (m : Inside) → IsSound m → (size : Size) (format : Format) (buffers : ℕ)
+pub sound_pushed : (m : Inside) → IsSound m → (b : Buffers) → b.out ≡ false
     → without_count (m.store.numbered + 1) m.store.counts ≡ m.store.counts
-    → Holds (record m { store = with_live_stream (fresh size format buffers) m.store })
-    → IsSound (record m { store = with_live_stream (fresh size format buffers) m.store })
-sound_pushed m sound size format buffers none holds =
+    → Holds (record m { store = with_live_stream b m.store })
+    → IsSound (record m { store = with_live_stream b m.store })
+sound_pushed m sound b home none holds =
     let k : ℕ = m.store.numbered + 1 in
-    let new : KeptStream = record { number = k; handle = m.store.made + 1; buffers = fresh size format buffers } in
+    let new : KeptStream = record { number = k; handle = m.store.made + 1; buffers = b } in
     record {
       holds = holds;
       counted = λ n. (
@@ -214,12 +214,13 @@ sound_pushed m sound size format buffers none holds =
           let count = pushed_count n k m.store.counts none in
           let was = sound.counts n some in
           let before = all_times n (state_of m) in
-          let after = all_times n (state_of (record m { store = with_live_stream (fresh size format buffers) m.store })) in
+          let after = all_times n (state_of (record m { store = with_live_stream b m.store })) in
           let own = own_pushed n m.store.streams new in
           let one = times_one n k in
           let live : (m.store.made + 1 == 0) ≡ false = grind (arith, nat_tests) in
           let named : counts_if (k == n) (own_count new) ≡ cond (k == n) 1 0 =
-          ap (λ b. counts_if (k == n) (counts_if (not b) 1 + 0)) live in
+          ap (λ x. counts_if (k == n) (counts_if (not x) 1 + counts_if b.out 1)) live
+          ∙ ap (λ x. counts_if (k == n) (1 + counts_if x 1)) home in
           omega (arith, count, was, before, after, own, one, named));
     }
   where

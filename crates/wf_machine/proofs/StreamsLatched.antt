@@ -2,13 +2,13 @@
 use Rattle.wf_machine.proofs.Common.{◌≡◌, ◌≢◌, ℕ, ◌+◌, ◌<◌, ◌≤◌, Bool, true, false, not, cond, ◌==◌, ◌||◌, List, [], ◌∷◌, ◌++◌, length, map}
 use Rattle.wf_machine.proofs.Common.{Option, Some, None, refl, sym, ap, subst, ◌∙◌, arith, length-append, append-nil, append_assoc, get_or}
 use Rattle.wf_machine.proofs.Common.{take, flat_map, find, is_some, option_map, IfSome, IsSomeAnd, eq-eqb, nat_tests, list_any-append}
-use Rattle.wf_machine.proofs.Common.{is_in, once, Bitmap, image_of, Buffers, HasShape, away, away_if, latched, newest, KeptStream}
-use Rattle.wf_machine.proofs.Common.{StoreView, IsNumbered, change_stream, stream_at, latch, latched_among, newest_images, newest_of}
+use Rattle.wf_machine.proofs.Common.{is_in, once, Bitmap, image_of, Buffers, HasShape, away, away_if, latched, next_image, KeptStream}
+use Rattle.wf_machine.proofs.Common.{StoreView, IsNumbered, change_stream, stream_at, latch, latched_among, next_images, next_image_of}
 use Rattle.wf_machine.proofs.Common.{layer_names, Images, Layer, take_more, AreAtHome, AreShapedAs, IsShapedAs, by_number, is_in-without}
 use Rattle.std.specs.Prelude.{filter, filter_map, option_to_list}
 use Rattle.std.proofs.lemmas.List.Elements.{filter_map-append, filter-append}
 use Rattle.std.proofs.lemmas.Grind.{flat_map-append}
-use Rattle.wf_machine.specs.Latching.{IsAtHome, with_newest, without_newest}
+use Rattle.wf_machine.specs.Latching.{IsAtHome, with_next_image, without_next_image}
 use Rattle.wf_machine.proofs.StreamChanges.{change_below}
 
 pub shaped_more : (n : ℕ) (image : Bitmap) (streams : List KeptStream) (contents : Images) → AreShapedAs streams contents
@@ -23,7 +23,12 @@ pub record KeepsShape (f : Buffers → Buffers) : Type 0 where
   pub buffers : (b : Buffers) → (f b).buffers ≡ b.buffers
 
 pub latched_keeps : KeepsShape latched
-latched_keeps = record { size = λ b. of_size b (newest b); format = λ b. of_format b (newest b); buffers = λ b. of_buffers b (newest b) }
+latched_keeps =
+    record {
+      size = λ b. of_size b (next_image b);
+      format = λ b. of_format b (next_image b);
+      buffers = λ b. of_buffers b (next_image b);
+    }
   where
     of_buffers : (b : Buffers) (o : Option Bitmap) → (away_if o b).buffers ≡ b.buffers
     of_buffers b None = refl
@@ -96,27 +101,28 @@ same_twice : {A : Type 0} (b : Bool) (x : A) → cond b x x ≡ x
 same_twice true x = refl
 same_twice false x = refl
 
--- the image of a stream among the newest images of some
-pub image_newest : (ns : List ℕ) (n : ℕ) (streams : List KeptStream)
-    → image_of n (newest_images ns streams) ≡ cond (is_in n ns) (newest_of (stream_at n streams)) None
-image_newest [] n streams = refl
-image_newest (m ∷ ns) n streams = of_newest (image_newest ns n streams) (newest_of (stream_at m streams)) refl
+-- the image of a stream among the images that a frame takes of some
+pub image_is_next : (ns : List ℕ) (n : ℕ) (streams : List KeptStream)
+    → image_of n (next_images ns streams) ≡ cond (is_in n ns) (next_image_of (stream_at n streams)) None
+image_is_next [] n streams = refl
+image_is_next (m ∷ ns) n streams = of_next_image (image_is_next ns n streams) (next_image_of (stream_at m streams)) refl
   where
-    newest_at : ℕ → Option Bitmap
-    newest_at k = newest_of (stream_at k streams)
+    next_image_at : ℕ → Option Bitmap
+    next_image_at k = next_image_of (stream_at k streams)
 
-    of_newest : image_of n (newest_images ns streams) ≡ cond (is_in n ns) (newest_at n) None → (o : Option Bitmap) → newest_at m ≡ o
-        → image_of n (newest_images (m ∷ ns) streams) ≡ cond ((m == n) || is_in n ns) (newest_at n) None
-    of_newest later None is =
+    of_next_image : image_of n (next_images ns streams) ≡ cond (is_in n ns) (next_image_at n) None → (o : Option Bitmap)
+        → next_image_at m ≡ o
+        → image_of n (next_images (m ∷ ns) streams) ≡ cond ((m == n) || is_in n ns) (next_image_at n) None
+    of_next_image later None is =
         rw is (later
-        ∙ by_number (cond (is_in n ns) (newest_at n) None ≡ cond ((m == n) || is_in n ns) (newest_at n) None) m n
-        (λ here same. (let none : newest_at n ≡ None = rw (sym same) is in rw (here, none) (same_twice (is_in n ns) None)))
+        ∙ by_number (cond (is_in n ns) (next_image_at n) None ≡ cond ((m == n) || is_in n ns) (next_image_at n) None) m n
+        (λ here same. (let none : next_image_at n ≡ None = rw (sym same) is in rw (here, none) (same_twice (is_in n ns) None)))
         (λ apart. rw apart refl))
-    of_newest later (Some image) is =
+    of_next_image later (Some image) is =
         rw is (by_number (option_map (λ p. p.1)
-        (cond (m == n) (Some (m, image)) (find (λ p. p.0 == n) (newest_images ns streams)))
-        ≡ cond ((m == n) || is_in n ns) (newest_at n) None) m n
-        (λ here same. rw here (sym (ap newest_at (sym same) ∙ is)))
+        (cond (m == n) (Some (m, image)) (find (λ p. p.0 == n) (next_images ns streams)))
+        ≡ cond ((m == n) || is_in n ns) (next_image_at n) None) m n
+        (λ here same. rw here (sym (ap next_image_at (sym same) ∙ is)))
         (λ apart. rw apart later))
 
 pub number_latched : (ns : List ℕ) (s : KeptStream) → (latched_among ns s).number ≡ s.number
@@ -125,14 +131,14 @@ number_latched ns s =
     ≡ s.number) [ true ↦ refl | false ↦ refl ]
 
 -- a stream without an image, or that is not among them, is as it was
-latched_same : (ns : List ℕ) (s : KeptStream) → (is_in s.number ns ≡ true → newest s.buffers ≡ None) → latched_among ns s ≡ s
+latched_same : (ns : List ℕ) (s : KeptStream) → (is_in s.number ns ≡ true → next_image s.buffers ≡ None) → latched_among ns s ≡ s
 latched_same ns s none =
     elim (is_in s.number ns) as (λ b. is_in s.number ns ≡ b → cond b (record s { buffers = latched s.buffers }) s ≡ s) [
-      | true ↦ λ within. (let is : newest s.buffers ≡ None = none within in rw is refl)
+      | true ↦ λ within. (let is : next_image s.buffers ≡ None = none within in rw is refl)
       | false ↦ λ without. refl
     ] refl
 
-pub same_stream : (ns : List ℕ) (n : ℕ) (streams : List KeptStream) → (is_in n ns ≡ true → newest_of (stream_at n streams) ≡ None)
+pub same_stream : (ns : List ℕ) (n : ℕ) (streams : List KeptStream) → (is_in n ns ≡ true → next_image_of (stream_at n streams) ≡ None)
     → stream_at n (latch ns streams) ≡ stream_at n streams
 same_stream ns n [] none = refl
 same_stream ns n (s ∷ streams) none =
@@ -141,7 +147,7 @@ same_stream ns n (s ∷ streams) none =
     ≡ cond (s.number == n) (Some s) (stream_at n streams)) s.number n
     (λ here same. rw here (ap (λ t. Some t)
     (latched_same ns s
-    (λ within. (let found : newest_of (cond (s.number == n) (Some s) (stream_at n streams)) ≡ None = none (rw same at within) in
+    (λ within. (let found : next_image_of (cond (s.number == n) (Some s) (stream_at n streams)) ≡ None = none (rw same at within) in
     rw here at found)))))
     (λ apart. rw apart (same_stream ns n streams (λ within. (let found = none within in rw apart at found)))))
 
@@ -154,10 +160,10 @@ home_at n (s ∷ streams) home = elim (s.number == n)
     ]
 
 -- a stream of which no image was taken is at home still
-pub still_home : (ns : List ℕ) (n : ℕ) (streams : List KeptStream) → AreAtHome streams → image_of n (newest_images ns streams) ≡ None
+pub still_home : (ns : List ℕ) (n : ℕ) (streams : List KeptStream) → AreAtHome streams → image_of n (next_images ns streams) ≡ None
     → IsAtHome n (latch ns streams)
 still_home ns n streams home none =
-    let same = same_stream ns n streams (λ within. (let is = sym (image_newest ns n streams) ∙ none in rw within at is)) in
+    let same = same_stream ns n streams (λ within. (let is = sym (image_is_next ns n streams) ∙ none in rw within at is)) in
     subst (λ o. IfSome (option_map (λ t. t.buffers) o) (λ c. c.read ≢ away)) (sym same)
     (home_at n streams home)
 
@@ -175,7 +181,7 @@ latched_at n s = cond (s.number == n) (record s { buffers = latched s.buffers })
 latched_other : (n : ℕ) (s : KeptStream) → (s.number == n) ≡ false → latched_at n s ≡ s
 latched_other n s apart = rw apart refl
 
-latched_without : (n : ℕ) (s : KeptStream) → newest s.buffers ≡ None → latched_at n s ≡ s
+latched_without : (n : ℕ) (s : KeptStream) → next_image s.buffers ≡ None → latched_at n s ≡ s
 latched_without n s none =
     elim (s.number == n) as (λ b. cond b (record s { buffers = latched s.buffers }) s ≡ s) [ true ↦ rw none refl | false ↦ refl ]
 
@@ -184,13 +190,13 @@ both_same x y xs ys head tail = ap (λ z. z ∷ xs) head ∙ ap (λ zs. y ∷ zs
 
 -- a stream without an image that is latched again
 change_again : (ns : List ℕ) (n low high : ℕ) (streams : List KeptStream) → IsNumbered low streams high
-    → newest_of (stream_at n streams) ≡ None → change_stream n latched (latch ns streams) ≡ latch ns streams
+    → next_image_of (stream_at n streams) ≡ None → change_stream n latched (latch ns streams) ≡ latch ns streams
 change_again ns n low high [] rising none = refl
 change_again ns n low high (s ∷ streams) rising none =
     by_number (latched_at n (latched_among ns s) ∷ change_stream n latched (latch ns streams) ≡ latched_among ns s ∷ latch ns streams)
     s.number n
     (λ here same. (
-    let found : newest s.buffers ≡ None = rw here at none in
+    let found : next_image s.buffers ≡ None = rw here at none in
     let as_was = latched_same ns s (λ _. found) in
     let below = change_below s.number high n latched (latch ns streams) (numbered_latch ns s.number high streams rising.1)
     (omega (arith, same)) in
@@ -229,32 +235,32 @@ change_more ns n (s ∷ streams) new =
 
 -- what is taken of one more stream
 pub latched_more : (ns : List ℕ) (n high : ℕ) (streams : List KeptStream) → IsNumbered 0 streams high
-    → (with_newest n (latch ns streams) (newest_images ns streams) ≡ newest_images (named ns n) streams)
-    × (without_newest n (newest_images ns streams) (latch ns streams) ≡ latch (named ns n) streams)
+    → (with_next_image n (latch ns streams) (next_images ns streams) ≡ next_images (named ns n) streams)
+    × (without_next_image n (next_images ns streams) (latch ns streams) ≡ latch (named ns n) streams)
 latched_more ns n high streams rising =
     elim (is_in n ns) as (λ b. is_in n ns ≡ b → Goal b) [
-      | true ↦ λ within. of_newest within (newest_of (stream_at n streams)) refl
+      | true ↦ λ within. of_next_image within (next_image_of (stream_at n streams)) refl
       | false ↦ λ without. (
-          let none : image_of n (newest_images ns streams) ≡ None = image_newest ns n streams ∙ rw without refl in
+          let none : image_of n (next_images ns streams) ≡ None = image_is_next ns n streams ∙ rw without refl in
           let same = same_stream ns n streams (λ within. absurd (cc (without, within))) in (
             rw (none, same)
-                (sym (filter_map-append (λ m. option_map (λ image. (m, image)) (newest_of (stream_at m streams))) ns (n
-                ∷ []) ∙ ap (λ more. newest_images ns streams ++ more) (of_one (newest_of (stream_at n streams))))),
+                (sym (filter_map-append (λ m. option_map (λ image. (m, image)) (next_image_of (stream_at m streams))) ns (n
+                ∷ []) ∙ ap (λ more. next_images ns streams ++ more) (of_one (next_image_of (stream_at n streams))))),
             rw none (change_more ns n streams without),
           ))
     ] refl
   where
     Goal : Bool → Type 0
-    Goal b = (with_newest n (latch ns streams) (newest_images ns streams) ≡ newest_images (cond b ns (ns ++ n ∷ [])) streams)
-        × (without_newest n (newest_images ns streams) (latch ns streams) ≡ latch (cond b ns (ns ++ n ∷ [])) streams)
+    Goal b = (with_next_image n (latch ns streams) (next_images ns streams) ≡ next_images (cond b ns (ns ++ n ∷ [])) streams)
+        × (without_next_image n (next_images ns streams) (latch ns streams) ≡ latch (cond b ns (ns ++ n ∷ [])) streams)
 
-    of_newest : is_in n ns ≡ true → (o : Option Bitmap) → newest_of (stream_at n streams) ≡ o → Goal true
-    of_newest within None is =
-        let none : image_of n (newest_images ns streams) ≡ None = image_newest ns n streams ∙ rw (within, is) refl in
+    of_next_image : is_in n ns ≡ true → (o : Option Bitmap) → next_image_of (stream_at n streams) ≡ o → Goal true
+    of_next_image within None is =
+        let none : image_of n (next_images ns streams) ≡ None = image_is_next ns n streams ∙ rw (within, is) refl in
         let same = same_stream ns n streams (λ _. is) in
-        (rw (none, same, is) (append-nil (newest_images ns streams)), rw none (change_again ns n 0 high streams rising is))
-    of_newest within (Some image) is =
-        let some : image_of n (newest_images ns streams) ≡ Some image = image_newest ns n streams ∙ rw (within, is) refl in
+        (rw (none, same, is) (append-nil (next_images ns streams)), rw none (change_again ns n 0 high streams rising is))
+    of_next_image within (Some image) is =
+        let some : image_of n (next_images ns streams) ≡ Some image = image_is_next ns n streams ∙ rw (within, is) refl in
         (rw some refl, rw some refl)
 
     with_number : Bitmap → ℕ × Bitmap
@@ -271,7 +277,7 @@ latch_none (s ∷ streams) = ap (λ ss. s ∷ ss) (latch_none streams)
 
 -- the streams of these numbers were latched, and their images taken
 pub record IsTaken (before : StoreView) (ns : List ℕ) (images : Images) (store : StoreView) : Type 0 where
-  pub taken : images ≡ newest_images ns before.streams
+  pub taken : images ≡ next_images ns before.streams
   pub left : store ≡ record before { streams = latch ns before.streams }
   pub shaped : AreShapedAs store.streams images
 
@@ -291,38 +297,38 @@ take_home before store ns n images home done none =
 
 pub take_step : (before store left : StoreView) (ns : List ℕ) (n high : ℕ) (images more : Images) → IsNumbered 0 before.streams high
     → IsTaken before ns images store
-    → more ≡ with_newest n store.streams images → left ≡ record store { streams = without_newest n images store.streams }
+    → more ≡ with_next_image n store.streams images → left ≡ record store { streams = without_next_image n images store.streams }
     → (AreShapedAs store.streams images → AreShapedAs left.streams more)
     → IsTaken before (named ns n) more left
 take_step before store left ns n high images more rising done is leaves shapes =
     let step = latched_more ns n high before.streams rising in
     let streams-are : store.streams ≡ latch ns before.streams = ap (λ v. v.streams) done.left in
     record {
-      taken = is ∙ ap (λ streams. with_newest n streams images) streams-are
-          ∙ ap (λ is. with_newest n (latch ns before.streams) is) done.taken ∙ step.0;
-      left = leaves ∙ ap (λ (v : StoreView). record v { streams = without_newest n images v.streams }) done.left
-          ∙ ap (λ is. record before { streams = without_newest n is (latch ns before.streams) }) done.taken
+      taken = is ∙ ap (λ streams. with_next_image n streams images) streams-are
+          ∙ ap (λ is. with_next_image n (latch ns before.streams) is) done.taken ∙ step.0;
+      left = leaves ∙ ap (λ (v : StoreView). record v { streams = without_next_image n images v.streams }) done.left
+          ∙ ap (λ is. record before { streams = without_next_image n is (latch ns before.streams) }) done.taken
           ∙ ap (λ streams. record before { streams = streams }) step.1;
       shaped = shapes done.shaped;
     }
 
 -- one image more at most
-few_more : (n : ℕ) (streams : List KeptStream) (images : Images) → length (with_newest n streams images) ≤ length images + 1
+few_more : (n : ℕ) (streams : List KeptStream) (images : Images) → length (with_next_image n streams images) ≤ length images + 1
 few_more n streams images =
     elim (is_some (image_of n images)) as (λ b. length
-    (cond b images (images ++ map with_number (option_to_list (newest_of (stream_at n streams))))) ≤ length images + 1) [
+    (cond b images (images ++ map with_number (option_to_list (next_image_of (stream_at n streams))))) ≤ length images + 1) [
       | true ↦ omega arith
-      | false ↦ of_newest (newest_of (stream_at n streams))
+      | false ↦ of_next_image (next_image_of (stream_at n streams))
     ]
   where
     with_number : Bitmap → ℕ × Bitmap
     with_number image = (n, image)
 
-    of_newest : (o : Option Bitmap) → length (images ++ map with_number (option_to_list o)) ≤ length images + 1
-    of_newest None = omega (arith, length-append images [])
-    of_newest (Some image) = omega (arith, length-append images ((n, image) ∷ []))
+    of_next_image : (o : Option Bitmap) → length (images ++ map with_number (option_to_list o)) ≤ length images + 1
+    of_next_image None = omega (arith, length-append images [])
+    of_next_image (Some image) = omega (arith, length-append images ((n, image) ∷ []))
 
-pub few_step : (n : ℕ) (streams : List KeptStream) (images more : Images) → more ≡ with_newest n streams images
+pub few_step : (n : ℕ) (streams : List KeptStream) (images more : Images) → more ≡ with_next_image n streams images
     → length more ≤ length images + 1
 few_step n streams images more is = omega (arith, ap length is, few_more n streams images)
 

@@ -4,6 +4,7 @@ use Rattle.wf_machine.proofs.Common.{subst, ◌∙◌, sum_by, option_map, sum_b
 use Rattle.wf_machine.proofs.Common.{KeptStream, IsNumbered, buffers_at, held, stream_at, unnamed, home_if, latched_among, Images}
 use Rattle.wf_machine.proofs.StreamsLatched.{KeepsShape, latched_keeps}
 use Rattle.wf_model.specs.Named.{SeenSame}
+use Rattle.wf_words.specs.Mapped.{at_mapped}
 
 -- a change of a stream that keeps its number, its size, its format and how many buffers it has
 pub record KeepsStream (g : KeptStream → KeptStream) : Type 0 where
@@ -14,11 +15,7 @@ pub record KeepsStream (g : KeptStream → KeptStream) : Type 0 where
 
 module _ (g : KeptStream → KeptStream) (keeps : KeepsStream g) where
   pub found_mapped : (n : ℕ) (ss : List KeptStream) → stream_at n (map g ss) ≡ option_map g (stream_at n ss)
-  found_mapped n [] = refl
-  found_mapped n (s ∷ ss) =
-      ap (λ k. cond (k == n) (Some (g s)) (stream_at n (map g ss))) (keeps.number s)
-      ∙ (elim (s.number == n) as (λ b. cond b (Some (g s)) (stream_at n (map g ss))
-      ≡ option_map g (cond b (Some s) (stream_at n ss))) [ true ↦ refl | false ↦ found_mapped n ss ])
+  found_mapped n ss = at_mapped (λ (s : KeptStream). s.number) g keeps.number n ss
 
   pub buffers_mapped : (n : ℕ) (ss : List KeptStream)
       → buffers_at n (map g ss) ≡ option_map (λ s. (g s).buffers) (stream_at n ss)
@@ -77,7 +74,7 @@ changed_keeps n f keeps =
           ≡ s.buffers.buffers) [ true ↦ keeps.buffers s.buffers | false ↦ refl ];
     }
 
--- the newest images of some go away
+-- a frame takes the images of some
 pub latch_keeps : (ns : List ℕ) → KeepsStream (latched_among ns)
 latch_keeps ns =
     record {

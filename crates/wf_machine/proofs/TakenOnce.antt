@@ -2,8 +2,8 @@
 use Rattle.wf_machine.proofs.Common.{◌≡◌, ◌∙◌, ℕ, Bool, true, false, ◌==◌, ◌||◌, List, [], ◌∷◌, map, Option, Some, None, refl, sym, ap}
 use Rattle.wf_machine.proofs.Common.{subst, is_in, NoneTwice, once_none_twice, Bitmap, KeptStream, stream_at, Call, Code, Reply, Register}
 use Rattle.wf_machine.proofs.Common.{no_register, of_device, of_display, register_of, Effect, effect, Beginning, content_shape, job_of}
-use Rattle.wf_machine.proofs.Common.{newest_images}
-use Rattle.wf_machine.proofs.Common.{newest_of, scene_streams, layer_names, offered, Running, State, act, step}
+use Rattle.wf_machine.proofs.Common.{next_images}
+use Rattle.wf_machine.proofs.Common.{next_image_of, scene_streams, layer_names, offered, Running, State, act, step}
 use Rattle.std.proofs.Common.{flat_map}
 use Rattle.wf_machine.specs.Begun.{TakesOnce}
 use Rattle.wf_model.specs.Effects.{acquires, begins, composes, displays, ends, makes, refuses, returns, tells, unnames}
@@ -11,12 +11,12 @@ use Rattle.wf_model.specs.Frames.{running_of}
 
 -- the numbers of the images that streams of these numbers have
 abbrev taken : List ℕ → List KeptStream → List ℕ
-taken ns ss = map (λ c. c.stream) (map content_shape (newest_images ns ss))
+taken ns ss = map (λ c. c.stream) (map content_shape (next_images ns ss))
 
 -- a number that is not among them has none
 not_taken : (n : ℕ) (ns : List ℕ) (ss : List KeptStream) → is_in n ns ≡ false → is_in n (taken ns ss) ≡ false
 not_taken n [] ss out = refl
-not_taken n (m ∷ ns) ss out = of_image (not_taken n ns ss both.1) (newest_of (stream_at m ss)) refl
+not_taken n (m ∷ ns) ss out = of_image (not_taken n ns ss both.1) (next_image_of (stream_at m ss)) refl
   where
     apart : (b c : Bool) → (b || c) ≡ false → (b ≡ false) × (c ≡ false)
     apart false c is = (refl, is)
@@ -25,16 +25,16 @@ not_taken n (m ∷ ns) ss out = of_image (not_taken n ns ss both.1) (newest_of (
     both : ((m == n) ≡ false) × (is_in n ns ≡ false)
     both = apart (m == n) (is_in n ns) out
 
-    of_image : is_in n (taken ns ss) ≡ false → (o : Option Bitmap) → newest_of (stream_at m ss) ≡ o
+    of_image : is_in n (taken ns ss) ≡ false → (o : Option Bitmap) → next_image_of (stream_at m ss) ≡ o
         → is_in n (taken (m ∷ ns) ss) ≡ false
     of_image rest None is = rw is rest
     of_image rest (Some image) is = rw (is, both.0) rest
 
 taken_once : (ns : List ℕ) (ss : List KeptStream) → NoneTwice ns → NoneTwice (taken ns ss)
 taken_once [] ss none = tt
-taken_once (n ∷ ns) ss none = of_image (taken_once ns ss none.1) (newest_of (stream_at n ss)) refl
+taken_once (n ∷ ns) ss none = of_image (taken_once ns ss none.1) (next_image_of (stream_at n ss)) refl
   where
-    of_image : NoneTwice (taken ns ss) → (o : Option Bitmap) → newest_of (stream_at n ss) ≡ o → NoneTwice (taken (n ∷ ns) ss)
+    of_image : NoneTwice (taken ns ss) → (o : Option Bitmap) → next_image_of (stream_at n ss) ≡ o → NoneTwice (taken (n ∷ ns) ss)
     of_image rest None is = rw is rest
     of_image rest (Some image) is = rw is (not_taken n ns ss none.0, rest)
 

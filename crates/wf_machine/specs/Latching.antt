@@ -7,17 +7,17 @@ use Rattle.wf_image.specs.Contents.{image_of}
 use Rattle.wf_stream.specs.Buffers.{HasShape, away, latched}
 use Rattle.wf_stream.specs.Streams.{KeptStream, buffers_at, change_stream, stream_at}
 use Rattle.wf_model.specs.Picture.{Images}
-use Rattle.wf_model.specs.Frames.{newest_of}
+use Rattle.wf_model.specs.Frames.{next_image_of}
 
--- the images so far with the newest one of a stream, where it has one that is not among them
-abbrev pub with_newest : ℕ → List KeptStream → Images → Images
-with_newest n streams contents =
+-- the images so far with the next one of a stream, where it has one that is not among them
+abbrev pub with_next_image : ℕ → List KeptStream → Images → Images
+with_next_image n streams contents =
     if is_some (image_of n contents) then contents
-    else contents ++ map (λ image. (n, image)) (option_to_list (newest_of (stream_at n streams)))
+    else contents ++ map (λ image. (n, image)) (option_to_list (next_image_of (stream_at n streams)))
 
--- the streams after that: the newest image of the stream went away
-abbrev pub without_newest : ℕ → Images → List KeptStream → List KeptStream
-without_newest n contents streams = if is_some (image_of n contents) then streams else change_stream n latched streams
+-- the streams after that: the next image of the stream went away
+abbrev pub without_next_image : ℕ → Images → List KeptStream → List KeptStream
+without_next_image n contents streams = if is_some (image_of n contents) then streams else change_stream n latched streams
 
 -- the stream of a number, if it is kept, has its read image at home
 abbrev pub IsAtHome : ℕ → List KeptStream → Type 0

@@ -31,8 +31,8 @@ impl Parts {
         ensures { IsAct self.old (call_of call.now) self.new (bare result) }
     {
         let screen = self.screen_of(call);
-        self.core.few_names();
-        self.display.few_names();
+        self.core.prove_few_names();
+        self.display.prove_few_names();
         self.core.run(&mut self.store, call, screen)
     }
 
@@ -41,8 +41,8 @@ impl Parts {
         requires { part_of (call_of call.now) ≡ Part.Display }
         ensures { IsAct self.old (call_of call.now) self.new (bare result) }
     {
-        self.core.few_names();
-        self.display.few_names();
+        self.core.prove_few_names();
+        self.display.prove_few_names();
         self.display.run(&mut self.store, call)
     }
 
@@ -61,7 +61,7 @@ impl Parts {
         self.acquire(stream)
     }
 
-    /// Makes a write buffer the newest image of its stream.
+    /// Posts a write buffer, which waits in its stream as a finished image.
     pub(crate) fn act_post(&mut self, canvas: Canvas) -> (Answer, Option<Canvas>)
         ensures { IsAct self.old (Call.Post canvas) self.new (with_canvas result) }
     {

@@ -41,7 +41,7 @@ impl Parts {
         ensures answer { IsAnswer (started no_register self.old (begin_composed device context self.old)).1
             (with_job result (job_in place.new)) }
     {
-        self.all_named();
+        self.prove_all_named();
         let shown = match self.core.context(device, context) {
             Ok(shown) => shown,
             Err(code) => return refuse(code),

@@ -8,7 +8,7 @@ ghost use Rattle.wf_machine.specs.Ports.{running_of};
 
 use arrayvec::ArrayVec;
 use wf_calls::{Job, JobKind};
-use wf_image::Contents;
+use wf_image::{Contents, MOST_CONTENTS};
 use wf_model::Content;
 use wf_pixel::{Format, Size};
 
@@ -21,7 +21,7 @@ pub(crate) struct Frame {
     pub mode: u32,
     pub size: Size,
     pub format: Format,
-    pub contents: ArrayVec<Content, 64>,
+    pub contents: ArrayVec<Content, MOST_CONTENTS>,
 }
 
 impl Frame {

@@ -46,7 +46,7 @@ fn take_target(store: &mut Store, ports: &mut Vec<Port>, kind: JobKind, mode: u3
     }
 }
 
-/// Hands the image of a frame that ends on: to the target of its context, as the newest image, or back to its port.
+/// Hands the image of a frame that ends on: to the target of its context, where it waits, or back to its port.
 fn deliver(store: &mut Store, ports: &mut Vec<Port>, kind: JobKind, mode: u32, image: Image)
     requires { IsDue store.old.streams ports.old.items mode kind image }
     ensures store { store.new ≡ record store.old { streams = delivered kind image store.old.streams } }
@@ -78,7 +78,7 @@ impl Parts {
         ensures settled { IsSettled self.new }
         ensures answer { IsAnswer (started no_register self.old (begin_next after self.old)).1 (with_job result (job_in place.new)) }
     {
-        self.all_named();
+        self.prove_all_named();
         if self.is_busy() {
             return refuse(Code::Busy);
         }
@@ -106,7 +106,7 @@ impl Parts {
         ensures answer { IsAnswer (started no_register self.old (begin_context value handle shown.now.target shown.now.scene self.old)).1
             (with_job result (job_in place.new)) }
     {
-        self.all_named();
+        self.prove_all_named();
         if let Err(refusal) = self.target_ready(value, shown) {
             return Answer::refused(refusal);
         }
@@ -146,7 +146,7 @@ impl Parts {
         ensures left { self.new ≡ (settled_so (started no_register self.old (begin_port port self.old))).0 }
         ensures answer { IsAnswer (started no_register self.old (begin_port port self.old)).1 (with_job result (job_in place.new)) }
     {
-        self.all_named();
+        self.prove_all_named();
         let Some(number) = self.declared_screen(port) else {
             return refuse(Code::BadHandle);
         };
@@ -159,8 +159,8 @@ impl Parts {
         if self.begun == u64::MAX {
             return refuse(Code::Limit);
         }
-        self.core.few_names();
-        self.display.few_names();
+        self.core.prove_few_names();
+        self.display.prove_few_names();
         self.display.begin(&mut self.store, number);
         self.start_port(number, place)
     }
@@ -190,7 +190,7 @@ impl Parts {
         self.start_frame(JobKind::Port { port }, mode, &scene, port, place)
     }
 
-    /// Begins a frame that may begin, while none runs: the newest images of its scene's streams go into its Job, which is put
+    /// Begins a frame that may begin, while none runs: the next images of its scene's streams go into its Job, which is put
     /// in its place, and a value is answered.
     fn start_frame(
         &mut self,
@@ -207,12 +207,14 @@ impl Parts {
         ensures settled { IsSettled self.new }
         ensures answer { IsAnswer (start (beginning_of kind scene.now value self.old) self.old).1 (with_job result (job_in place.new)) }
     {
-        empty(&mut place.job.contents);
+        let next = place.job_mut();
+        empty(&mut next.contents);
         let mut shapes = ArrayVec::new();
-        latch_scene(&mut self.store, scene, &mut place.job.contents, &mut shapes);
+        latch_scene(&mut self.store, scene, &mut next.contents, &mut shapes);
+        next.scene.copy_from(scene);
         let image = take_target(&mut self.store, &mut self.ports, kind, mode);
-        self.core.few_names();
-        self.display.few_names();
+        self.core.prove_few_names();
+        self.display.prove_few_names();
         begin_names(&mut self.store, shapes.as_slice(), kind);
         self.begun += 1;
         self.frame = Some(Frame {
@@ -223,7 +225,6 @@ impl Parts {
             format: image.format(),
             contents: shapes,
         });
-        place.job.scene.copy_from(scene);
         place.begin(self.begun, kind, image);
         Answer::done(value)
     }
@@ -243,15 +244,16 @@ impl Parts {
         requires { IsSome (job_in place.old) }
         ensures { IfSome (job_in place.old) (λ job. settled_so (end job self.old) ≡ (self.new, with_job result (job_in place.new))) }
     {
-        self.all_named();
-        if !self.is_of_running(&place.job) {
+        self.prove_all_named();
+        let job = place.job_mut();
+        if !self.is_of_running(job) {
             return refuse(Code::BadHandle);
         }
         let Some(frame) = self.frame.take() else {
             unreachable!()
         };
-        let kind = place.job.kind;
-        bring_home(&mut self.store, &mut place.job.contents);
+        let kind = job.kind;
+        bring_home(&mut self.store, &mut job.contents);
         let Some(image) = place.end() else {
             unreachable!()
         };

@@ -5,11 +5,11 @@ ghost use Rattle.std.specs.List.{list_any};
 ghost use Rattle.wf_words.specs.Keyed.{is_in};
 ghost use Rattle.wf_image.specs.Contents.{image_of};
 ghost use Rattle.wf_stream.specs.Streams.{IsNumbered};
-ghost use Rattle.wf_model.specs.Frames.{brought_home, content_shape, latch, newest_images, scene_streams};
-ghost use Rattle.wf_machine.specs.Latching.{AreAtHome, AreAwaited, AreShapedAs, IsAtHome, with_newest, without_newest};
+ghost use Rattle.wf_model.specs.Frames.{brought_home, content_shape, latch, next_images, scene_streams};
+ghost use Rattle.wf_machine.specs.Latching.{AreAtHome, AreAwaited, AreShapedAs, IsAtHome, with_next_image, without_next_image};
 
 use arrayvec::ArrayVec;
-use wf_image::{Contents, Image};
+use wf_image::{Contents, Image, MOST_CONTENTS};
 use wf_model::Content;
 use wf_scene::{Layer, Scene};
 use wf_stream::Store;
@@ -22,8 +22,13 @@ pub(crate) fn empty(contents: &mut Contents)
 }
 
 /// Puts the image of a stream, which has none here yet, behind the others, and its size and format behind theirs.
-fn put(contents: &mut Contents, shapes: &mut ArrayVec<Content, 64>, stream: u32, image: Image)
-    requires room { length contents.old < 64 }
+fn put(
+    contents: &mut Contents,
+    shapes: &mut ArrayVec<Content, MOST_CONTENTS>,
+    stream: u32,
+    image: Image,
+)
+    requires room { length contents.old < MOST_CONTENTS }
     requires apart { image_of stream contents.old ≡ None }
     requires shapes { shapes.old.items ≡ map content_shape contents.old }
     ensures contents { contents.new ≡ contents.old ++ (stream, image) ∷ [] }
@@ -37,13 +42,18 @@ fn put(contents: &mut Contents, shapes: &mut ArrayVec<Content, 64>, stream: u32,
     contents.put(stream, image);
 }
 
-/// Takes the newest image of a stream, unless it is there already or the stream has none.
-fn take(store: &mut Store, contents: &mut Contents, shapes: &mut ArrayVec<Content, 64>, number: u32)
+/// Takes the next image of a stream, unless it is there already or the stream has none.
+fn take(
+    store: &mut Store,
+    contents: &mut Contents,
+    shapes: &mut ArrayVec<Content, MOST_CONTENTS>,
+    number: u32,
+)
     requires home { image_of number contents.old ≡ None → IsAtHome number store.old.streams }
-    requires room { length contents.old < 64 }
+    requires room { length contents.old < MOST_CONTENTS }
     requires shapes { shapes.old.items ≡ map content_shape contents.old }
-    ensures contents { contents.new ≡ with_newest number store.old.streams contents.old }
-    ensures store { store.new ≡ record store.old { streams = without_newest number contents.old store.old.streams } }
+    ensures contents { contents.new ≡ with_next_image number store.old.streams contents.old }
+    ensures store { store.new ≡ record store.old { streams = without_next_image number contents.old store.old.streams } }
     ensures shaped { AreShapedAs store.old.streams contents.old → AreShapedAs store.new.streams contents.new }
     ensures shapes { shapes.new.items ≡ map content_shape contents.new }
 {
@@ -54,19 +64,19 @@ fn take(store: &mut Store, contents: &mut Contents, shapes: &mut ArrayVec<Conten
     }
 }
 
-/// Takes the newest images of the streams that a scene names, and the size and format of each, in the same order: of each layer,
+/// Takes the next images of the streams that a scene names, and the size and format of each, in the same order: of each layer,
 /// from the bottom up, its stream and then its mask. Nothing was taken before.
 pub(crate) fn latch_scene(
     store: &mut Store,
     scene: &Scene,
     contents: &mut Contents,
-    shapes: &mut ArrayVec<Content, 64>,
+    shapes: &mut ArrayVec<Content, MOST_CONTENTS>,
 )
     requires none { contents.old ≡ [] }
     requires no_shapes { shapes.old.items ≡ [] }
     requires numbered { IsNumbered 0 store.old.streams store.old.numbered }
     requires home { AreAtHome store.old.streams }
-    ensures contents { contents.new ≡ newest_images (scene_streams scene.now) store.old.streams }
+    ensures contents { contents.new ≡ next_images (scene_streams scene.now) store.old.streams }
     ensures store { store.new ≡ record store.old { streams = latch (scene_streams scene.now) store.old.streams } }
     ensures shaped { AreShapedAs store.new.streams contents.new }
     ensures shapes { shapes.new.items ≡ map content_shape contents.new }

@@ -50,7 +50,7 @@ impl Model for Machine {
 }
 
 impl Machine {
-    /// The machine before the first call: for each port a screen, and an image for the frames of each of its modes.
+    /// Makes the machine before the first call: for each port a screen, and an image for the frames of each of its modes.
     pub fn open(alloc: Global, ports: &Ports) -> Result<Machine, NoMemory>
         requires { IsTrue (may_declare ports.now) }
         ensures { IfOk result (λ machine. machine ≡ opening ports.now) }
@@ -102,7 +102,7 @@ impl Machine {
         self.parts.act_acquire(stream)
     }
 
-    /// Makes a write buffer the newest image of its stream, as `run` does. One that is refused comes back.
+    /// Posts a write buffer, which waits in its stream as a finished image, as `run` does. One that is refused comes back.
     pub fn post(&mut self, client: u8, canvas: Canvas) -> (Answer, Option<Canvas>)
         ensures step { IsStep self.old client (Call.Post canvas) self.new (with_canvas result) }
         ensures lifetime { self.new.streams ≡ kept self.new }
@@ -230,22 +230,22 @@ impl Machine {
         !begins || self.parts.frame.is_none()
     }
 
-    /// Whether a call can be answered now: no call that begins a frame waits for the running one.
+    /// Tells whether a call can be answered now: no call that begins a frame waits for the running one.
     pub fn ready(&self, call: &Call) -> bool
         ensures { result ≡ is_ready self.now call.now }
     {
         self.is_free(call.is_begin())
     }
 
-    /// The same of a call that brings nothing.
+    /// Tells the same of a call that brings nothing.
     pub fn ready_for(&self, call: &Request) -> bool
         ensures { result ≡ is_ready self.now (call_of call.now) }
     {
         self.is_free(call.is_begin())
     }
 
-    /// How many names the stream of a number has, which counts from 1 all streams that were ever made, screens included; 0 where
-    /// none is kept.
+    /// Returns the number of names of a stream, whose number counts from 1 all streams that were ever made, screens included; 0
+    /// where none is kept.
     pub fn count(&self, stream: u32) -> u32
         requires { 0 < stream }
         ensures { result ≡ length (names self.now stream) }
@@ -253,7 +253,7 @@ impl Machine {
         self.parts.count(stream)
     }
 
-    /// How many streams are kept, and the bytes of their buffers.
+    /// Returns how many streams are kept, and the bytes of their buffers.
     pub fn held(&self) -> Held
         ensures { result ≡ held self.now.streams }
     {

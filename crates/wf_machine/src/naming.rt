@@ -8,6 +8,7 @@ ghost use Rattle.wf_stream.specs.Streams.{count_of, stream_at};
 ghost use Rattle.wf_machine.specs.Naming.{drawn_names, held_names};
 
 use wf_calls::JobKind;
+use wf_image::MOST_CONTENTS;
 use wf_model::Content;
 use wf_stream::{Store, begin_name, end_name};
 
@@ -15,8 +16,8 @@ use wf_stream::{Store, begin_name, end_name};
 fn begin_contents(store: &mut Store, contents: &[Content])
     requires counted { AreCounted store.old }
     requires kept { AllByRecursion (λ c. IsSome (stream_at c.stream store.old.streams)) contents.now }
-    requires few { length contents.now ≤ 64 }
-    requires room { (n : ℕ) → count_of n store.old + 64 < 4294967295 }
+    requires few { length contents.now ≤ MOST_CONTENTS }
+    requires room { (n : ℕ) → count_of n store.old + MOST_CONTENTS < 4294967295 }
     ensures begins { Renames [] (map (λ c. c.stream) contents.now) store.old store.new }
     ensures streams { store.new.streams ≡ store.old.streams }
 {
@@ -65,7 +66,7 @@ pub(crate) fn begin_names(store: &mut Store, contents: &[Content], kind: JobKind
     requires counted { AreCounted store.old }
     requires kept { AllByRecursion (λ c. IsSome (stream_at c.stream store.old.streams)) contents.now }
     requires target { AllByRecursion (λ n. IsSome (stream_at n store.old.streams)) (drawn_names kind) }
-    requires few { length contents.now ≤ 64 }
+    requires few { length contents.now ≤ MOST_CONTENTS }
     requires room { HasRoom store.old }
     ensures begins { Renames [] (held_names contents.now kind) store.old store.new }
     ensures streams { store.new.streams ≡ store.old.streams }

@@ -10,8 +10,8 @@ ghost use Rattle.wf_calls.specs.Codes.{is_out_of_memory};
 ghost use Rattle.wf_stream.specs.Counts.{without_count};
 ghost use Rattle.wf_stream.specs.Buffers.{discarded, posted};
 ghost use Rattle.wf_stream.specs.Streams.{has_no_room, held, stream_at, with_live_stream};
-ghost use Rattle.wf_model.specs.Streams.{acquirable, acquire_step, canvas_back, is_out_at_client, is_out_of, may_make};
-ghost use Rattle.wf_model.specs.Streams.{new_buffers, stat, stream_destroy, stream_new, stream_step};
+ghost use Rattle.wf_model.specs.Streams.{acquirable, acquire_step, canvas_back, is_buffer_count, is_out_at_client, is_out_of};
+ghost use Rattle.wf_model.specs.Streams.{may_make, new_buffers, stat, stream_destroy, stream_new, stream_step};
 ghost use Rattle.wf_calls.specs.Replies.{bare, done, with_canvas};
 ghost use Rattle.wf_machine.specs.Object.{IsSettled, settled_so};
 
@@ -22,7 +22,7 @@ use wf_calls::{Answer, Code, StatWord};
 use wf_image::Canvas;
 use wf_life::MakeStop;
 use wf_pixel::{Format, MOST_SIDE, Size};
-use wf_stream::{Refused, Store, begin_name, end_name};
+use wf_stream::{MOST_DEPTH, Refused, Store, begin_name, end_name};
 
 /// A number between two bounds, both included.
 fn is_between(low: i64, high: i64, number: i64) -> bool
@@ -31,16 +31,27 @@ fn is_between(low: i64, high: i64, number: i64) -> bool
     low <= number && number <= high
 }
 
-/// The sides of a stream are from 1 to 1024, and it has 2 to 4 buffers.
-fn may_make(width: i64, height: i64, buffers: i64) -> bool
-    ensures { result ≡ may_make width height buffers }
+/// Tells whether `number` is a count of buffers, from 2 to 4, or where a queue is made its depth, from 1 to `MOST_DEPTH`.
+fn is_buffer_count(queue: bool, number: i64) -> bool
+    ensures { result ≡ is_buffer_count queue number }
+{
+    if queue {
+        is_between(1, i64::from(MOST_DEPTH), number)
+    } else {
+        is_between(2, 4, number)
+    }
+}
+
+/// Tells whether the sides of a stream are from 1 to `MOST_SIDE`, and its count in its range.
+fn may_make(queue: bool, width: i64, height: i64, number: i64) -> bool
+    ensures { result ≡ may_make queue width height number }
 {
     is_between(1, i64::from(MOST_SIDE), width)
         && is_between(1, i64::from(MOST_SIDE), height)
-        && is_between(2, 4, buffers)
+        && is_buffer_count(queue, number)
 }
 
-/// A number of a call that is a count of at most 1024.
+/// A number of a call that is a count of at most `MOST_SIDE`.
 fn count(number: i64) -> u32
     requires { IsTrue (is_between (pos 1) (pos MOST_SIDE) number) }
     ensures { result ≡ count_of number }
@@ -48,44 +59,61 @@ fn count(number: i64) -> u32
     number as u32
 }
 
-/// Makes a stream whose numbers are in their ranges.
+/// Makes a stream whose numbers are in their ranges: a queue of depth `number` where `queue` is set, and else a plain one with
+/// `number` buffers.
 fn make(
     store: &mut Store,
+    queue: bool,
     width: i64,
     height: i64,
     format: Format,
-    buffers: i64,
+    number: i64,
 ) -> Result<u32, MakeStop>
-    requires { IsTrue (may_make width height buffers) }
+    requires { IsTrue (may_make queue width height number) }
     ensures handle { IfOk result (λ handle. handle ≡ store.old.made + 1) }
-    ensures made { OnOk result (store.new ≡ with_live_stream (new_buffers width height format buffers) store.old) }
+    ensures made { OnOk result (store.new ≡ with_live_stream (new_buffers queue width height format number) store.old) }
     ensures uncounted { OnOk result (without_count (store.old.numbered + 1) store.old.counts ≡ store.old.counts) }
-    ensures room { OnOk result (has_no_room (new_buffers width height format buffers) store.old.streams ≡ false) }
+    ensures room { OnOk result (has_no_room (new_buffers queue width height format number) store.old.streams ≡ false) }
     ensures free { OnOk result (is_full store.old.made ≡ false) }
     ensures limit { IsErrOf result MakeStop.Limit
-        → IsTrue (has_no_room (new_buffers width height format buffers) store.old.streams || is_full store.old.made) }
+        → IsTrue (has_no_room (new_buffers queue width height format number) store.old.streams || is_full store.old.made) }
     ensures memory { IsErrOf result MakeStop.NoMemory
-        → (has_no_room (new_buffers width height format buffers) store.old.streams || is_full store.old.made) ≡ false }
+        → (has_no_room (new_buffers queue width height format number) store.old.streams || is_full store.old.made) ≡ false }
     ensures refused { OnErr result (store.new ≡ store.old) }
 {
     let size = Size {
         w: count(width),
         h: count(height),
     };
-    store.make(size, format, count(buffers))
+    if queue {
+        store.queue(size, format, count(number))
+    } else {
+        store.make(size, format, count(number))
+    }
 }
 
-/// No stream of these numbers, which are in their ranges, is made: too many are kept, or too many bytes, or all handles were
-/// given.
-fn at_limit(store: &Store, width: i64, height: i64, format: Format, buffers: i64) -> bool
-    requires { IsTrue (may_make width height buffers) }
-    ensures { result ≡ (has_no_room (new_buffers width height format buffers) store.now.streams || is_full store.now.made) }
+/// Tells whether no stream of these numbers, which are in their ranges, is made: too many are kept, or too many bytes, or all
+/// handles were given.
+fn at_limit(
+    store: &Store,
+    queue: bool,
+    width: i64,
+    height: i64,
+    format: Format,
+    number: i64,
+) -> bool
+    requires { IsTrue (may_make queue width height number) }
+    ensures { result ≡ (has_no_room (new_buffers queue width height format number) store.now.streams || is_full store.now.made) }
 {
     let size = Size {
         w: count(width),
         h: count(height),
     };
-    store.at_limit(size, format, count(buffers))
+    if queue {
+        store.at_limit(size, format, count(number) + 1)
+    } else {
+        store.at_limit(size, format, count(number))
+    }
 }
 
 /// A canvas has the shape of a kept stream whose write buffer is out.
@@ -103,23 +131,24 @@ fn is_out_of(store: &Store, canvas: &Canvas) -> bool
 }
 
 impl Parts {
-    /// Makes a stream.
+    /// Makes a stream: a queue of depth `number` where `queue` is set, and else a plain one with `number` buffers.
     pub(crate) fn stream_new(
         &mut self,
+        queue: bool,
         width: i64,
         height: i64,
         format: Format,
-        buffers: i64,
+        number: i64,
     ) -> Answer
-        ensures made { stream_step self.old (stream_new width height format buffers (is_out_of_memory result.code) self.old)
+        ensures made { stream_step self.old (stream_new queue width height format number (is_out_of_memory result.code) self.old)
             ≡ (self.new, bare result) }
         ensures settled { IsSettled self.new }
     {
-        self.all_named();
-        if !may_make(width, height, buffers) {
+        self.prove_all_named();
+        if !may_make(queue, width, height, number) {
             return refuse(Code::IllegalArgument);
         }
-        let handle = match make(&mut self.store, width, height, format, buffers) {
+        let handle = match make(&mut self.store, queue, width, height, format, number) {
             Ok(handle) => handle,
             Err(MakeStop::Limit) => return refuse(Code::Limit),
             Err(MakeStop::NoMemory) => return refuse(Code::OutOfMemory),
@@ -127,20 +156,21 @@ impl Parts {
         Answer::done(handle)
     }
 
-    /// The refusal of a stream for which there is no memory.
+    /// Refuses a stream for which there is no memory.
     pub(crate) fn deny_stream(
         &self,
+        queue: bool,
         width: i64,
         height: i64,
         format: Format,
-        buffers: i64,
+        number: i64,
     ) -> Answer
-        ensures { stream_step self.now (stream_new width height format buffers true self.now) ≡ (self.now, bare result) }
+        ensures { stream_step self.now (stream_new queue width height format number true self.now) ≡ (self.now, bare result) }
     {
-        if !may_make(width, height, buffers) {
+        if !may_make(queue, width, height, number) {
             return refuse(Code::IllegalArgument);
         }
-        if at_limit(&self.store, width, height, format, buffers) {
+        if at_limit(&self.store, queue, width, height, format, number) {
             return refuse(Code::Limit);
         }
         refuse(Code::OutOfMemory)
@@ -157,8 +187,8 @@ impl Parts {
         Answer::done(0)
     }
 
-    /// Each stream that is kept has a name. It changes nothing.
-    pub(crate) fn all_named(&self)
+    /// Shows the prover that each stream that is kept has a name. Does nothing at run time.
+    pub(crate) fn prove_all_named(&self)
         ensures { IsSettled self.now }
     {
         let _store = &self.store;
@@ -196,8 +226,8 @@ impl Parts {
             Err(Refused::Busy) => return refused(Code::Busy),
             Err(Refused::NoBuffer) => return refused(Code::NoBuffer),
         };
-        self.core.few_names();
-        self.display.few_names();
+        self.core.prove_few_names();
+        self.display.prove_few_names();
         begin_name(&mut self.store, number);
         giving_canvas(canvas)
     }
@@ -209,7 +239,7 @@ impl Parts {
         !is_target(&self.frame, canvas.stream) && is_out_of(&self.store, canvas)
     }
 
-    /// Makes a write buffer the newest image of its stream.
+    /// Posts a write buffer, which waits in its stream as a finished image.
     pub(crate) fn post(&mut self, canvas: Canvas) -> (Answer, Option<Canvas>)
         ensures { settled_so (canvas_back canvas (posted canvas.image) self.old) ≡ (self.new, with_canvas result) }
     {

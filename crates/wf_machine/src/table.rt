@@ -17,14 +17,20 @@ impl Parts {
         requires { part_of (call_of call.now) ≡ Part.Streams }
         ensures { IsAct self.old (call_of call.now) self.new (bare result) }
     {
-        self.all_named();
+        self.prove_all_named();
         match call {
             Request::StreamNew {
                 width,
                 height,
                 format,
                 buffers,
-            } => self.stream_new(*width, *height, *format, *buffers),
+            } => self.stream_new(false, *width, *height, *format, *buffers),
+            Request::StreamQueue {
+                width,
+                height,
+                format,
+                depth,
+            } => self.stream_new(true, *width, *height, *format, *depth),
             Request::StreamDestroy { stream } => self.stream_destroy(*stream),
             Request::Stat { what } => self.stat(*what),
             Request::Acquire { .. }
@@ -76,14 +82,20 @@ impl Parts {
         requires ours { part_of (call_of call.now) ≡ Part.Streams }
         ensures { IsMarkedAct true self.now (call_of call.now) self.now (bare result) }
     {
-        self.all_named();
+        self.prove_all_named();
         match call {
             Request::StreamNew {
                 width,
                 height,
                 format,
                 buffers,
-            } => self.deny_stream(*width, *height, *format, *buffers),
+            } => self.deny_stream(false, *width, *height, *format, *buffers),
+            Request::StreamQueue {
+                width,
+                height,
+                format,
+                depth,
+            } => self.deny_stream(true, *width, *height, *format, *depth),
             Request::StreamDestroy { .. }
             | Request::Acquire { .. }
             | Request::Stat { .. }
@@ -142,6 +154,7 @@ impl Parts {
                 *device, *context, place,
             ),
             Request::StreamNew { .. }
+            | Request::StreamQueue { .. }
             | Request::StreamDestroy { .. }
             | Request::Acquire { .. }
             | Request::Stat { .. }

@@ -1,5 +1,5 @@
 -- Worked frames and lives of streams: what the plain machine answers and keeps.
-use Rattle.std.proofs.Common.{◌≡◌, ℕ, false, ℤ, pos, List, [], ◌∷◌, Option, Some, None, refl}
+use Rattle.std.proofs.Common.{◌≡◌, ℕ, zero, suc, false, ℤ, pos, List, [], ◌∷◌, ◌++◌, Option, Some, None, refl}
 use Rattle.wf_pixel.specs.declared.Size.{Size}
 use Rattle.wf_pixel.specs.declared.Format.TheVariants.{Rgba8}
 use Rattle.wf_image.specs.Bitmap.{Bitmap}
@@ -38,15 +38,18 @@ answers h (c ∷ rest) =
 abbrev pub four : ℤ → ℤ → ℤ → ℤ → List ℤ
 four a b c d = a ∷ b ∷ c ∷ d ∷ []
 
--- device 1 with context 2 of the port, and stream 3 (which is numbered 2), that element 5 shows through source 4
-abbrev setup : List Call
-setup =
-    call.DeviceNew ∷ call.ScreenContext 1 (pos 1) ∷ call.StreamNew (pos 1) (pos 1) Rgba8 (pos 2) ∷ call.SourceNew 1 2 3
+-- device 1 with context 2 of the port, and stream 3 (which is numbered 2), made by this call, that element 5 shows through source 4
+abbrev setup_with : Call → List Call
+setup_with makes =
+    call.DeviceNew ∷ call.ScreenContext 1 (pos 1) ∷ makes ∷ call.SourceNew 1 2 3
     ∷ call.ElementNew 1 2
     ∷ call.ElementSet 1 5 element.Source (four (pos 4) (pos 0) (pos 0) (pos 0))
     ∷ call.ElementSet 1 5 element.SrcRect (four (pos 0) (pos 0) (pos 1) (pos 1))
     ∷ call.ElementSet 1 5 element.Dest (four (pos 0) (pos 0) (pos 1) (pos 1))
     ∷ call.ElementInsert 1 5 0 ∷ call.Commit 1 2 ∷ call.Activate 1 2 ∷ []
+
+abbrev setup : List Call
+setup = setup_with (call.StreamNew (pos 1) (pos 1) Rgba8 (pos 2))
 
 set_up : answers opened setup ≡ (0, 1) ∷ (0, 2) ∷ (0, 3) ∷ (0, 4) ∷ (0, 5) ∷ (0, 0) ∷ (0, 0) ∷ (0, 0) ∷ (0, 0) ∷ (0, 0) ∷ (0, 0) ∷ []
 unfolding answers step act
@@ -74,10 +77,10 @@ contents_of : Option Job → List (ℕ × Bitmap)
 contents_of None = []
 contents_of (Some job) = job.contents
 
--- a frame has the newest image of its stream, and that is away until it ends
-frame_has_the_newest : contents_of (begun_job shown) ≡ (2, grey 9) ∷ []
+-- a frame has the image that was posted to its stream, and that is away until it ends
+frame_has_the_next_image : contents_of (begun_job shown) ≡ (2, grey 9) ∷ []
 unfolding after step act job_of contents_of
-frame_has_the_newest = refl
+frame_has_the_next_image = refl
 
 -- while it runs no other begins, and what is posted is not in it
 abbrev running : State
@@ -109,3 +112,41 @@ life =
 kept_by_the_layer : answers shown life ≡ (0, 0) ∷ (0, 0) ∷ (10, 0) ∷ (11, 17) ∷ (0, 2) ∷ (0, 0) ∷ (0, 2) ∷ (0, 0) ∷ (0, 1) ∷ []
 unfolding answers after step act
 kept_by_the_layer = refl
+
+-- a queue of depth 2 in place of the plain stream
+
+abbrev queued : State
+queued = after opened (setup_with (call.StreamQueue (pos 1) (pos 1) Rgba8 (pos 2)))
+
+-- a third image finds no room
+queue_is_full : answers queued (posted 1 ++ posted 2 ++ call.Acquire 3 ∷ []) ≡ (0, 0) ∷ (0, 0) ∷ (0, 0) ∷ (0, 0) ∷ (8, 0) ∷ []
+unfolding answers after step act
+queue_is_full = refl
+
+unfoldable end_of : Option Job → State → State
+end_of None h = h
+end_of (Some job) h = (step h 0 (call.End job) false).0
+
+-- the state once the next context's frame began and ended
+abbrev framed : State → State
+framed h = end_of (begun_job h) (step h 0 (call.BeginNext 0) false).0
+
+-- the state a number of frames later
+unfoldable frames_later : ℕ → State → State
+frames_later zero h = h
+frames_later (suc n) h = frames_later n (framed h)
+
+abbrev nth_contents : ℕ → List (ℕ × Bitmap)
+nth_contents n = contents_of (begun_job (frames_later n (after queued (posted 1 ++ posted 2))))
+
+-- each frame takes the next image, and the last one is shown again where none waits
+frames_take_each_image : (nth_contents 0 ≡ (2, grey 1) ∷ []) × (nth_contents 1 ≡ (2, grey 2) ∷ []) × (nth_contents 2 ≡ (2, grey 2) ∷ [])
+unfolding after step act job_of contents_of end_of frames_later
+frames_take_each_image = (refl, refl, refl)
+
+-- the depth of a queue is from 1 to 8
+depths_have_a_range : answers opened (call.StreamQueue (pos 1) (pos 1) Rgba8 (pos 8) ∷ call.StreamQueue (pos 1) (pos 1) Rgba8 (pos 9)
+    ∷ call.StreamQueue (pos 1) (pos 1) Rgba8 (pos 0) ∷ [])
+    ≡ (0, 1) ∷ (2, 0) ∷ (2, 0) ∷ []
+unfolding answers step act
+depths_have_a_range = refl

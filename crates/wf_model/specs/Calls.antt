@@ -18,6 +18,7 @@ use Rattle.wf_model.specs.Ports.{attach, port_get, port_set}
 use Rattle.wf_model.specs.Registers.{display_error}
 use Rattle.wf_model.specs.State.{State}
 use Rattle.wf_model.specs.Streams.{acquire_call, discard_call, post_call, stat_call, stream_destroy_call, stream_new_call}
+use Rattle.wf_model.specs.Streams.{stream_queue_call}
 
 -- what a call of composition does; screen is the stream of the screen that a call asks for, where its port was declared,
 -- and memory_refused marks a creation for which there is no memory
@@ -67,6 +68,7 @@ display_call memory_refused _ = λ w. Ok (w, 0)
 -- what a call on streams leaves and answers
 abbrev pub stream_call : Bool → Call → State → State × Reply
 stream_call memory_refused (call.StreamNew width height format buffers) h = stream_new_call width height format buffers memory_refused h
+stream_call memory_refused (call.StreamQueue width height format depth) h = stream_queue_call width height format depth memory_refused h
 stream_call memory_refused (call.StreamDestroy stream) h = stream_destroy_call stream h
 stream_call memory_refused (call.Stat what) h = stat_call what h
 stream_call memory_refused _ h = (h, bare (done 0))

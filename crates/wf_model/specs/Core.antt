@@ -29,6 +29,8 @@ use Rattle.wf_model.specs.Objects.{Context, CoreState, Device, Source}
 use Rattle.wf_model.specs.Outcome.{Outcome, refuse, found}
 use Rattle.wf_model.specs.Composition.{CoreSide, device, context, element_context, is_of_device, live_stream, sight_of, created}
 use Rattle.wf_model.specs.Composition.{change_context, with_cached, change_register}
+use Rattle.wf_scene.specs.declared.TheConstants.{MOST_ELEMENTS}
+use Rattle.wf_model.specs.declared.TheConstants.{MOST_CONTEXTS, MOST_DEVICES, MOST_SOURCES}
 
 -- the last two refusals of a creation: its own limit or that of all handles, and want of memory
 abbrev pub room : Bool → Bool → CoreSide → Result (Unit {0}) Refusal
@@ -50,7 +52,7 @@ by_scene (Err r) = Err (record { code = refusal_code r; value = 0 })
 
 abbrev pub device_new : Bool → CoreSide → Outcome CoreSide
 device_new memory_refused w = do
-  _ ← room (nat_le 8 (length w.core.devices)) memory_refused w
+  _ ← room (nat_le MOST_DEVICES (length w.core.devices)) memory_refused w
   let new : Device = record { handle = w.made + 1; register = None } in
       Ok (created (record w.core { devices = w.core.devices ++ new ∷ [] }) w)
 
@@ -84,7 +86,7 @@ new_context handle d port target =
     }
 
 abbrev pub contexts_full : CoreSide → Bool
-contexts_full w = nat_le 16 (length w.core.contexts)
+contexts_full w = nat_le MOST_CONTEXTS (length w.core.contexts)
 
 -- a port that has a context
 abbrev pub has_port : ℕ → CoreSide → Bool
@@ -172,7 +174,7 @@ deactivate d handle w = set_active false d handle w
 
 -- how many sources and masks are live, of both interfaces
 abbrev pub sources_full : CoreSide → Bool
-sources_full w = nat_le 256 (length w.core.sources + length w.core.masks + w.display_sources)
+sources_full w = nat_le MOST_SOURCES (length w.core.sources + length w.core.masks + w.display_sources)
 
 abbrev pub new_source : ℕ → ℕ → KeptStream → Source
 new_source handle owner s = record { handle = handle; context = owner; stream = s.number }
@@ -201,7 +203,7 @@ abbrev pub element_new : ℕ → ℕ → Bool → CoreSide → Outcome CoreSide
 element_new d owner memory_refused w = do
   _ ← device d w
   c ← context d owner w
-  _ ← room (nat_le 64 (length c.cached.elements)) memory_refused w
+  _ ← room (nat_le MOST_ELEMENTS (length c.cached.elements)) memory_refused w
   Ok (created (change_context owner (with_cached (cached.add (w.made + 1) c.cached)) w.core) w)
 
 -- a value names none, or a source or a mask of the device, and then one of the context; it is compared as a whole number

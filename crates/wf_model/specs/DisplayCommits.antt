@@ -68,7 +68,7 @@ has_source x sources = option_map_or (λ r. (r.source == 0) || is_some (source_a
 abbrev pub is_inside : ℕ → Style → List KeptStream → Bool
 is_inside n style streams = (n == 0) || option_map_or (λ b. holds_rect b.size style.src) (buffers_at n streams) false
 
--- and its destination has sides of 1 to 1024
+-- and its destination has sides that an image may have
 abbrev pub has_destination : ℕ → Style → Bool
 has_destination n style = (n == 0) || has_sides (size_of style.dest)
 

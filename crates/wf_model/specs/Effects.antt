@@ -228,27 +228,27 @@ module _ (h : State) (c : Call) (unregistered : register_of c ≡ no_register) w
   stream_effect (Ok x) honest carried = carried x refl
   stream_effect (Err r) honest carried = refuses_bare r honest
 
-  new_effect : (width height buffers : ℤ) (f : Format) (m : Bool)
-      → Effect h c (streams.stream_step h (streams.stream_new width height f buffers m h))
-  new_effect width height buffers f m = of_range (not (streams.may_make width height buffers)) refl
+  new_effect : (queue : Bool) (width height count : ℤ) (f : Format) (m : Bool)
+      → Effect h c (streams.stream_step h (streams.stream_new queue width height f count m h))
+  new_effect queue width height count f m = of_range (not (streams.may_make queue width height count)) refl
     where
       new : Buffers
-      new = streams.new_buffers width height f buffers
+      new = streams.new_buffers queue width height f count
 
       made : Outcome State
-      made = streams.stream_new width height f buffers m h
+      made = streams.stream_new queue width height f count m h
 
-      of_memory : (not (streams.may_make width height buffers)) ≡ false → (has_no_room new h.streams || is_full h.made) ≡ false
+      of_memory : (not (streams.may_make queue width height count)) ≡ false → (has_no_room new h.streams || is_full h.made) ≡ false
           → (b : Bool) → m ≡ b → Effect h c (streams.stream_step h made)
       of_memory range room true is = rw (range, room, is) (refuses_bare (refusal code.OutOfMemory) refl)
       of_memory range room false is = rw (range, room, is) (makes new refl)
 
-      of_room : (not (streams.may_make width height buffers)) ≡ false → (b : Bool) → (has_no_room new h.streams || is_full h.made) ≡ b
+      of_room : (not (streams.may_make queue width height count)) ≡ false → (b : Bool) → (has_no_room new h.streams || is_full h.made) ≡ b
           → Effect h c (streams.stream_step h made)
       of_room range true is = rw (range, is) (refuses_bare (refusal code.Limit) refl)
       of_room range false is = of_memory range is m refl
 
-      of_range : (b : Bool) → (not (streams.may_make width height buffers)) ≡ b → Effect h c (streams.stream_step h made)
+      of_range : (b : Bool) → (not (streams.may_make queue width height count)) ≡ b → Effect h c (streams.stream_step h made)
       of_range true is = rw is (refuses_bare (refusal code.IllegalArgument) refl)
       of_range false is = of_room is (has_no_room new h.streams || is_full h.made) refl
 
@@ -330,7 +330,9 @@ begin_effect h c register own free = of_beginning (begin_call c h) refl (begin_i
 
 of_streams : (h : State) (c : Call) (m : Bool) → register_of c ≡ no_register → Effect h c (stream_call m c h)
 of_streams h (call.StreamNew width height f buffers) m none =
-    new_effect h (call.StreamNew width height f buffers) none width height buffers f m
+    new_effect h (call.StreamNew width height f buffers) none false width height buffers f m
+of_streams h (call.StreamQueue width height f depth) m none =
+    new_effect h (call.StreamQueue width height f depth) none true width height depth f m
 of_streams h (call.StreamDestroy stream) m none = destroy_effect h (call.StreamDestroy stream) none stream
 of_streams h (call.Stat what) m none = tells (streams.stat what (held h.streams)) refl
 of_streams h _ m none = tells 0 refl

@@ -10,7 +10,7 @@ use Rattle.wf_pixel.specs.declared.Format.TheVariants.{Rgba8Pre}
 use Rattle.wf_pixel.specs.Choice.{same_size, same_format}
 use Rattle.wf_image.specs.Bitmap.{Bitmap, blank}
 use Rattle.wf_image.specs.Contents.{image_of}
-use Rattle.wf_stream.specs.Buffers.{Buffers, acquired, is_blocked, latched, latched_if, newest, posted, returned}
+use Rattle.wf_stream.specs.Buffers.{Buffers, acquired, is_blocked, latched, latched_if, next_image, posted, returned}
 use Rattle.wf_stream.specs.Streams.{KeptStream, buffers_at, change_stream, stream_at}
 use Rattle.wf_scene.specs.declared.Scene.{Scene}
 use Rattle.wf_calls.specs.declared.code.Code.TheVariants as code
@@ -36,19 +36,19 @@ use Rattle.wf_model.specs.DisplaySides.{port}
 abbrev pub scene_streams : Scene → List ℕ
 scene_streams scene = once (flat_map layer_names scene.layers.items)
 
-abbrev pub newest_of : Option KeptStream → Option Bitmap
-newest_of None = None
-newest_of (Some s) = newest s.buffers
+abbrev pub next_image_of : Option KeptStream → Option Bitmap
+next_image_of None = None
+next_image_of (Some s) = next_image s.buffers
 
--- the newest images of streams, of those that have one
-abbrev pub newest_images : List ℕ → List KeptStream → Images
-newest_images ns streams = filter_map (λ n. option_map (λ image. (n, image)) (newest_of (stream_at n streams))) ns
+-- the images that a frame takes of streams, of those that have one
+abbrev pub next_images : List ℕ → List KeptStream → Images
+next_images ns streams = filter_map (λ n. option_map (λ image. (n, image)) (next_image_of (stream_at n streams))) ns
 
--- a stream whose newest image went away into a frame, if it is among these
+-- a stream whose next image went away into a frame, if it is among these
 abbrev pub latched_among : List ℕ → KeptStream → KeptStream
 latched_among ns s = if is_in s.number ns then record s { buffers = latched s.buffers } else s
 
--- the streams after the newest images of these went away into a frame
+-- the streams after a frame took the next images of these
 abbrev pub latch : List ℕ → List KeptStream → List KeptStream
 latch ns streams = map (latched_among ns) streams
 
@@ -105,12 +105,12 @@ job_of b h =
       number = h.begun + 1;
       kind = b.kind;
       scene = b.scene;
-      contents = newest_images (scene_streams b.scene) h.streams;
+      contents = next_images (scene_streams b.scene) h.streams;
       image = blank b.scene.size b.format;
     }
 
 -- no buffer of a target is free for a frame that shows a scene; where the scene shows the target too, this is judged
--- after its newest image went away
+-- after its next image went away
 abbrev pub is_short : ℕ → Scene → Buffers → Bool
 is_short target scene b = is_blocked (latched_if (is_in target (scene_streams scene)) b)
 

@@ -1,4 +1,6 @@
 -- The plain machine: its state, what a call does and answers, and the picture of a scene.
+
+-- What is promised: the words that the clauses of public functions stand on.
 pub mod Outcome
 pub mod Fitting
 pub mod Objects
@@ -6,8 +8,6 @@ pub mod Composition
 pub mod Core
 pub mod State
 pub mod Names
-pub mod Counting
-pub mod Named
 pub mod Picture
 pub mod Numbered
 pub mod DisplaySides
@@ -22,6 +22,10 @@ pub mod Registers
 pub mod Calls
 pub mod Step
 pub mod Reached
+pub mod QueueOrder
 pub mod Beginnings
+-- What callers prove with: words and facts that other crates use.
+pub mod Counting
+pub mod Named
 pub mod Effects
 pub mod Kept

@@ -22,6 +22,7 @@ use Rattle.wf_model.specs.Composition.{live_stream}
 use Rattle.wf_model.specs.DisplaySides.{DisplaySide, pipeline, source_at, with_pipeline}
 use Rattle.wf_model.specs.Outcome.{Outcome, found, refuse}
 use Rattle.wf_model.specs.State.{DisplaySource, DisplayState, Pipeline}
+use Rattle.wf_model.specs.declared.TheConstants.{MOST_SOURCES}
 
 -- attributes
 
@@ -100,7 +101,7 @@ pipe_bind_port l p d = do
 
 -- 256 sources and masks are live, of both interfaces
 abbrev pub all_sources : DisplaySide → Bool
-all_sources w = nat_le 256 (length w.display.sources + w.composition_sources)
+all_sources w = nat_le MOST_SOURCES (length w.display.sources + w.composition_sources)
 
 -- the number of the stream of a live handle, which is one of pixels
 abbrev pub pixel_stream : ℕ → List KeptStream → Result ℕ Refusal

@@ -1,5 +1,5 @@
 -- The calls on streams.
-use Rattle.std.specs.Prelude.{ℕ, ◌+◌, Bool, false, not, ◌&&◌, ◌||◌, ℤ, pos, [], ◌∷◌, ◌++◌, map, Option, Some, None, Result, Ok, Err}
+use Rattle.std.specs.Prelude.{ℕ, ◌+◌, Bool, true, false, not, ◌&&◌, ◌||◌, ℤ, pos, [], ◌∷◌, ◌++◌, map, Option, Some, None, Result, Ok, Err}
 use Rattle.std.specs.Prelude.{if◌then◌else◌}
 use Rattle.wf_words.specs.Refusals.{◌>>=◌}
 use Rattle.wf_words.specs.Whole.{count_of}
@@ -10,7 +10,7 @@ use Rattle.wf_image.specs.declared.canvas.Canvas.{Canvas}
 use Rattle.wf_image.specs.Bitmap.{blank}
 use Rattle.wf_life.specs.Handles.{is_full}
 use Rattle.wf_stream.specs.declared.Held.{Held}
-use Rattle.wf_stream.specs.Buffers.{Buffers, acquired, discarded, fresh, is_blocked, posted}
+use Rattle.wf_stream.specs.Buffers.{Buffers, acquired, discarded, fresh, fresh_queue, is_blocked, posted}
 use Rattle.wf_stream.specs.Streams.{KeptStream, stream_at, change_stream, held, has_no_room, unnamed}
 use Rattle.wf_calls.specs.Replies.{bare, done, gives_back_canvas, gives_canvas, refused}
 use Rattle.wf_calls.specs.declared.code.Code.TheVariants as code
@@ -23,6 +23,7 @@ use Rattle.wf_model.specs.Frames.{is_target}
 use Rattle.wf_model.specs.Composition.{live_stream}
 use Rattle.wf_model.specs.Outcome.{Outcome, refuse}
 use Rattle.wf_pixel.specs.declared.TheConstants.{MOST_SIDE}
+use Rattle.wf_stream.specs.declared.TheConstants.{MOST_DEPTH}
 
 -- the size of two numbers of a call
 abbrev pub size_from : ℤ → ℤ → Size
@@ -32,9 +33,13 @@ size_from width height = record { w = count_of width; h = count_of height }
 abbrev pub is_wide_side : ℤ → Bool
 is_wide_side z = is_between (pos 1) (pos MOST_SIDE) z
 
--- the sides and the buffers of a stream are in their ranges
-abbrev pub may_make : ℤ → ℤ → ℤ → Bool
-may_make width height buffers = is_wide_side width && is_wide_side height && is_between (pos 2) (pos 4) buffers
+-- a number of a call is a count of buffers, or where it makes a queue the depth of one
+abbrev pub is_buffer_count : Bool → ℤ → Bool
+is_buffer_count queue z = if queue then is_between (pos 1) (pos MOST_DEPTH) z else is_between (pos 2) (pos 4) z
+
+-- the sides and the count of a stream are in their ranges
+abbrev pub may_make : Bool → ℤ → ℤ → ℤ → Bool
+may_make queue width height count = is_wide_side width && is_wide_side height && is_buffer_count queue count
 
 -- one more stream, whose handle is answered
 abbrev pub stream_made : Buffers → State → State × ℕ
@@ -42,15 +47,17 @@ stream_made new h =
     let made : KeptStream = record { number = h.numbered + 1; handle = h.made + 1; buffers = new } in
     (record h { made = h.made + 1; numbered = h.numbered + 1; streams = h.streams ++ made ∷ [] }, h.made + 1)
 
--- the buffers of a new stream
-abbrev pub new_buffers : ℤ → ℤ → Format → ℤ → Buffers
-new_buffers width height format buffers = fresh (size_from width height) format (count_of buffers)
+-- the buffers of a new stream, plain or a queue
+abbrev pub new_buffers : Bool → ℤ → ℤ → Format → ℤ → Buffers
+new_buffers queue width height format count =
+    if queue then fresh_queue (size_from width height) format (count_of count)
+    else fresh (size_from width height) format (count_of count)
 
-abbrev pub stream_new : ℤ → ℤ → Format → ℤ → Bool → State → Outcome State
-stream_new width height format buffers memory_refused h =
-    let new : Buffers = new_buffers width height format buffers in
+abbrev pub stream_new : Bool → ℤ → ℤ → Format → ℤ → Bool → State → Outcome State
+stream_new queue width height format count memory_refused h =
+    let new : Buffers = new_buffers queue width height format count in
     do
-      _ ← refuse code.IllegalArgument (not (may_make width height buffers))
+      _ ← refuse code.IllegalArgument (not (may_make queue width height count))
       _ ← refuse code.Limit (has_no_room new h.streams || is_full h.made)
       _ ← refuse code.OutOfMemory memory_refused
       Ok (stream_made new h)
@@ -107,7 +114,11 @@ acquire_step h (Err r) = (h, bare (refused r))
 
 abbrev pub stream_new_call : ℤ → ℤ → Format → ℤ → Bool → State → State × Reply
 stream_new_call width height format buffers memory_refused h =
-    stream_step h (stream_new width height format buffers memory_refused h)
+    stream_step h (stream_new false width height format buffers memory_refused h)
+
+abbrev pub stream_queue_call : ℤ → ℤ → Format → ℤ → Bool → State → State × Reply
+stream_queue_call width height format depth memory_refused h =
+    stream_step h (stream_new true width height format depth memory_refused h)
 
 abbrev pub stream_destroy_call : ℕ → State → State × Reply
 stream_destroy_call stream h = stream_step h (stream_destroy stream h)

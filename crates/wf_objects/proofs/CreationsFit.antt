@@ -37,6 +37,7 @@ use Rattle.wf_words.specs.Places.{map_set}
 use Rattle.wf_objects.proofs.Lookups.{has_by_key, is_named, rises_contexts}
 use Rattle.wf_words.specs.Rising.{Rises, each_replaced, none_over}
 use Rattle.wf_words.specs.Filtered.{count_left, more_left, all_more, more_passed, all_other}
+use Rattle.wf_scene.specs.declared.TheConstants.{MOST_ELEMENTS}
 
 last_under : (low high : ℕ) (ls : List Live) → IsRising low ls high → low ≤ high
 last_under low high [] rising = rising
@@ -185,7 +186,7 @@ module _ (core : CoreState) (store : StoreView) (fits : Fits core store) where
           ≡ true) [ true ↦ refl | false ↦ later ])
 
   pub element_creates : (place : ℕ) (c : Context) (at : slice_get core.contexts place ≡ Some c)
-      → nat_le 64 (length c.cached.elements) ≡ false → Ok tt ≡ refused_handle store.made false
+      → nat_le MOST_ELEMENTS (length c.cached.elements) ≡ false → Ok tt ≡ refused_handle store.made false
       → Does (in_place place element_made) core
       (record core { contexts = set core.contexts place (record c { cached = cached.add next c.cached }) }) store
       (with_other kind.Element c.handle store) (Ok next)
@@ -195,8 +196,8 @@ module _ (core : CoreState) (store : StoreView) (fits : Fits core store) where
       let now = with_other kind.Element c.handle store in
       let names = changed_names c.handle (with_cached (cached.add next c.cached)) core (λ y. refl) in
       subst (λ k. Does (in_place place element_made) core k store now (Ok next)) is
-      (creates (in_place place element_made) (nat_le 64 (length c.cached.elements)) grown (λ m. rw at refl) kind.Element c.handle refl
-      refl below given now refl
+      (creates (in_place place element_made) (nat_le MOST_ELEMENTS (length c.cached.elements)) grown (λ m. rw at refl) kind.Element
+      c.handle refl refl below given now refl
       (names_stay (core_names core) (core_names grown) store now refl refl (λ n some. ap (times n) (sym names)))
       (subst (λ k. Fits k now) (sym is) (element_fits place c at)))
 

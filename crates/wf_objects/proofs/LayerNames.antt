@@ -1,5 +1,5 @@
 -- Names that begin and end one after another: those of a layer, of layers, and of a context.
-use Rattle.std.proofs.Common.{◌≡◌, ℕ, ◌+◌, ◌<◌, ◌≤◌, true, false, ◌==◌, List, [], ◌∷◌, ◌++◌, drop, flat_map, get_or, length, take}
+use Rattle.std.proofs.Common.{◌≡◌, ℕ, ◌+◌, ◌*◌, ◌<◌, ◌≤◌, true, false, ◌==◌, List, [], ◌∷◌, ◌++◌, drop, flat_map, get_or, length, take}
 use Rattle.std.proofs.Common.{slice_get, zero, suc, Option, Some, None, IsSome, is_some, option_map, refl, arith, length-take-le}
 use Rattle.std.proofs.lemmas.Bool.Decides.{nat_tests}
 use Rattle.std.proofs.lemmas.List.Sums.{count_by-le-length, sum_by-drop_more, sum_by_more}
@@ -17,6 +17,7 @@ use Rattle.wf_model.specs.Names.{layer_names}
 use Rattle.wf_model.specs.Counting.{times_in}
 use Rattle.wf_stream.specs.Renames.{Renames, fewer_fit, then_renames}
 use Rattle.wf_objects.proofs.NameCounts.{layer_count, times_flat}
+use Rattle.wf_scene.specs.declared.TheConstants.{MOST_INSERTED}
 
 -- a name that is counted can be let go
 pub alone : (n : ℕ) (v : StoreView) → NamesFit (n ∷ []) v → 0 < n → IsReleasable n v
@@ -59,8 +60,8 @@ began_most n began u v change =
         let same : count_of n v ≡ count_of n u = rw is change.none in
         omega (arith, same)
 
-pub few_began : (n i : ℕ) (xs : List Layer) (u v : StoreView) → length xs ≤ 32 → i ≤ length xs
-    → Renames [] (flat_map layer_names (take i xs)) u v → count_of n v ≤ count_of n u + 64
+pub few_began : (n i : ℕ) (xs : List Layer) (u v : StoreView) → length xs ≤ MOST_INSERTED → i ≤ length xs
+    → Renames [] (flat_map layer_names (take i xs)) u v → count_of n v ≤ count_of n u + 2 * MOST_INSERTED
 few_began n i xs u v few less change =
     let most = began_most n (flat_map layer_names (take i xs)) u v change in
     let names = layer_count (take i xs) in

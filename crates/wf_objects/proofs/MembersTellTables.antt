@@ -30,10 +30,12 @@ use Rattle.wf_objects.specs.Inside.{HasFewLayers, IsKept, tables_of}
 use Rattle.wf_objects.specs.Links.{link_kind, link_live, links, with_links}
 use Rattle.wf_objects.specs.Losses.{but_context}
 use Rattle.wf_objects.specs.Tracks.{AreTracked, Tracks, context_handles, context_key, device_handles, link_key, link_keys}
+use Rattle.wf_objects.specs.Tracks.{most_of_contexts, most_of_devices}
 use Rattle.wf_objects.proofs.ChangesStillFit.{links_live}
 use Rattle.wf_objects.proofs.Lookups.{rises_kind}
 use Rattle.wf_objects.proofs.Members.{any_but, any_more, any_stays, bare, nobodys, none_tracked, one_less, owned_tracked, owned_untracked}
 use Rattle.wf_objects.proofs.Members.{owner_of, owner_tracked, owner_untracked, owns, owns_nothing}
+use Rattle.wf_model.specs.declared.TheConstants.{MOST_CONTEXTS, MOST_DEVICES, MOST_SOURCES}
 
 -- the handle that comes next is that of no object
 
@@ -85,8 +87,12 @@ or_less true b c = refl
 or_less false b c = refl
 
 -- no objects
-pub nothing_tracked : (m l : Membership) → HasNone 16 8 m → HasNone 256 16 l → AreTracked m l no_objects
-nothing_tracked m l none free = record { of_devices = none_tracked m 8 16 none; of_contexts = none_tracked l 16 256 free }
+pub nothing_tracked : (m l : Membership) → HasNone MOST_CONTEXTS MOST_DEVICES m → HasNone MOST_SOURCES MOST_CONTEXTS l
+    → AreTracked m l no_objects
+nothing_tracked m l none free = record {
+  of_devices = none_tracked m MOST_DEVICES MOST_CONTEXTS none;
+  of_contexts = none_tracked l MOST_CONTEXTS MOST_SOURCES free;
+}
 
 -- a source or a mask has a handle and is one of a context
 abbrev is_link : ℕ → ℕ → Source → Bool
@@ -113,26 +119,26 @@ module _ (m l : Membership) (core : CoreState) (old : AreTracked m l core) where
       → list_any (λ c. (c.handle == h) && (c.device == d)) core.contexts ≡ true
   is_context_of d h there =
       sym (any_mapped (λ k. (k.0 == h) && (k.1 == d)) context_key core.contexts)
-      ∙ owns (8, 16) m (device_handles core) (map context_key core.contexts) old.of_devices d h there
+      ∙ owns most_of_devices m (device_handles core) (map context_key core.contexts) old.of_devices d h there
 
   pub has_no_context : (d : ℕ) → None ≡ lowest (members_of d m) → list_any (λ c. c.device == d) core.contexts ≡ false
   has_no_context d none =
       sym (any_mapped (λ k. k.1 == d) context_key core.contexts)
-      ∙ owns_nothing (8, 16) m (device_handles core) (map context_key core.contexts) old.of_devices d none
+      ∙ owns_nothing most_of_devices m (device_handles core) (map context_key core.contexts) old.of_devices d none
 
   pub bare_device : (d : ℕ) → list_any (λ c. c.device == d) core.contexts ≡ false → members_of d m ≡ []
   bare_device d none =
-      bare (8, 16) m (device_handles core) (map context_key core.contexts) old.of_devices d
+      bare most_of_devices m (device_handles core) (map context_key core.contexts) old.of_devices d
       (any_mapped (λ k. k.1 == d) context_key core.contexts ∙ none)
 
   pub a_device_has : (h : ℕ) → list_any (λ c. c.handle == h) core.contexts ≡ true → (d : ℕ) × (is_in h (members_of d m) ≡ true)
   a_device_has h live =
-      owner_of (8, 16) m (device_handles core) (map context_key core.contexts) old.of_devices h
+      owner_of most_of_devices m (device_handles core) (map context_key core.contexts) old.of_devices h
       (any_mapped (λ k. k.0 == h) context_key core.contexts ∙ live)
 
   pub no_device_has : (h : ℕ) → list_any (λ c. c.handle == h) core.contexts ≡ false → (d : ℕ) → is_in h (members_of d m) ≡ false
   no_device_has h none =
-      nobodys (8, 16) m (device_handles core) (map context_key core.contexts) old.of_devices h
+      nobodys most_of_devices m (device_handles core) (map context_key core.contexts) old.of_devices h
       (any_mapped (λ k. k.0 == h) context_key core.contexts ∙ none)
 
   -- a source or a mask of a context, and a context without them
@@ -158,7 +164,7 @@ module _ (m l : Membership) (core : CoreState) (old : AreTracked m l core) where
       both_ways (list_any (λ s. s.handle == h) (links (not mask) core)) alone
       (any_first (λ s. s.handle == h) (λ s. s.context == c) (links (not mask) core) some)))
       (sym (any_link (λ k. (k.0 == h) && (k.1 == c)))
-      ∙ owns (16, 256) l (context_handles core) (link_keys core) old.of_contexts c h there)
+      ∙ owns most_of_contexts l (context_handles core) (link_keys core) old.of_contexts c h there)
     where
       by_kind : (b : Bool) → list_any (is_link c h) (links (not b) core) ≡ false
           → (list_any (is_link c h) core.sources || list_any (is_link c h) core.masks) ≡ true
@@ -170,7 +176,7 @@ module _ (m l : Membership) (core : CoreState) (old : AreTracked m l core) where
   pub has_no_link : (c : ℕ) → None ≡ lowest (members_of c l) → (mask : Bool) → list_any (λ s. s.context == c) (links mask core) ≡ false
   has_no_link c none mask =
       by_kind mask (sym (any_link (λ k. k.1 == c))
-      ∙ owns_nothing (16, 256) l (context_handles core) (link_keys core) old.of_contexts c none)
+      ∙ owns_nothing most_of_contexts l (context_handles core) (link_keys core) old.of_contexts c none)
     where
       both : (a b : Bool) → (a || b) ≡ false → (a ≡ false) × (b ≡ false)
       both true b none = absurd cc
@@ -183,12 +189,12 @@ module _ (m l : Membership) (core : CoreState) (old : AreTracked m l core) where
 
   pub bare_context : (c : ℕ) → ((mask : Bool) → list_any (λ s. s.context == c) (links mask core) ≡ false) → members_of c l ≡ []
   bare_context c none =
-      bare (16, 256) l (context_handles core) (link_keys core) old.of_contexts c (none_of_both (λ k. k.1 == c) none)
+      bare most_of_contexts l (context_handles core) (link_keys core) old.of_contexts c (none_of_both (λ k. k.1 == c) none)
 
   pub a_context_has : (mask : Bool) (h : ℕ) → list_any (λ s. s.handle == h) (links mask core) ≡ true
       → (c : ℕ) × (is_in h (members_of c l) ≡ true)
   a_context_has mask h live =
-      owner_of (16, 256) l (context_handles core) (link_keys core) old.of_contexts h (any_link (λ k. k.0 == h) ∙ by_kind mask live)
+      owner_of most_of_contexts l (context_handles core) (link_keys core) old.of_contexts h (any_link (λ k. k.0 == h) ∙ by_kind mask live)
     where
       by_kind : (b : Bool) → list_any (λ s. s.handle == h) (links b core) ≡ true
           → (list_any (λ s. s.handle == h) core.sources || list_any (λ s. s.handle == h) core.masks) ≡ true
@@ -198,11 +204,11 @@ module _ (m l : Membership) (core : CoreState) (old : AreTracked m l core) where
   pub no_context_has : (h : ℕ) → ((mask : Bool) → list_any (λ s. s.handle == h) (links mask core) ≡ false)
       → (c : ℕ) → is_in h (members_of c l) ≡ false
   no_context_has h none =
-      nobodys (16, 256) l (context_handles core) (link_keys core) old.of_contexts h (none_of_both (λ k. k.0 == h) none)
+      nobodys most_of_contexts l (context_handles core) (link_keys core) old.of_contexts h (none_of_both (λ k. k.0 == h) none)
 
   -- room
 
-  pub devices_room : length core.devices < 8 → open_count m < most_owners m
+  pub devices_room : length core.devices < MOST_DEVICES → open_count m < most_owners m
   devices_room less =
       omega (
         arith,
@@ -212,11 +218,11 @@ module _ (m l : Membership) (core : CoreState) (old : AreTracked m l core) where
         ap (λ (k : ℕ × ℕ). k.0) old.of_devices.limits_are,
       )
 
-  pub contexts_room : length core.contexts < 16 → member_count m < most_members m
+  pub contexts_room : length core.contexts < MOST_CONTEXTS → member_count m < most_members m
   contexts_room less =
       omega (arith, less, old.of_devices.count, length-map core.contexts context_key, ap (λ (k : ℕ × ℕ). k.1) old.of_devices.limits_are)
 
-  pub owners_room : length core.contexts < 16 → open_count l < most_owners l
+  pub owners_room : length core.contexts < MOST_CONTEXTS → open_count l < most_owners l
   owners_room less =
       omega (
         arith,
@@ -235,7 +241,7 @@ module _ (m l : Membership) (core : CoreState) (old : AreTracked m l core) where
         length-map core.masks link_key,
       )
 
-  pub links_room : length core.sources + length core.masks < 256 → member_count l < most_members l
+  pub links_room : length core.sources + length core.masks < MOST_SOURCES → member_count l < most_members l
   links_room less =
       omega (arith, less, old.of_contexts.count, link_count, ap (λ (k : ℕ × ℕ). k.1) old.of_contexts.limits_are)
 
@@ -247,11 +253,11 @@ module _ (m l : Membership) (core : CoreState) (old : AreTracked m l core) where
   tracked_on new devices contexts handles keys =
       record {
         of_devices =
-            subst (λ ds. Tracks (8, 16) m ds (map context_key new.contexts)) (sym devices)
-            (subst (λ cs. Tracks (8, 16) m (device_handles core) cs) (sym contexts) old.of_devices);
+            subst (λ ds. Tracks most_of_devices m ds (map context_key new.contexts)) (sym devices)
+            (subst (λ cs. Tracks most_of_devices m (device_handles core) cs) (sym contexts) old.of_devices);
         of_contexts =
-            subst (λ cs. Tracks (16, 256) l cs (link_keys new)) (sym handles)
-            (subst (λ ks. Tracks (16, 256) l (context_handles core) ks) (sym keys) old.of_contexts);
+            subst (λ cs. Tracks most_of_contexts l cs (link_keys new)) (sym handles)
+            (subst (λ ks. Tracks most_of_contexts l (context_handles core) ks) (sym keys) old.of_contexts);
       }
 
   pub context_written : (i : ℕ) (x y : Context) → slice_get core.contexts i ≡ Some x → y.handle ≡ x.handle → y.device ≡ x.device
@@ -275,8 +281,9 @@ module _ (m l : Membership) (core : CoreState) (old : AreTracked m l core) where
   device_tracked new x opens =
       record {
         of_devices =
-            subst (λ ds. Tracks (8, 16) new ds (map context_key core.contexts)) (sym (map-append (λ d. d.handle) core.devices (x ∷ [])))
-            (owner_tracked (8, 16) m (device_handles core) (map context_key core.contexts) old.of_devices new x.handle opens);
+            subst (λ ds. Tracks most_of_devices new ds (map context_key core.contexts))
+            (sym (map-append (λ d. d.handle) core.devices (x ∷ [])))
+            (owner_tracked most_of_devices m (device_handles core) (map context_key core.contexts) old.of_devices new x.handle opens);
         of_contexts = old.of_contexts;
       }
 
@@ -286,9 +293,9 @@ module _ (m l : Membership) (core : CoreState) (old : AreTracked m l core) where
   device_untracked new h closes rises live =
       record {
         of_devices =
-            subst (λ ds. Tracks (8, 16) new ds (map context_key core.contexts))
+            subst (λ ds. Tracks most_of_devices new ds (map context_key core.contexts))
             (filter_mapped (λ n. not (n == h)) (λ x. x.handle) core.devices)
-            (owner_untracked (8, 16) m (device_handles core) (map context_key core.contexts) old.of_devices new h closes
+            (owner_untracked most_of_devices m (device_handles core) (map context_key core.contexts) old.of_devices new h closes
             (rise_mapped (λ x. x.handle) 0 core.devices rises) (any_mapped (λ n. n == h) (λ x. x.handle) core.devices ∙ live));
         of_contexts = old.of_contexts;
       }
@@ -299,13 +306,13 @@ module _ (m l : Membership) (core : CoreState) (old : AreTracked m l core) where
       → AreTracked new free (record core { contexts = core.contexts ++ c ∷ [] })
   context_tracked new free c adds opens =
       record {
-        of_devices = owned_tracked (8, 16) m (device_handles core) (map context_key core.contexts) old.of_devices new c.device c.handle
-            (map context_key (core.contexts ++ c ∷ [])) adds
+        of_devices = owned_tracked most_of_devices m (device_handles core) (map context_key core.contexts) old.of_devices new
+            c.device c.handle (map context_key (core.contexts ++ c ∷ [])) adds
             (λ p. ap (list_any p) more ∙ any_more p (map context_key core.contexts) (context_key c))
             (ap length more ∙ length_push (map context_key core.contexts) (context_key c));
         of_contexts =
-            subst (λ cs. Tracks (16, 256) free cs (link_keys core)) (sym (map-append (λ x. x.handle) core.contexts (c ∷ [])))
-            (owner_tracked (16, 256) l (context_handles core) (link_keys core) old.of_contexts free c.handle opens);
+            subst (λ cs. Tracks most_of_contexts free cs (link_keys core)) (sym (map-append (λ x. x.handle) core.contexts (c ∷ [])))
+            (owner_tracked most_of_contexts l (context_handles core) (link_keys core) old.of_contexts free c.handle opens);
       }
     where
       more : map context_key (core.contexts ++ c ∷ []) ≡ map context_key core.contexts ++ context_key c ∷ []
@@ -315,7 +322,7 @@ module _ (m l : Membership) (core : CoreState) (old : AreTracked m l core) where
       → list_any (λ c. c.handle == h) core.contexts ≡ true → AreTracked new free (but_context h core)
   context_untracked new free h removes closes rises live =
       record {
-        of_devices = owned_untracked (8, 16) m (device_handles core) (map context_key core.contexts) old.of_devices new h
+        of_devices = owned_untracked most_of_devices m (device_handles core) (map context_key core.contexts) old.of_devices new h
             (map context_key (but_context h core).contexts) removes
             (λ d n. any_mapped (λ k. (k.0 == n) && (k.1 == d)) context_key (but_context h core).contexts
             ∙ any_but (λ c. c.handle) (λ c. c.device == d) n h core.contexts
@@ -327,8 +334,8 @@ module _ (m l : Membership) (core : CoreState) (old : AreTracked m l core) where
               one_less (λ c. c.handle) h 0 core.contexts rises live,
             ));
         of_contexts =
-            subst (λ cs. Tracks (16, 256) free cs (link_keys core)) (filter_mapped (λ n. not (n == h)) (λ c. c.handle) core.contexts)
-            (owner_untracked (16, 256) l (context_handles core) (link_keys core) old.of_contexts free h closes
+            subst (λ cs. Tracks most_of_contexts free cs (link_keys core)) (filter_mapped (λ n. not (n == h)) (λ c. c.handle) core.contexts)
+            (owner_untracked most_of_contexts l (context_handles core) (link_keys core) old.of_contexts free h closes
             (rise_mapped (λ c. c.handle) 0 core.contexts rises) (any_mapped (λ n. n == h) (λ c. c.handle) core.contexts ∙ live));
       }
 
@@ -339,9 +346,9 @@ module _ (m l : Membership) (core : CoreState) (old : AreTracked m l core) where
   link_tracked new mask s adds = by_kind mask
     where
       tracked : (ks : List (ℕ × ℕ)) → ((p : ℕ × ℕ → Bool) → list_any p ks ≡ (p (link_key s) || list_any p (link_keys core)))
-          → length ks ≡ length (link_keys core) + 1 → Tracks (16, 256) new (context_handles core) ks
-      tracked ks = λ all longer. owned_tracked (16, 256) l (context_handles core) (link_keys core) old.of_contexts new s.context s.handle ks
-          adds all longer
+          → length ks ≡ length (link_keys core) + 1 → Tracks most_of_contexts new (context_handles core) ks
+      tracked ks = λ all longer. owned_tracked most_of_contexts l (context_handles core) (link_keys core) old.of_contexts new
+          s.context s.handle ks adds all longer
 
       by_kind : (b : Bool) → AreTracked m new (with_links b (links b core ++ s ∷ []) core)
       by_kind false =
@@ -416,7 +423,7 @@ module _ (m l : Membership) (core : CoreState) (old : AreTracked m l core) where
       by_kind false rises live alone =
           record {
             of_devices = old.of_devices;
-            of_contexts = owned_untracked (16, 256) l (context_handles core) (link_keys core) old.of_contexts new h
+            of_contexts = owned_untracked most_of_contexts l (context_handles core) (link_keys core) old.of_contexts new h
                 (map link_key (without_source h core.sources) ++ map link_key core.masks) removes
                 (λ c n. less (map link_key (without_source h core.sources)) (map link_key core.masks) c n
                 (gone core.sources c n) (stay core.masks c n alone))
@@ -432,7 +439,7 @@ module _ (m l : Membership) (core : CoreState) (old : AreTracked m l core) where
       by_kind true rises live alone =
           record {
             of_devices = old.of_devices;
-            of_contexts = owned_untracked (16, 256) l (context_handles core) (link_keys core) old.of_contexts new h
+            of_contexts = owned_untracked most_of_contexts l (context_handles core) (link_keys core) old.of_contexts new h
                 (map link_key core.sources ++ map link_key (without_source h core.masks)) removes
                 (λ c n. less (map link_key core.sources) (map link_key (without_source h core.masks)) c n
                 (stay core.sources c n alone) (gone core.masks c n))

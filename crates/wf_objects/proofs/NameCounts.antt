@@ -20,6 +20,8 @@ use Rattle.wf_model.specs.Names.{context_names, core_names, layer_names}
 use Rattle.wf_objects.specs.Inside.{HasFewLayers}
 use Rattle.wf_objects.specs.Links.{links, with_links}
 use Rattle.wf_objects.specs.Losses.{but_context}
+use Rattle.wf_model.specs.declared.TheConstants.{MOST_CONTEXTS, MOST_CORE_NAMES, MOST_SOURCES}
+use Rattle.wf_scene.specs.declared.TheConstants.{MOST_INSERTED}
 
 -- sums over lists of which one element changed
 
@@ -217,7 +219,8 @@ layer_count (l ∷ ls) =
     let both = length-append (layer_names l) (flat_map layer_names ls) in
     omega (arith, later, both)
 
-context_count : (cs : List Context) → AllByRecursion HasFewLayers cs → length (flat_map context_names cs) ≤ length cs * 65
+context_count : (cs : List Context) → AllByRecursion HasFewLayers cs
+    → length (flat_map context_names cs) ≤ length cs * (1 + 2 * MOST_INSERTED)
 context_count [] few = omega arith
 context_count (c ∷ cs) few =
     let later = context_count cs few.1 in
@@ -226,8 +229,8 @@ context_count (c ∷ cs) few =
     let here = few.0 in
     omega (arith, later, both, layers, here)
 
-pub few : (core : CoreState) → length core.sources ≤ 256 → length core.masks ≤ 256 → length core.contexts ≤ 16
-    → AllByRecursion HasFewLayers core.contexts → length (core_names core) ≤ 1552
+pub few : (core : CoreState) → length core.sources ≤ MOST_SOURCES → length core.masks ≤ MOST_SOURCES → length core.contexts ≤ MOST_CONTEXTS
+    → AllByRecursion HasFewLayers core.contexts → length (core_names core) ≤ MOST_CORE_NAMES
 few core sources masks contexts layers =
     let names = length-append (map (λ s. s.stream) core.sources ++ map (λ m. m.stream) core.masks) (flat_map context_names core.contexts) in
     let linked = length-append (map (λ s. s.stream) core.sources) (map (λ m. m.stream) core.masks) in

@@ -26,6 +26,7 @@ use Rattle.wf_objects.specs.Owners.{StandsAt, joined, owned_context, owning_cont
 use Rattle.wf_model.specs.Outcome.{at_place}
 use Rattle.wf_objects.specs.Sides.{KeepsRest, core_side_of, with_streams}
 use Rattle.wf_model.specs.Outcome.{done_by, lacks_memory}
+use Rattle.wf_scene.specs.declared.TheConstants.{MOST_ELEMENTS}
 
 -- it leaves and answers what the plain call does before streams are dropped, where want of memory is told by the answer; a refused
 -- one changes nothing; of the store it makes or takes handles at most, and the names of the objects became those that are left; and
@@ -68,7 +69,7 @@ scene_read call handle m c w = by_scene (call c.cached) >>= (λ n. Ok (w, n))
 -- one more element
 abbrev pub element_made : Step
 element_made handle m c w =
-    room (nat_le 64 (length c.cached.elements)) m w
+    room (nat_le MOST_ELEMENTS (length c.cached.elements)) m w
     >>= (λ _. Ok (created (change_context handle (with_cached (cached.add (w.made + 1) c.cached)) w.core) w))
 
 -- a new context of a device and of a port, or of none by 0, that draws into what is seen

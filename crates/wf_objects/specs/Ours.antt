@@ -7,6 +7,7 @@ use Rattle.wf_stream.specs.Counts.{times}
 use Rattle.wf_stream.specs.Streams.{StoreView, count_of}
 use Rattle.wf_stream.specs.Names.{HasRoom, NamesFit, Recounts}
 use Rattle.wf_stream.specs.Renames.{named_again}
+use Rattle.wf_model.specs.declared.TheConstants.{MOST_CORE_NAMES}
 
 pub record AreOurs (names : List ℕ) (v : StoreView) : Type 0 where
   pub fit : NamesFit names v
@@ -27,7 +28,7 @@ ours_again u v old new ours names =
     }
 
 -- and there is room for names where there are few
-pub ours_room : (names : List ℕ) (v : StoreView) → AreOurs names v → length names ≤ 1552 → HasRoom v
+pub ours_room : (names : List ℕ) (v : StoreView) → AreOurs names v → length names ≤ MOST_CORE_NAMES → HasRoom v
 ours_room names v ours few n =
     elim (n == 0) as (λ b. (n == 0) ≡ b → count_of n v < 2147483648) [
       | true ↦ λ is. (

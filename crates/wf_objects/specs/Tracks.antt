@@ -5,6 +5,7 @@ use Rattle.std.specs.List.{list_any}
 use Rattle.wf_words.specs.Keyed.{is_in}
 use Rattle.wf_members.specs.Membership.{Membership, is_open, limits, member_count, members_of, open_count}
 use Rattle.wf_model.specs.Objects.{Context, CoreState, Source}
+use Rattle.wf_model.specs.declared.TheConstants.{MOST_CONTEXTS, MOST_DEVICES, MOST_SOURCES}
 
 -- the owners are open, and what they own, each handle with its owner's, are their members; and so many of both there may be
 pub record Tracks (most : ℕ × ℕ) (members : Membership) (owners : List ℕ) (owned : List (ℕ × ℕ)) : Type 0 where
@@ -33,7 +34,15 @@ link_key s = (s.handle, s.context)
 abbrev pub link_keys : CoreState → List (ℕ × ℕ)
 link_keys core = map link_key core.sources ++ map link_key core.masks
 
--- the contexts of the devices, 8 with 16 contexts at most; and the sources and masks of the contexts, 16 with 256 at most
+-- how many owners there may be, and how many members: devices with their contexts, and contexts with their sources and masks
+
+abbrev pub most_of_devices : ℕ × ℕ
+most_of_devices = (MOST_DEVICES, MOST_CONTEXTS)
+
+abbrev pub most_of_contexts : ℕ × ℕ
+most_of_contexts = (MOST_CONTEXTS, MOST_SOURCES)
+
+-- the contexts of the devices, and the sources and masks of the contexts
 pub record AreTracked (contexts links : Membership) (core : CoreState) : Type 0 where
-  pub of_devices : Tracks (8, 16) contexts (device_handles core) (map context_key core.contexts)
-  pub of_contexts : Tracks (16, 256) links (context_handles core) (link_keys core)
+  pub of_devices : Tracks most_of_devices contexts (device_handles core) (map context_key core.contexts)
+  pub of_contexts : Tracks most_of_contexts links (context_handles core) (link_keys core)

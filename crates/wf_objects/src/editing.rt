@@ -28,7 +28,7 @@ fn scene_refusal(refused: Refused) -> Refusal
     }
 }
 
-/// The number that a cached scene answers, or its refusal.
+/// Returns the number that a cached scene answers, or its refusal.
 pub fn by_scene(done: Result<u32, Refused>) -> Result<u32, Refusal>
     ensures { result ≡ by_scene done }
 {

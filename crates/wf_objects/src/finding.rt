@@ -20,7 +20,7 @@ use wf_calls::{Code, Refusal};
 use wf_scene::Cached;
 use wf_stream::{Kind, Store};
 
-/// The key of the live object of this kind that has the handle.
+/// Finds the key of the live object of this kind that has the handle.
 pub fn key_of(store: &Store, handle: u32, kind: Kind) -> Option<u32>
     requires { is_stream kind ≡ false }
     ensures { result ≡ key_of handle kind store.now.others }
@@ -45,7 +45,7 @@ fn is_owned(links: &[Link], contexts: &[Context], device: u32, handle: u32) -> b
 }
 
 impl Objects {
-    /// A device lives, or the refusal BadDevice.
+    /// Checks that a device lives, or refuses by BadDevice.
     pub fn check_device(&self, store: &Store, device: u32) -> Result<(), Refusal>
         requires { Fits self.now store.now }
         ensures { result ≡ live_device device (core_side_of self.now store.now) }
@@ -56,7 +56,7 @@ impl Objects {
         }
     }
 
-    /// A device lives and has this source, or this mask; or the refusal: BadDevice, or BadHandle.
+    /// Checks that a device lives and has this source, or this mask, or refuses by BadDevice or BadHandle.
     pub fn check_link_owned(
         &self,
         store: &Store,
@@ -100,7 +100,7 @@ impl Objects {
         }
     }
 
-    /// The place of a context, or the refusal: BadDevice, or BadHandle.
+    /// Finds the place of a context, or refuses by BadDevice or BadHandle.
     pub fn context_place(&self, store: &Store, device: u32, context: u32) -> Result<usize, Refusal>
         requires { Fits self.now store.now }
         ensures found { at_place result self.now.contexts ≡ owned_context device context (core_side_of self.now store.now) }
@@ -125,7 +125,7 @@ impl Objects {
         }
     }
 
-    /// The place of the context in which an element lives, or the refusal: BadDevice, or BadHandle.
+    /// Finds the place of the context in which an element lives, or refuses by BadDevice or BadHandle.
     pub fn element_place(&self, store: &Store, device: u32, element: u32) -> Result<usize, Refusal>
         requires { Fits self.now store.now }
         ensures found { at_place result self.now.contexts ≡ owning_context device element (core_side_of self.now store.now) }
@@ -137,7 +137,7 @@ impl Objects {
             .ok_or(Refusal::of(Code::BadHandle))
     }
 
-    /// A handle is 0 or that of a live element of the device.
+    /// Tells whether a handle is 0 or that of a live element of the device.
     pub fn is_element_or_0(&self, store: &Store, device: u32, handle: u32) -> bool
         requires { Fits self.now store.now }
         ensures { result ≡ is_element_or_0 device handle (core_side_of self.now store.now) }
@@ -145,21 +145,21 @@ impl Objects {
         handle == 0 || self.element_in_device(store, device, handle).is_some()
     }
 
-    /// A port has a context.
+    /// Tells whether a port has a context.
     pub fn has_port(&self, port: u32) -> bool
         ensures { result ≡ list_any (λ c. c.port == port) self.now.contexts }
     {
         self.contexts.iter().any(|context| context.port == port)
     }
 
-    /// A context draws into a stream.
+    /// Tells whether a context draws into a stream.
     pub fn has_target(&self, stream: u32) -> bool
         ensures { result ≡ list_any (λ c. c.target == stream) self.now.contexts }
     {
         self.contexts.iter().any(|context| context.target == stream)
     }
 
-    /// The cached scene of the context at a place.
+    /// Returns the cached scene of the context at a place.
     pub fn cached(&self, place: usize) -> &Cached
         requires { place < length self.now.contexts }
         ensures { IfSome (slice_get self.now.contexts place) (λ c. c.cached ≡ result.now) }

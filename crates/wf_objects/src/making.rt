@@ -15,12 +15,13 @@ ghost use Rattle.wf_objects.specs.Links.{link_kind, links, with_links};
 ghost use Rattle.wf_objects.specs.Sides.{core_side_of};
 ghost use Rattle.wf_model.specs.Outcome.{lacks_memory, refused_handle, without_value};
 
-use crate::objects::{MOST_CONTEXTS, MOST_DEVICES, MOST_ELEMENTS, MOST_SOURCES, Objects};
+use crate::objects::Objects;
 use crate::rows::{Context, Device, Link};
 use arrayvec::ArrayVec;
 use wf_calls::{Code, Refusal};
+use wf_model::{MOST_CONTEXTS, MOST_DEVICES, MOST_SOURCES};
 use wf_pixel::{Rgba, Rotation, Size};
-use wf_scene::{Cached, Scene, Seen};
+use wf_scene::{Cached, MOST_ELEMENTS, Scene, Seen};
 use wf_stream::{Kind, MakeStop, Store, begin_name};
 
 /// The handle of a new object, under which the store keeps this key.
@@ -69,7 +70,7 @@ impl Objects {
 
     /// One more source, or one more mask, of a live context. Its handle is no other's.
     fn push_link(&mut self, mask: bool, link: Link)
-        requires few { length self.old.sources + length self.old.masks < 256 }
+        requires few { length self.old.sources + length self.old.masks < MOST_SOURCES }
         requires live { IsTrue (list_any (λ c. c.handle == link.context) self.old.contexts) }
         requires named { link.handle ≢ 0 }
         requires fresh { (m : Bool) → IsFalse (list_any (λ s. s.handle == link.handle) (links m self.old)) }

@@ -9,7 +9,7 @@ ghost use Rattle.wf_model.specs.Names.{context_names, layer_names};
 ghost use Rattle.wf_stream.specs.Renames.{Renames};
 
 use crate::rows::Context;
-use wf_scene::Layer;
+use wf_scene::{Layer, MOST_INSERTED};
 use wf_stream::{Store, begin_name, end_name};
 
 /// The names of a layer begin.
@@ -28,7 +28,7 @@ fn begin_layer(store: &mut Store, layer: Layer)
 pub(crate) fn begin_layers(store: &mut Store, layers: &[Layer])
     requires counted { AreCounted store.old }
     requires fit { AllByRecursion (LayerFits store.old.streams) layers.now }
-    requires few { length layers.now ≤ 32 }
+    requires few { length layers.now ≤ MOST_INSERTED }
     requires room { HasRoom store.old }
     ensures begins { Renames [] (flat_map layer_names layers.now) store.old store.new }
     ensures streams { store.new.streams ≡ store.old.streams }

@@ -9,19 +9,8 @@ use crate::rows::{Context, Device, Link};
 use std::alloc::Global;
 use std::marker::Model;
 use wf_members::Members;
+use wf_model::{MOST_CONTEXTS, MOST_CORE_NAMES, MOST_DEVICES, MOST_SOURCES};
 use wf_words::NoMemory;
-
-/// How many devices live at most.
-pub(crate) const MOST_DEVICES: usize = 8;
-
-/// How many contexts live at most.
-pub(crate) const MOST_CONTEXTS: usize = 16;
-
-/// How many sources and masks live at most, those of the display included.
-pub(crate) const MOST_SOURCES: usize = 256;
-
-/// How many elements live in a context at most.
-pub(crate) const MOST_ELEMENTS: u32 = 64;
 
 /// The objects of composition: devices, contexts, sources and masks, each by rising handle. A context has its elements in
 /// its cached scene. Beside them the members tell which contexts each device has, and which sources and masks each context.
@@ -50,7 +39,7 @@ impl Model for Objects {
 }
 
 impl Objects {
-    /// No objects, with the room for all that may live.
+    /// Makes tables without objects, with the room for all that may live.
     pub fn new(alloc: Global) -> Result<Objects, NoMemory>
         ensures { IfOk result (λ made. made ≡ no_objects) }
     {
@@ -72,9 +61,9 @@ impl Objects {
         if mask { &self.masks } else { &self.sources }
     }
 
-    /// There are few names of streams: 256 sources and masks each, and 16 contexts with a target and 32 layers.
-    pub fn few_names(&self)
-        ensures { length (core_names self.now) ≤ 1552 }
+    /// Shows the prover that there are few names of streams. Does nothing at run time.
+    pub fn prove_few_names(&self)
+        ensures { length (core_names self.now) ≤ MOST_CORE_NAMES }
     {
         let _ = &self.sources;
     }

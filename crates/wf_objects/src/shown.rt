@@ -55,7 +55,7 @@ fn next_in(contexts: &[Context], after: u32) -> Option<(u32, Shown)>
 }
 
 impl Objects {
-    /// What a context shows. BadDevice is no live device, BadHandle no context of it.
+    /// Returns what a context shows. BadDevice is no live device, BadHandle no context of it.
     pub fn context(&self, device: u32, context: u32) -> Result<Shown, Code>
         ensures { result ≡ shown_context device context self.now }
     {
@@ -65,7 +65,7 @@ impl Objects {
         shown_in(&self.contexts, device, context).ok_or(Code::BadHandle)
     }
 
-    /// The active context with the least handle above another, of any device, and what it shows.
+    /// Returns the active context with the least handle above `after`, of any device, and what it shows.
     pub fn next(&self, after: u32) -> Option<(u32, Shown)>
         ensures { result ≡ next_shown after self.now }
     {

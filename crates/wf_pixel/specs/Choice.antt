@@ -1,10 +1,10 @@
 -- Small tests that the other definitions share.
-use Rattle.std.specs.Prelude.{ℕ, Bool, true, false, ◌&&◌, ◌==◌, nat_le, ℤ, pos, negsuc, int_le}
+use Rattle.std.specs.Prelude.{ℕ, ◌-◌, Bool, true, false, ◌&&◌, ◌==◌, nat_le, ℤ, pos, negsuc, int_le}
 use Rattle.wf_pixel.specs.declared.Format.{Format}
 use Rattle.wf_pixel.specs.declared.Format.TheVariants.{Rgba8, Rgba8Pre, Rgbx8, A8}
 use Rattle.wf_pixel.specs.declared.Rgba.{Rgba}
 use Rattle.wf_pixel.specs.declared.Size.{Size}
-use Rattle.wf_pixel.specs.declared.TheConstants.{MOST_SIDE}
+use Rattle.wf_pixel.specs.declared.TheConstants.{MOST_COORDINATE, MOST_SIDE}
 
 -- a side of an image, of a mode or of a stream
 abbrev pub is_side : ℕ → Bool
@@ -31,17 +31,17 @@ is_between low high z = int_le low z && int_le z high
 
 -- the coordinates of a rectangle are between these, both included
 abbrev pub least_coordinate : ℤ
-least_coordinate = negsuc 16383
+least_coordinate = negsuc (MOST_COORDINATE - 1)
 
 abbrev pub most_coordinate : ℤ
-most_coordinate = pos 16384
+most_coordinate = pos MOST_COORDINATE
 
 abbrev pub is_coordinate : ℤ → Bool
 is_coordinate z = is_between least_coordinate most_coordinate z
 
 -- and its sides are at most so long, before a side is asked for
 abbrev pub most_extent : ℕ
-most_extent = 16384
+most_extent = MOST_COORDINATE
 
 -- opaque black
 abbrev pub black : Rgba

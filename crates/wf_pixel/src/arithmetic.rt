@@ -14,7 +14,7 @@ pub fn mul(a: u8, b: u8) -> u8
 }
 
 /// Returns the place in `s` pixels at which the middle of pixel `i` of `w` lies, where both fill the same length. The sides are
-/// from 1 to 1024.
+/// from 1 to `MOST_SIDE`.
 pub fn samp(i: u32, w: u32, s: u32) -> u32
     requires i { i < w }
     requires w { w ≤ MOST_SIDE }

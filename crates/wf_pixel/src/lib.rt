@@ -17,6 +17,10 @@ pub const MOST_SIDE: u32 = 1024;
 /// The same as the length of a table.
 pub const SIDE_LEN: usize = MOST_SIDE as usize;
 
+/// The farthest that a coordinate of a rectangle may lie from 0, to either side; and the longest side that a rectangle may have
+/// where no side is asked for.
+pub const MOST_COORDINATE: u32 = 16_384;
+
 /// A colour: red, green, blue and alpha, each from 0 to 255.
 #[derive(Clone, Copy, Debug, Default, PartialEq, Eq)]
 pub struct Rgba {

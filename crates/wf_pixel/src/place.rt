@@ -54,8 +54,8 @@ pub fn turned_back(turn: Rotation, size: Size, x: u32, y: u32) -> (u32, u32)
 
 /// Returns the pixel of a source that shows at the point (`x`, `y`), or None exactly where the point is outside of `dest`. The
 /// rectangle `src` of the source is flipped from top to bottom where `flip` is set, then turned by `turn`, then scaled to
-/// `dest`, where each point takes the nearest pixel. Sides are from 1 to 1024 and coordinates from -16,384 to 16,384; those of
-/// `src` are not negative.
+/// `dest`, where each point takes the nearest pixel. Sides are from 1 to `MOST_SIDE`, and coordinates at most
+/// `MOST_COORDINATE` from 0; those of `src` are not negative.
 pub fn source_place(
     src: Rect,
     flip: bool,

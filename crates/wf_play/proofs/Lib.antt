@@ -5,3 +5,4 @@ pub mod Checks
 pub mod Says
 mod Rows
 pub mod FoundSame
+pub mod MadeOrders

@@ -1,4 +1,6 @@
 -- What the top call promises: its statuses, and what they say of the bytes and of the notes.
+
+-- What is promised: the words that the clauses of public functions stand on.
 pub mod Refusals
 pub mod Parts
 pub mod Check

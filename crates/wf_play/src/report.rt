@@ -32,7 +32,7 @@ pub enum Status {
 }
 
 impl Status {
-    /// The exit status of the program.
+    /// Returns the exit status of the program.
     pub fn exit(&self) -> u8
         ensures { result ≡ exit_of self.now }
     {

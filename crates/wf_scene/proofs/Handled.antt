@@ -14,6 +14,7 @@ use Rattle.wf_scene.specs.Keeping.{KeepsHandle, KeepsPlace}
 use Rattle.wf_scene.proofs.Once.{any_key}
 use Rattle.wf_scene.proofs.Kept.{apart_without, apart_inserted, absent_less, in_less, all_without, all_inserted, length_without}
 use Rattle.wf_scene.proofs.Kept.{length_inserted}
+use Rattle.wf_scene.specs.declared.TheConstants.{MOST_ELEMENTS}
 
 -- an element lives where its handle is one of the handles
 pub live_handle : (h : ℕ) (es : List Element) → is_live h es ≡ is_in h (handles es)
@@ -118,7 +119,7 @@ module _ (c : CachedScene) (orderly : IsOrderly c) where
         room = omega (arith, orderly.room, length_without h c.order);
       }
 
-  pub orderly_added : (h : ℕ) → length c.elements < 64 → 0 < h → has_element h c ≡ false → IsOrderly (add h c)
+  pub orderly_added : (h : ℕ) → length c.elements < MOST_ELEMENTS → 0 < h → has_element h c ≡ false → IsOrderly (add h c)
   orderly_added h few named fresh =
       let more = map-append handle_of c.elements (new_element h ∷ []) in
       let absent = sym (live_handle h c.elements) ∙ fresh in

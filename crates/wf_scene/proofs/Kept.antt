@@ -7,6 +7,7 @@ use Rattle.std.proofs.lemmas.Bool.Decides.{nat_tests}
 use Rattle.wf_words.specs.Keyed.{is_in}
 use Rattle.wf_scene.specs.Order.{AreApart, without, with_next, put_above, inserted, has_no_room}
 use Rattle.wf_scene.proofs.Once.{none_followed}
+use Rattle.wf_scene.specs.declared.TheConstants.{MOST_INSERTED}
 
 -- a handle that is not in an order is not in it without another
 pub absent_less : (z h : ℕ) (xs : List ℕ) → is_in z xs ≡ false → is_in z (without h xs) ≡ false
@@ -109,14 +110,14 @@ shorter h (x ∷ xs) there =
     grind (arith, nat_tests, later, rest, there)
 
 -- an order that has room for a handle has it without the handle too
-pub room_without : (h : ℕ) (xs : List ℕ) → length xs ≤ 32 → has_no_room h xs ≡ false → length (without h xs) < 32
+pub room_without : (h : ℕ) (xs : List ℕ) → length xs ≤ MOST_INSERTED → has_no_room h xs ≡ false → length (without h xs) < MOST_INSERTED
 room_without h xs few room = go (is_in h xs) refl
   where
-    go : (b : Bool) → is_in h xs ≡ b → length (without h xs) < 32
+    go : (b : Bool) → is_in h xs ≡ b → length (without h xs) < MOST_INSERTED
     go true e = omega (arith, shorter h xs e)
     go false e =
-        let free : nat_le 32 (length xs) ≡ false = grind (arith, nat_tests, e, room) in
-        omega (arith, length_without h xs, leb-false 32 (length xs) free)
+        let free : nat_le MOST_INSERTED (length xs) ≡ false = grind (arith, nat_tests, e, room) in
+        omega (arith, length_without h xs, leb-false MOST_INSERTED (length xs) free)
 
 -- a handle that is put directly above another makes an order one longer
 length_next : (b h : ℕ) (xs : List ℕ) → AreApart xs → length (flat_map (with_next b h) xs) ≤ suc (length xs)
@@ -130,14 +131,15 @@ length_next b h (x ∷ xs) apart = go (length_next b h xs apart.1) (x == b) refl
         rw (none_followed (λ z. z == b) h xs none) (omega arith)
     go later false e = omega arith
 
--- an order that has room for a handle has at most 32 with it
-pub length_inserted : (h b : ℕ) (xs : List ℕ) → AreApart xs → length xs ≤ 32 → has_no_room h xs ≡ false → length (inserted h b xs) ≤ 32
+-- an order that has room for a handle has at most as many as may be inserted with it
+pub length_inserted : (h b : ℕ) (xs : List ℕ) → AreApart xs → length xs ≤ MOST_INSERTED → has_no_room h xs ≡ false
+    → length (inserted h b xs) ≤ MOST_INSERTED
 length_inserted h b xs apart few room = go (h == b) (b == 0)
   where
-    rest : length (without h xs) < 32
+    rest : length (without h xs) < MOST_INSERTED
     rest = room_without h xs few room
 
-    go : (c z : Bool) → length (cond c xs (cond z (h ∷ without h xs) (flat_map (with_next b h) (without h xs)))) ≤ 32
+    go : (c z : Bool) → length (cond c xs (cond z (h ∷ without h xs) (flat_map (with_next b h) (without h xs)))) ≤ MOST_INSERTED
     go true z = few
     go false true = rest
     go false false = omega (arith, rest, length_next b h (without h xs) (apart_without h xs apart))

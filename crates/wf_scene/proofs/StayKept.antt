@@ -22,6 +22,7 @@ use Rattle.wf_scene.proofs.BySlot.{without_by_slot}
 use Rattle.wf_scene.proofs.Held.{found_slot, handles_all, handles_changed, held_changed, held_more}
 use Rattle.wf_scene.proofs.OneMore.{in_less_is_in, one_less}
 use Rattle.wf_scene.proofs.UsedSlots.{used_within, used_apart, tells_used}
+use Rattle.wf_scene.specs.declared.TheConstants.{MOST_ELEMENTS}
 
 -- what is true of an element that is written back changed into its slot
 pub record IsWrittenBack (t : List Element) (used inserted : List ℕ) (h s : ℕ) (changed : Element) (q : Option (Element → Element))
@@ -56,7 +57,7 @@ module _ (t : List Element) (used : List ℕ) (o : NodeLists) (n : ℕ) (kept : 
       record {
         linked = linked;
         slots = kept.slots;
-        within = rw dropped (each_filtered (λ x. x < 64) (λ x. not (x == s)) used kept.within);
+        within = rw dropped (each_filtered (λ x. x < MOST_ELEMENTS) (λ x. not (x == s)) used kept.within);
         apart = rw (dropped, handles_all, ← without_by_slot (handle_held t) s used (tells_used t used o n kept s there))
             (apart_without (handle_held t s) (handles_held t used) (rw handles_all at kept.apart));
         live = λ x inside. rw dropped (stays x (rw is at inside));
@@ -84,7 +85,7 @@ module _ (t : List Element) (used : List ℕ) (o : NodeLists) (n : ℕ) (kept : 
       record {
         linked = linked;
         slots = rw written (length-set t s e ∙ kept.slots);
-        within = rw used_more (each_more (λ x. x < 64) used s kept.within (free_within o kept.linked s free));
+        within = rw used_more (each_more (λ x. x < MOST_ELEMENTS) used s kept.within (free_within o kept.linked s free));
         apart = rw (written, used_more, held_more t s e used within (kept.free s free), handles_more)
             (apart_more e.handle (handles_held t used) (rw handles_all at kept.apart) fresh);
         live = λ x inside. rw used_more (in_more x s used (kept.live x (rw is at inside)));

@@ -1,4 +1,4 @@
--- The two lists of links: a slot stands once in one of them at most, and is one of the 64.
+-- The two lists of links: a slot stands once in one of them at most, and is one of those that there are.
 use Rattle.std.proofs.Common.{◌≡◌, ℕ, ◌<◌, true, false, ◌==◌, List, [], ◌∷◌, ◌++◌, Some, IsSome, refl, sym, ap}
 use Rattle.std.proofs.Common.{reverse, subst, ◌∙◌, append-nil}
 use Rattle.std.specs.List.{AllByRecursion}
@@ -10,6 +10,7 @@ use Rattle.wf_links.specs.Lists.{NodeLists, above, below, list_of, lowest, next_
 use Rattle.wf_links.specs.Together.{apart_back, is_in-append, is_in-reverse, once_back, once_front}
 use Rattle.wf_scene.specs.Slots.{IsLinked, free_in, inserted_in, two_lists}
 use Rattle.wf_scene.proofs.Once.{none_out}
+use Rattle.wf_scene.specs.declared.TheConstants.{MOST_ELEMENTS}
 
 -- what holds of all numbers holds of each
 pub each_in : (P : ℕ → Type 0) (n : ℕ) (xs : List ℕ) → AllByRecursion P xs → is_in n xs ≡ true → P n
@@ -29,7 +30,7 @@ module _ (o : NodeLists) (linked : IsLinked o) where
   all_once : NoneTwice (inserted_in o ++ free_in o)
   all_once = rw append-nil at (rw linked.two at linked.orderly.once)
 
-  all_within : AllByRecursion (λ s. s < 64) (inserted_in o ++ free_in o)
+  all_within : AllByRecursion (λ s. s < MOST_ELEMENTS) (inserted_in o ++ free_in o)
   all_within = rw append-nil at (rw linked.two at linked.orderly.within)
 
   pub inserted_once : NoneTwice (inserted_in o)
@@ -44,14 +45,14 @@ module _ (o : NodeLists) (linked : IsLinked o) where
   pub not_inserted : (s : ℕ) → is_in s (free_in o) ≡ true → is_in s (inserted_in o) ≡ false
   not_inserted s there = false_from_ne_true (is_in s (inserted_in o)) (λ both. both_ways (is_in s (free_in o)) (not_free s both) there)
 
-  pub inserted_within : (s : ℕ) → is_in s (inserted_in o) ≡ true → s < 64
+  pub inserted_within : (s : ℕ) → is_in s (inserted_in o) ≡ true → s < MOST_ELEMENTS
   inserted_within s there =
-      each_in (λ n. n < 64) s (inserted_in o ++ free_in o) all_within
+      each_in (λ n. n < MOST_ELEMENTS) s (inserted_in o ++ free_in o) all_within
       (is_in-append s (inserted_in o) (free_in o) ∙ or_left (is_in s (inserted_in o)) (is_in s (free_in o)) there)
 
-  pub free_within : (s : ℕ) → is_in s (free_in o) ≡ true → s < 64
+  pub free_within : (s : ℕ) → is_in s (free_in o) ≡ true → s < MOST_ELEMENTS
   free_within s there =
-      each_in (λ n. n < 64) s (inserted_in o ++ free_in o) all_within
+      each_in (λ n. n < MOST_ELEMENTS) s (inserted_in o ++ free_in o) all_within
       (is_in-append s (inserted_in o) (free_in o) ∙ or_right (is_in s (inserted_in o)) (is_in s (free_in o)) there)
 
   -- the lists without a slot of the one, and without a slot of the other
@@ -84,11 +85,11 @@ module _ (o : NodeLists) (linked : IsLinked o) where
   pub below_is : (s : ℕ) → is_in s (inserted_in o) ≡ true → below s o.lists ≡ next_after s (reverse (inserted_in o))
   below_is s there = rw linked.two (rw there refl)
 
-  pub above_within : (s x : ℕ) → is_in s (inserted_in o) ≡ true → above s o.lists ≡ Some x → x < 64
+  pub above_within : (s x : ℕ) → is_in s (inserted_in o) ≡ true → above s o.lists ≡ Some x → x < MOST_ELEMENTS
   above_within s x there is =
       inserted_within x (next_in s x (inserted_in o) (sym (above_is s there) ∙ is))
 
-  pub below_within : (s x : ℕ) → is_in s (inserted_in o) ≡ true → below s o.lists ≡ Some x → x < 64
+  pub below_within : (s x : ℕ) → is_in s (inserted_in o) ≡ true → below s o.lists ≡ Some x → x < MOST_ELEMENTS
   below_within s x there is =
       inserted_within x (sym (is_in-reverse x (inserted_in o)) ∙ next_in s x (reverse (inserted_in o)) (sym (below_is s there) ∙ is))
 

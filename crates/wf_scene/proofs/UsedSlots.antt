@@ -20,14 +20,15 @@ use Rattle.wf_scene.proofs.BySlot.{Tells, above_by_slot, apart_slots, below_by_s
 use Rattle.wf_scene.proofs.BySlot.{without_by_slot}
 use Rattle.wf_scene.proofs.Held.{found_slot, handles_all, held_by_handle, named_found}
 use Rattle.wf_scene.proofs.OneMore.{in_less_is_in}
+use Rattle.wf_scene.specs.declared.TheConstants.{MOST_ELEMENTS}
 
 only_first : (a b : Bool) → b ≡ false → (a || b) ≡ true → a ≡ true
 only_first true b out any = refl
 only_first false b out any = absurd (both_ways b out any)
 
 module _ (t : List Element) (used : List ℕ) (o : NodeLists) (n : ℕ) (kept : IsKeptBy t used o n) where
-  pub used_within : (s : ℕ) → is_in s used ≡ true → s < 64
-  used_within s there = each_in (λ x. x < 64) s used kept.within there
+  pub used_within : (s : ℕ) → is_in s used ≡ true → s < MOST_ELEMENTS
+  used_within s there = each_in (λ x. x < MOST_ELEMENTS) s used kept.within there
 
   pub used_apart : AreApart used
   used_apart = apart_slots (handle_held t) used (rw handles_all at kept.apart)

@@ -19,6 +19,7 @@ use Rattle.wf_pixel.specs.Choice.{black, is_coordinate}
 use Rattle.wf_scene.specs.Elements.{new_element, change_of, numbers}
 use Rattle.wf_scene.specs.Order as order
 use Rattle.wf_scene.specs.Order.{AreApart}
+use Rattle.wf_scene.specs.declared.TheConstants.{MOST_ELEMENTS, MOST_INSERTED}
 
 -- the target's size, whether it is a screen, the turn, the background, the live elements in the order in which they
 -- were added, and the handles of the inserted ones from the bottom up
@@ -126,8 +127,8 @@ is_placed e = is_coordinate e.style.dest.x && is_coordinate e.style.dest.y
 pub record IsOrderly (c : CachedScene) : Type 0 where
   pub apart : AreApart (handles c.elements)
   pub named : is_in 0 (handles c.elements) ≡ false
-  pub few : length c.elements ≤ 64
+  pub few : length c.elements ≤ MOST_ELEMENTS
   pub placed : IsTrue (list_all is_placed c.elements)
   pub once : AreApart c.order
   pub live : IsTrue (list_all (λ handle. is_in handle (handles c.elements)) c.order)
-  pub room : length c.order ≤ 32
+  pub room : length c.order ≤ MOST_INSERTED

@@ -27,7 +27,7 @@ has_source sight e = is_some (sight.source e.source)
 abbrev pub is_inside : Sight → Element → Bool
 is_inside sight e = option_map_or (λ s. holds_rect s.size e.style.src) (sight.source e.source) false
 
--- its destination has sides of 1 to 1024
+-- its destination has sides that an image may have
 abbrev pub has_destination : Element → Bool
 has_destination e = has_sides (size_of e.style.dest)
 

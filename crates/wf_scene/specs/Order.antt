@@ -3,6 +3,7 @@
 use Rattle.std.specs.Prelude.{◌≡◌, ℕ, ◌+◌, Bool, false, not, ◌&&◌, ◌||◌, ◌==◌, nat_le, List, [], ◌∷◌, filter, flat_map, length, slice_index}
 use Rattle.std.specs.Prelude.{position, Option, option_map, if◌then◌else◌}
 use Rattle.wf_words.specs.Keyed.{is_in}
+use Rattle.wf_scene.specs.declared.TheConstants.{MOST_INSERTED}
 
 -- no number stands twice
 abbrev pub AreApart : List ℕ → Type 0
@@ -28,9 +29,9 @@ inserted handle base order = if handle == base then order else put_above base ha
 abbrev pub is_base : ℕ → List ℕ → Bool
 is_base base order = (base == 0) || is_in base order
 
--- 32 are inserted, and this is none of them
+-- the most are inserted, and this is none of them
 abbrev pub has_no_room : ℕ → List ℕ → Bool
-has_no_room handle order = nat_le 32 (length order) && not (is_in handle order)
+has_no_room handle order = nat_le MOST_INSERTED (length order) && not (is_in handle order)
 
 -- how many stand below a handle, or none where it is not inserted
 abbrev pub place_of : ℕ → List ℕ → Option ℕ

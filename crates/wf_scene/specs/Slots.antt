@@ -11,10 +11,11 @@ use Rattle.wf_scene.specs.declared.slots.Slots.{Slots}
 use Rattle.wf_scene.specs.Elements.{new_element}
 use Rattle.wf_scene.specs.Order.{AreApart}
 use Rattle.wf_scene.specs.Cached.{handles}
+use Rattle.wf_scene.specs.declared.TheConstants.{MOST_ELEMENTS}
 
--- the links of 64 slots: two lists, of the slots of the inserted elements from the bottom up, and of the free slots
+-- the links of slots: two lists, of the slots of the inserted elements from the bottom up, and of the free slots
 abbrev pub two_lists : List ℕ → List ℕ → NodeLists
-two_lists inserted free = record { nodes = 64; lists = inserted ∷ free ∷ [] }
+two_lists inserted free = record { nodes = MOST_ELEMENTS; lists = inserted ∷ free ∷ [] }
 
 abbrev pub inserted_in : NodeLists → List ℕ
 inserted_in links = list_at 0 links.lists
@@ -31,7 +32,7 @@ pub record IsLinked (o : NodeLists) : Type 0 where
 pub record IsAllFree (o : NodeLists) : Type 0 where
   pub linked : IsLinked o
   pub none : inserted_in o ≡ []
-  pub all : length (free_in o) ≡ 64
+  pub all : length (free_in o) ≡ MOST_ELEMENTS
 
 -- the element in a slot, where the slot is used
 abbrev pub held : List Element → ℕ → Element
@@ -66,12 +67,12 @@ order_in s = handles_held s.table.items (inserted_in s.links)
 -- each slot is used or free: a used one holds an element of its own, and only used ones are inserted, so many as are counted
 pub record IsKeptBy (table : List Element) (used : List ℕ) (o : NodeLists) (count : ℕ) : Type 0 where
   pub linked : IsLinked o
-  pub slots : length table ≡ 64
-  pub within : AllByRecursion (λ slot. slot < 64) used
+  pub slots : length table ≡ MOST_ELEMENTS
+  pub within : AllByRecursion (λ slot. slot < MOST_ELEMENTS) used
   pub apart : AreApart (handles (all_held table used))
   pub live : (slot : ℕ) → is_in slot (inserted_in o) ≡ true → is_in slot used ≡ true
   pub free : (slot : ℕ) → is_in slot (free_in o) ≡ true → is_in slot used ≡ false
-  pub all : length used + length (free_in o) ≡ 64
+  pub all : length used + length (free_in o) ≡ MOST_ELEMENTS
   pub counted : count ≡ length (inserted_in o)
 
 abbrev pub IsKept : Slots → Type 0

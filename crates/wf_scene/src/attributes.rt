@@ -9,7 +9,7 @@ const MOST_HANDLE: i64 = 4_294_967_295;
 /// The attributes of an element. All of them can be set.
 #[derive(Clone, Copy, Debug, PartialEq, Eq)]
 pub enum ElementAttr {
-    /// Four numbers x, y, w, h: where it shows. x and y are from -16,384 to 16,384, w and h from 0 to 16,384.
+    /// Four numbers x, y, w, h: where it shows. x and y are at most `MOST_COORDINATE` from 0, and w and h at most that.
     Dest,
     /// The handle of the source that it shows, or 0.
     Source,

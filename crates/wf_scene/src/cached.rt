@@ -13,7 +13,7 @@ use crate::attributes::{ContextAttr, ElementAttr, Refused};
 use crate::consistency::layers_of;
 use crate::look::{Fault, Look};
 use crate::slots::Slots;
-use crate::{Scene, values};
+use crate::{MOST_ELEMENTS, Scene, values};
 use std::alloc::Global;
 use std::marker::Model;
 use wf_pixel::{Rgba, Rotation, Size};
@@ -84,7 +84,7 @@ impl Cached {
 
     /// Adds `element`, a handle that is not 0, with the initial attributes.
     pub fn add(&mut self, element: u32)
-        requires room { length self.old.elements < 64 }
+        requires room { length self.old.elements < MOST_ELEMENTS }
         requires handle { 0 < element }
         requires fresh { cached.has_element element self.old ≡ false }
         ensures added { self.new ≡ cached.add element self.old }

@@ -8,21 +8,21 @@ ghost use Rattle.wf_scene.specs.Layers as layers;
 ghost use Rattle.wf_scene.specs.Slots.{IsKept, elements_in, order_in};
 ghost use Rattle.wf_scene.specs.Consistent as scene;
 
-use crate::Layer;
 use crate::element::Element;
 use crate::linked::INSERTED;
 use crate::look::{Fault, Look};
 use crate::slots::Slots;
+use crate::{Layer, MOST_INSERTED};
 use arrayvec::ArrayVec;
 use wf_pixel::{MOST_SIDE, Rect, Size};
 
 /// Layers from the bottom up.
-type Layers = ArrayVec<Layer, 32>;
+type Layers = ArrayVec<Layer, MOST_INSERTED>;
 
 /// The layers that show the inserted elements, or the first fault, both from the bottom up.
 pub(crate) fn layers_of<L: Look>(look: &L, slots: &Slots) -> Result<Layers, Fault>
     requires kept { IsKept slots.now }
-    requires room { length (order_in slots.now) ≤ 32 }
+    requires room { length (order_in slots.now) ≤ MOST_INSERTED }
     ensures fault { let inserted = scene.elements_of (order_in slots.now) (elements_in slots.now) in
         result_err result ≡ scene.fault_from (L.sight look.now) 1 inserted }
     ensures layers { let inserted = scene.elements_of (order_in slots.now) (elements_in slots.now) in
@@ -102,7 +102,7 @@ fn ends_within(start: i32, len: u32, side: u32) -> bool
     i64::from(start) + i64::from(len) <= i64::from(side)
 }
 
-/// Tells whether `r` has sides of 1 to 1024.
+/// Tells whether `r` has sides from 1 to `MOST_SIDE`.
 pub fn has_sides(r: Rect) -> bool
     ensures { result ≡ choice.has_sides (size_of r) }
 {

@@ -26,6 +26,12 @@ pub use style::{Filter, Style};
 use wf_pixel::{Rect, Rgba, Rotation, Size, Transparency};
 pub use wf_words::NoMemory;
 
+/// The most elements of a context.
+pub const MOST_ELEMENTS: u32 = 64;
+
+/// The most of them that are inserted, and so the most layers of a scene.
+pub const MOST_INSERTED: usize = 32;
+
 /// One layer of a scene: which stream it shows and through which mask, by their numbers (0 is no mask); which part of
 /// the stream's image, and where; flipped from top to bottom, and then turned; and how transparent.
 #[derive(Clone, Copy, Debug, PartialEq, Eq)]
@@ -55,7 +61,7 @@ pub struct Scene {
     pub size: Size,
     pub turn: Rotation,
     pub background: Rgba,
-    pub layers: ArrayVec<Layer, 32>,
+    pub layers: ArrayVec<Layer, MOST_INSERTED>,
 }
 
 impl Scene {

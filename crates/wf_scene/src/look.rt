@@ -14,7 +14,7 @@ pub struct Seen {
 
 /// The first rule that a cached scene breaks: the place of the element, from 1 at the bottom, and the rule. Rule 1: its
 /// source is live. Rule 2: its source rectangle has sides of at least 1 and lies inside the source. Rule 3: its
-/// destination has sides of 1 to 1024. Rule 4: where a mask applies, its mask is live and has the destination's size.
+/// destination has sides from 1 to `MOST_SIDE`. Rule 4: where a mask applies, its mask is live and has the destination's size.
 #[derive(Clone, Copy, Debug, PartialEq, Eq)]
 pub struct Fault {
     pub place: u32,

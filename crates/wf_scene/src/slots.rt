@@ -11,20 +11,18 @@ ghost use Rattle.wf_scene.specs.Slots.{IsEmpty, IsKept, elements_in, free_in, ha
 
 use crate::element::Element;
 use crate::linked::{self, INSERTED, SLOTS};
+use crate::{MOST_ELEMENTS, MOST_INSERTED};
 use arrayvec::ArrayVec;
 use std::alloc::Global;
 use wf_links::Links;
 use wf_words::NoMemory;
 
-/// How many elements are inserted at most.
-const MOST_INSERTED: u32 = 32;
-
-/// A table of 64 slots, each with an element or free; the used slots, in the order in which their elements were added; the
+/// A table of slots, each with an element or free; the used slots, in the order in which their elements were added; the
 /// links, which have the slots of the inserted elements from the bottom up, and the free slots; and how many are inserted.
 #[derive(Drop)]
 pub(crate) struct Slots {
     pub(crate) table: Vec<Element>,
-    used: ArrayVec<u32, 64>,
+    used: ArrayVec<u32, SLOTS>,
     pub(crate) links: Links,
     inserted: u32,
 }
@@ -34,7 +32,7 @@ impl Slots {
     pub(crate) fn new(alloc: Global) -> Result<Slots, NoMemory>
         ensures { IfOk result IsEmpty }
     {
-        let table = vec![in alloc; Element::new(0); SLOTS as usize]?;
+        let table = vec![in alloc; Element::new(0); SLOTS]?;
         let links = linked::all_free(alloc)?;
         Ok(Slots {
             table,
@@ -110,7 +108,7 @@ impl Slots {
     /// One more element, with the initial attributes.
     pub(crate) fn add(&mut self, handle: u32)
         requires kept { IsKept self.old }
-        requires room { length (elements_in self.old) < 64 }
+        requires room { length (elements_in self.old) < MOST_ELEMENTS }
         requires fresh { cached.is_live handle (elements_in self.old) ≡ false }
         ensures elements { elements_in self.new ≡ elements_in self.old ++ new_element handle ∷ [] }
         ensures order { order_in self.new ≡ order_in self.old }
@@ -164,12 +162,12 @@ impl Slots {
         base == 0 || self.is_inserted(base)
     }
 
-    /// Whether there is no room for an element: 32 are inserted, and it is none of them.
+    /// Whether there is no room for an element: the most are inserted, and it is none of them.
     pub(crate) fn has_no_room(&self, handle: u32) -> bool
         requires { IsKept self.now }
         ensures { result ≡ orders.has_no_room handle (order_in self.now) }
     {
-        self.inserted >= MOST_INSERTED && !self.is_inserted(handle)
+        self.inserted as usize >= MOST_INSERTED && !self.is_inserted(handle)
     }
 
     /// The lowest handle, or 0.
@@ -227,7 +225,7 @@ impl Slots {
         requires live { IsTrue (cached.is_live handle (elements_in self.old)) }
         requires named { is_in 0 (cached.handles (elements_in self.old)) ≡ false }
         requires base { IsTrue (orders.is_base base (order_in self.old)) }
-        requires room { length (orders.without handle (order_in self.old)) < 32 }
+        requires room { length (orders.without handle (order_in self.old)) < MOST_INSERTED }
         ensures elements { elements_in self.new ≡ elements_in self.old }
         ensures order { order_in self.new ≡ orders.inserted handle base (order_in self.old) }
         ensures kept { IsKept self.new }
@@ -262,7 +260,7 @@ impl Slots {
         requires used { is_in slot self.old.used.items ≡ true }
         requires out { is_in slot (inserted_in self.old.links) ≡ false }
         requires base { ForSome base (λ b. is_in b (inserted_in self.old.links) ≡ true) }
-        requires room { length (inserted_in self.old.links) < 32 }
+        requires room { length (inserted_in self.old.links) < MOST_INSERTED }
         ensures put { self.new ≡ record self.old {
           links = two_lists (lists.put_above base slot (inserted_in self.old.links)) (free_in self.old.links);
           inserted = self.new.inserted;
@@ -275,7 +273,7 @@ impl Slots {
 }
 
 /// Drops a slot from those that are used.
-fn drop_slot(used: &mut ArrayVec<u32, 64>, slot: u32)
+fn drop_slot(used: &mut ArrayVec<u32, SLOTS>, slot: u32)
     requires { orders.AreApart used.old.items }
     ensures { used.new.items ≡ orders.without slot used.old.items }
 {

@@ -5,9 +5,9 @@ ghost use Rattle.std.specs.Prelude.{◌≡◌, pos, length};
 ghost use Rattle.wf_scene.specs.Values as number;
 
 use crate::style::Filter;
-use wf_pixel::{Rect, Rgba, Rotation, Transparency};
+use wf_pixel::{MOST_COORDINATE, Rect, Rgba, Rotation, Transparency};
 
-/// Returns the rectangle of x, y, w and h in `value`: x and y from -16,384 to 16,384, w and h from 0 to 16,384.
+/// Returns the rectangle of x, y, w and h in `value`, where each is in its range.
 pub fn rect_of(value: [i64; 4]) -> Option<Rect>
     ensures { result ≡ number.rect_of value }
 {
@@ -19,22 +19,22 @@ pub fn rect_of(value: [i64; 4]) -> Option<Rect>
     })
 }
 
-/// A number from -16,384 to 16,384.
+/// A number that a coordinate may have.
 fn coordinate_of(z: i64) -> Option<i32>
     ensures { result ≡ number.coordinate_of z }
 {
-    if -16_384 <= z && z <= 16_384 {
+    if -i64::from(MOST_COORDINATE) <= z && z <= i64::from(MOST_COORDINATE) {
         Some(z as i32)
     } else {
         None
     }
 }
 
-/// A number from 0 to 16,384.
+/// A number that a side may have.
 fn extent_of(z: i64) -> Option<u32>
     ensures { result ≡ number.extent_of z }
 {
-    if 0 <= z && z <= 16_384 {
+    if 0 <= z && z <= i64::from(MOST_COORDINATE) {
         Some(z as u32)
     } else {
         None

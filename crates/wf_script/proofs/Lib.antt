@@ -30,3 +30,4 @@ pub mod Judged
 pub mod PaintJudged
 pub mod FormJudged
 pub mod LineJudged
+pub mod MadeStands

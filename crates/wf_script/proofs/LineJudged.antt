@@ -30,6 +30,8 @@ use Rattle.wf_script.specs.Words.{Word, client_of, count_in, is_allowed, lines_o
 use Rattle.wf_script.proofs.FormJudged.{Uses, form_judged}
 use Rattle.wf_script.proofs.Judged.{Judged, WordJudged}
 use Rattle.wf_script.proofs.WordBack.{name_is}
+use Rattle.wf_script.specs.declared.TheConstants.{MOST_LINES}
+use Rattle.wf_calls.specs.declared.TheConstants.{MOST_PIPELINES}
 
 -- a kind of line by its words, as the grammar reads it
 abbrev line_by_kind : Reading → LineKind → Result Reading Rule
@@ -86,10 +88,11 @@ one_count r None = refl
 one_count r (Some n) = refl
 
 one_judged : (r : Reading) (ws : List Word)
-    → refusal (alone ws >>= (λ w. found_or rule.Word (count_in 0 8 w) >>= (λ count. Ok (record r { pipes = Some count }))))
-    ≡ cond (not (length ws == 1)) (Some rule.Count) (cond (list_any (λ w. not (is_some (count_in 0 8 w))) ws) (Some rule.Word) None)
+    → refusal (alone ws >>= (λ w. found_or rule.Word (count_in 0 MOST_PIPELINES w) >>= (λ count. Ok (record r { pipes = Some count }))))
+    ≡ cond (not (length ws == 1)) (Some rule.Count)
+    (cond (list_any (λ w. not (is_some (count_in 0 MOST_PIPELINES w))) ws) (Some rule.Word) None)
 one_judged r [] = refl
-one_judged r (w ∷ []) = one_count r (count_in 0 8 w)
+one_judged r (w ∷ []) = one_count r (count_in 0 MOST_PIPELINES w)
 one_judged r (w ∷ v ∷ vs) =
     let more : (suc (suc (length vs)) == 1) ≡ false = grind (arith, nat_tests) in
     rw more refl
@@ -246,7 +249,7 @@ lines_judged n r [] =
       | false ↦ refl
     ]
 lines_judged n r (l ∷ ls) =
-    of_room (nat_lt 16384 n) (of_line (read_line r l) (least_broken r l) (line_judged r l) (λ left. lines_judged (n + 1) left ls))
+    of_room (nat_lt MOST_LINES n) (of_line (read_line r l) (least_broken r l) (line_judged r l) (λ left. lines_judged (n + 1) left ls))
   where
     of_line : (read : Result Reading Rule) (least : Option Rule) → refusal read ≡ least
         → ((left : Reading) → refusal (read_lines (n + 1) left ls) ≡ lines_fault (n + 1) left ls)

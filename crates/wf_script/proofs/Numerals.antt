@@ -16,6 +16,7 @@ use Rattle.wf_script.specs.PaintWords.{row_number}
 use Rattle.wf_script.specs.Words.{Word, count_in, digits_of, digits_value, integer_in, integer_of, is_digit, is_word}
 use Rattle.wf_script.proofs.Clean.{all_both, all_pass, digit_is_clean, is_clean, is_clean_byte}
 use Rattle.wf_script.proofs.Steps.{at_most, count_within}
+use Rattle.wf_pixel.specs.declared.TheConstants.{MOST_SIDE}
 
 -- a kind of words reads a word as this
 pub record Back {A : Type 0} (kind : Word → Option A) (word : Word) (x : A) : Type 0 where
@@ -117,7 +118,7 @@ unsigned (b ∷ bs) some all =
     let other : (b == byte "-") ≡ false = grind (arith, nat_tests, digit) in
     rw other refl
 
-positive_again : (n : ℕ) → n ≤ most → integer_of (decimal n) ≡ Some (pos n)
+pub positive_again : (n : ℕ) → n ≤ most → integer_of (decimal n) ≡ Some (pos n)
 positive_again n small =
     let fits : n < 2 ^ 64 = omega arith in
     unsigned (decimal n) (decimal_word n fits) (decimal_digits n fits)
@@ -163,13 +164,14 @@ integer_in_back low high w z h =
 -- the number of a row
 pub row_back : (w : Word) (n : ℕ) → row_number w ≡ Some n → Back row_number (decimal n) n
 unfolding row_number integer_in
-row_back w n h = of_integer (integer_in (pos 0) (pos 1023) w) refl h
+row_back w n h = of_integer (integer_in (pos 0) (pos (MOST_SIDE - 1)) w) refl h
   where
-    of_integer : (o : Option ℤ) → integer_in (pos 0) (pos 1023) w ≡ o → option_map count_of o ≡ Some n → Back row_number (decimal n) n
+    of_integer : (o : Option ℤ) → integer_in (pos 0) (pos (MOST_SIDE - 1)) w ≡ o → option_map count_of o ≡ Some n
+        → Back row_number (decimal n) n
     of_integer None e h = absurd cc
     of_integer (Some (pos m)) e h =
         let is : m ≡ n = cc in
-        let back = integer_in_back (pos 0) (pos 1023) w (pos m) e in
+        let back = integer_in_back (pos 0) (pos (MOST_SIDE - 1)) w (pos m) e in
         subst (λ (k : ℕ). Back row_number (decimal k) k) is (record { reads = ap (option_map count_of) back.reads; clean = back.clean })
     of_integer (Some (negsuc m)) e h =
-        absurd (let bad = (in_its_range (pos 0) (pos 1023) (integer_of w) (negsuc m) e).1 in cc)
+        absurd (let bad = (in_its_range (pos 0) (pos (MOST_SIDE - 1)) (integer_of w) (negsuc m) e).1 in cc)

@@ -25,6 +25,9 @@ use Rattle.wf_script.proofs.Clean.{all_both, is_clean, is_clean_byte}
 use Rattle.wf_script.proofs.WordBack.{first_back}
 use Rattle.wf_script.proofs.Numerals.{Back, count_back, integer_in_back, row_back}
 use Rattle.wf_script.proofs.Steps.{AreWords, bind_ok, first_long, first_parts, found_ok, passed}
+use Rattle.wf_pixel.specs.declared.TheConstants.{MOST_SIDE}
+use Rattle.wf_script.specs.declared.TheConstants.{ROW_DIGITS}
+use Rattle.wf_pixel.specs.Choice.{least_coordinate, most_coordinate, most_extent}
 
 -- words that are read so, and the words behind them are left
 record ReadsFront {A : Type 0} (read : List Word → Result (A × List Word) Rule) (words : List Word) (x : A) : Type 0 where
@@ -216,17 +219,17 @@ fill_back ws p h =
 rectangle_back : (ws : List Word) (p : Paint) → rectangle ws ≡ Ok p → PaintBack p
 unfolding rectangle paint_of
 rectangle_back ws p hp =
-    let place : Word → Option ℤ = integer_in (negsuc 16383) (pos 16384) in
-    let side : Word → Option ℕ = count_in 0 16384 in
+    let place : Word → Option ℤ = integer_in least_coordinate most_coordinate in
+    let side : Word → Option ℕ = count_in 0 most_extent in
     let x = bind_ok (first_as place ws) _ p hp in
     let y = bind_ok (first_as place x.0.1) _ p x.2 in
     let w = bind_ok (first_as side y.0.1) _ p y.2 in
     let h = bind_ok (first_as side w.0.1) _ p w.2 in
     let c = bind_ok (color h.0.1) _ p h.2 in
-    let xb = first_back place integer_word (integer_in_back (negsuc 16383) (pos 16384)) ws x.0 x.1 in
-    let yb = first_back place integer_word (integer_in_back (negsuc 16383) (pos 16384)) x.0.1 y.0 y.1 in
-    let wb = count_first 0 16384 (omega arith) y.0.1 w.0 w.1 in
-    let hb = count_first 0 16384 (omega arith) w.0.1 h.0 h.1 in
+    let xb = first_back place integer_word (integer_in_back least_coordinate most_coordinate) ws x.0 x.1 in
+    let yb = first_back place integer_word (integer_in_back least_coordinate most_coordinate) x.0.1 y.0 y.1 in
+    let wb = count_first 0 most_extent (omega arith) y.0.1 w.0 w.1 in
+    let hb = count_first 0 most_extent (omega arith) w.0.1 h.0 h.1 in
     let cb = color_back h.0.1 c.0 c.1 in
     paint_is (paint.Rectangle (record { x = x.0.0; y = y.0.0; w = w.0.0; h = h.0.0 }) c.0.0) p (record {
       reads = rw (xb.reads, yb.reads, wb.reads, hb.reads, cb.reads []) refl;
@@ -236,10 +239,10 @@ rectangle_back ws p hp =
 checker_back : (ws : List Word) (p : Paint) → checker ws ≡ Ok p → PaintBack p
 unfolding checker paint_of
 checker_back ws p hp =
-    let n = bind_ok (first_as (count_in 1 1024) ws) _ p hp in
+    let n = bind_ok (first_as (count_in 1 MOST_SIDE) ws) _ p hp in
     let a = bind_ok (color n.0.1) _ p n.2 in
     let b = bind_ok (color a.0.1) _ p a.2 in
-    let nb = count_first 1 1024 (omega arith) ws n.0 n.1 in
+    let nb = count_first 1 MOST_SIDE (omega arith) ws n.0 n.1 in
     let ab = color_back n.0.1 a.0 a.1 in
     let bb = color_back a.0.1 b.0 b.1 in
     paint_is (paint.Checker n.0.0 a.0.0 b.0.0) p (record {
@@ -266,15 +269,15 @@ row_words_back (v ∷ ws) p words h =
     let y = bind_ok (first_as row_number (v ∷ ws)) _ p h in
     let parts = first_parts row_number v ws y.0 y.1 in
     let hex = bind_ok (first y.0.1) _ p y.2 in
-    let few = bind_ok (refuse_if rule.Word (nat_lt 8192 (length hex.0.0))) _ p hex.2 in
+    let few = bind_ok (refuse_if rule.Word (nat_lt ROW_DIGITS (length hex.0.0))) _ p hex.2 in
     let pixels = bind_ok (hex_pixels hex.0.0) _ p few.2 in
     let some : 1 ≤ length hex.0.0 = first_long ws hex.0 (and_parts (is_word v) (list_all is_word ws) words).1 (ap first (sym parts.1)
     ∙ hex.1) in
     let yb = row_back v y.0.0 parts.0 in
     let back = pixels_back hex.0.0 pixels.0 pixels.1 in
     let digits : Word = flat_map hex_pixel_word pixels.0 in
-    let short : nat_lt 8192 (length digits) ≡ false =
-    ap (nat_lt 8192) back.long ∙ passed rule.Word (nat_lt 8192 (length hex.0.0)) few.0 few.1 in
+    let short : nat_lt ROW_DIGITS (length digits) ≡ false =
+    ap (nat_lt ROW_DIGITS) back.long ∙ passed rule.Word (nat_lt ROW_DIGITS (length hex.0.0)) few.0 few.1 in
     let least : 0 < length digits = omega (arith, back.long, some) in
     paint_is (paint.Row y.0.0 pixels.0) p (record {
       reads = rw (yb.reads, short, back.reads) refl;

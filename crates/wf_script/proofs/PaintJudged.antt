@@ -23,6 +23,9 @@ use Rattle.wf_script.specs.Words.{Word, count_in, integer_in, none_word}
 use Rattle.wf_script.proofs.Judged.{Judged, WordJudged, counted_step, exactly}
 use Rattle.wf_script.proofs.Judged.{made_of, step, step_in}
 use Rattle.wf_script.proofs.Judged.{word_judged_at}
+use Rattle.wf_pixel.specs.declared.TheConstants.{MOST_SIDE}
+use Rattle.wf_script.specs.declared.TheConstants.{ROW_DIGITS}
+use Rattle.wf_pixel.specs.Choice.{least_coordinate, most_coordinate, most_extent}
 
 -- nothing more is asked of a paint
 abbrev pub Any : {A : Type 0} → A → Type 0
@@ -49,17 +52,17 @@ fill_judged = exactly 4 (λ ws. WordJudged Any (fill ws) (off_kinds (paint_kinds
 rectangle_judged : (ws : List Word) → (length ws == 8) ≡ true → WordJudged Any (rectangle ws) (off_kinds (paint_kinds form.Rectangle) ws)
 unfolding rectangle
 rectangle_judged = exactly 8 (λ ws. WordJudged Any (rectangle ws) (off_kinds (paint_kinds form.Rectangle) ws)) (λ x y w h r g b a.
-    step Any (integer_in (negsuc 16383) (pos 16384)) x (y ∷ w ∷ h ∷ r ∷ g ∷ b ∷ a ∷ []) _ _ (λ nx _.
-    step Any (integer_in (negsuc 16383) (pos 16384)) y (w ∷ h ∷ r ∷ g ∷ b ∷ a ∷ []) _ _ (λ ny _.
-    step Any (count_in 0 16384) w (h ∷ r ∷ g ∷ b ∷ a ∷ []) _ _ (λ nw _.
-    step Any (count_in 0 16384) h (r ∷ g ∷ b ∷ a ∷ []) _ _ (λ nh _. (
+    step Any (integer_in least_coordinate most_coordinate) x (y ∷ w ∷ h ∷ r ∷ g ∷ b ∷ a ∷ []) _ _ (λ nx _.
+    step Any (integer_in least_coordinate most_coordinate) y (w ∷ h ∷ r ∷ g ∷ b ∷ a ∷ []) _ _ (λ ny _.
+    step Any (count_in 0 most_extent) w (h ∷ r ∷ g ∷ b ∷ a ∷ []) _ _ (λ nw _.
+    step Any (count_in 0 most_extent) h (r ∷ g ∷ b ∷ a ∷ []) _ _ (λ nh _. (
     let area : Rect = record { x = nx; y = ny; w = nw; h = nh } in
     color_step r g b a [] (λ c. Ok (paint.Rectangle area c.0)) false (λ c. (paint.Rectangle area c, refl, tt))))))))
 
 checker_judged : (ws : List Word) → (length ws == 9) ≡ true → WordJudged Any (checker ws) (off_kinds (paint_kinds form.Checker) ws)
 unfolding checker
 checker_judged = exactly 9 (λ ws. WordJudged Any (checker ws) (off_kinds (paint_kinds form.Checker) ws)) (λ n r g b a r2 g2 b2 a2.
-    step Any (count_in 1 1024) n (r ∷ g ∷ b ∷ a ∷ r2 ∷ g2 ∷ b2 ∷ a2 ∷ []) _ _ (λ k _.
+    step Any (count_in 1 MOST_SIDE) n (r ∷ g ∷ b ∷ a ∷ r2 ∷ g2 ∷ b2 ∷ a2 ∷ []) _ _ (λ k _.
     color_step r g b a (r2 ∷ g2 ∷ b2 ∷ a2 ∷ []) (λ c. color c.1 >>= (λ d. Ok (paint.Checker k c.0 d.0))) _ (λ c.
     color_step r2 g2 b2 a2 [] (λ d. Ok (paint.Checker k c d.0)) false (λ d. (paint.Checker k c d, refl, tt)))))
 
@@ -123,7 +126,7 @@ or_false false = refl
 row_judged : (ws : List Word) → (length ws == 2) ≡ true → WordJudged Any (row ws) (off_kinds (paint_kinds form.Row) ws)
 unfolding row
 row_judged = exactly 2 (λ ws. WordJudged Any (row ws) (off_kinds (paint_kinds form.Row) ws)) (λ y hex.
-    step Any row_number y (hex ∷ []) _ _ (λ n _. of_long n hex (nat_lt 8192 (length hex))))
+    step Any row_number y (hex ∷ []) _ _ (λ n _. of_long n hex (nat_lt ROW_DIGITS (length hex))))
   where
     of_long : (n : ℕ) (hex : Word) (t : Bool)
         → WordJudged Any (refuse_if rule.Word t >>= (λ _. hex_pixels hex >>= (λ ps. Ok (paint.Row n ps)))) (not

@@ -2,7 +2,7 @@
 use Rattle.std.proofs.Common.{◌≡◌, ℕ, ℤ, pos, negsuc, List, [], ◌∷◌, ◌++◌, Option, Some, Result, Ok, Err, codes, flat_map, map, refl, take}
 use Rattle.std.specs.Fmt.{digits}
 use Rattle.wf_words.specs.Refusals.{◌>>=◌, found_or}
-use Rattle.wf_pixel.specs.declared.Format.TheVariants.{Rgbx8}
+use Rattle.wf_pixel.specs.declared.Format.TheVariants.{A8, Rgbx8}
 use Rattle.wf_scene.specs.declared.attributes.ContextAttr.TheVariants as context
 use Rattle.wf_scene.specs.declared.attributes.ElementAttr.TheVariants as element
 use Rattle.wf_calls.specs.declared.call.StatWord.TheVariants.{Bytes}
@@ -161,6 +161,7 @@ four p q r s = Numbers (p ∷ q ∷ r ∷ s ∷ [])
 abbrev meanings : List (List ℕ × Verb)
 meanings =
     (codes "stream 3 -4 rgbx 5", verb.StreamNew (pos 3) (negsuc 3) Rgbx8 (pos 5))
+    ∷ (codes "queue 3 -4 a8 9", verb.StreamQueue (pos 3) (negsuc 3) A8 (pos 9))
     ∷ (codes "acquire a", verb.Acquire a)
     ∷ (codes "post", verb.Post)
     ∷ (codes "discard", verb.Discard)

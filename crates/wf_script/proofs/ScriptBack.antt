@@ -1,5 +1,5 @@
 -- The canonical text of a script that was read is read as that script.
-use Rattle.std.proofs.Common.{◌≡◌, ◌∙◌, ℕ, ◌+◌, ◌≤◌, Bool, true, false, not, ◌||◌, ◌==◌, nat_lt, List, [], ◌∷◌}
+use Rattle.std.proofs.Common.{◌≡◌, ◌∙◌, ℕ, ◌+◌, ◌<◌, ◌≤◌, Bool, true, false, not, ◌||◌, ◌==◌, nat_lt, List, [], ◌∷◌}
 use Rattle.std.proofs.Common.{◌++◌, length, map, Option, Some, None, Result, Ok, Err, refl, sym, ap, subst, arith, append_assoc, append-nil}
 use Rattle.std.proofs.Common.{length-append, unwrap_or}
 use Rattle.std.specs.Prelude.{codes, decimal, flat_map, is_some, if◌then◌else◌}
@@ -27,6 +27,8 @@ use Rattle.wf_script.proofs.LineBack.{clean_are_plain, client_word, client_word_
 use Rattle.wf_script.proofs.Numerals.{count_back}
 use Rattle.wf_script.proofs.Sound.{at_line_ok}
 use Rattle.wf_script.proofs.Steps.{AreWords, bind_ok, found_ok, passed, words_in_are}
+use Rattle.wf_script.specs.declared.TheConstants.{MOST_LINES}
+use Rattle.wf_calls.specs.declared.TheConstants.{MOST_PIPELINES}
 
 -- the canonical lines of what was read, as words
 
@@ -40,17 +42,17 @@ abbrev pipes_lines : Option ℕ → List (List Word)
 pipes_lines None = []
 pipes_lines (Some n) = if n == 0 then [] else pipes_words n ∷ []
 
-abbrev event_words : Line → List Word
+abbrev pub event_words : Line → List Word
 event_words l = decimal l.client ∷ binding_words l.name ++ verb_words l.verb
 
 abbrev end_lines : Bool → List (List Word)
 end_lines false = []
 end_lines true = (codes "end" ∷ []) ∷ []
 
-abbrev lines_with : List Modes → Option ℕ → List Line → Bool → List (List Word)
+abbrev pub lines_with : List Modes → Option ℕ → List Line → Bool → List (List Word)
 lines_with modes pipes lines ended = ((map port_words modes ++ pipes_lines pipes) ++ map event_words lines) ++ end_lines ended
 
-abbrev line_list : Reading → List (List Word)
+abbrev pub line_list : Reading → List (List Word)
 line_list r = lines_with r.modes r.pipes r.lines r.ended
 
 -- no pipelines are printed as none were declared
@@ -80,16 +82,16 @@ one_more r next left (vs ∷ wss) ws before last =
     go (line_of r vs) first.0 (λ n. read_all n (wss ++ ws ∷ [])) (Ok left) first.1 (one_more first.0 next left wss ws first.2 last)
 
 -- what was read so far, and its canonical lines
-record IsBack (r : Reading) : Type 0 where
-  again : read_all nothing_read (line_list r) ≡ Ok (printed r)
-  plain : are_plain (line_list r) ≡ true
+pub record IsBack (r : Reading) : Type 0 where
+  pub again : read_all nothing_read (line_list r) ≡ Ok (printed r)
+  pub plain : are_plain (line_list r) ≡ true
 
 nothing_back : IsBack nothing_read
 nothing_back = record { again = refl; plain = refl }
 
 -- from one reading to the next, with one canonical line more at most
-record GoesBack (r left : Reading) : Type 0 where
-  back : IsBack left
+pub record GoesBack (r left : Reading) : Type 0 where
+  pub back : IsBack left
   few : length (line_list left) ≤ length (line_list r) + 1
 
 goes_back : (r p q : Reading) → GoesBack r p → (let s : Result Reading Rule = Ok p in let t : Result Reading Rule = Ok q in s ≡ t)
@@ -171,11 +173,12 @@ unfolding pipes_line line_of
 pipes_back r left ws back h =
     let here = bind_ok (refuse_if rule.Place (no_pipes_here r)) _ left h in
     let w = bind_ok (alone ws) _ left here.2 in
-    let count = bind_ok (found_or rule.Word (count_in 0 8 w.0)) _ left w.2 in
+    let count = bind_ok (found_or rule.Word (count_in 0 MOST_PIPELINES w.0)) _ left w.2 in
     let tests = three r.ended (not (nat_lt 0 (length r.modes))) (is_some r.pipes) (has_lines r)
     (passed rule.Place (no_pipes_here r) here.0 here.1) in
     let none = none_is r.pipes tests.2 in
-    let again = count_back 0 8 (omega arith) w.0 count.0 (found_ok rule.Word (count_in 0 8 w.0) count.0 count.1) in
+    let again = count_back 0 MOST_PIPELINES (omega arith) w.0 count.0
+    (found_ok rule.Word (count_in 0 MOST_PIPELINES w.0) count.0 count.1) in
     let next : Reading = record r { pipes = Some count.0 } in
     let place : no_pipes_here (printed r) ≡ false = rw (none, tests.0, tests.1, tests.3) refl in
     goes_back r next left
@@ -192,7 +195,8 @@ pipes_back r left ws back h =
           (pipes_more r.modes count.0 r.pipes r.lines r.ended none (no_lines r.lines tests.3) tests.0 some)
           (rw (clean_is_plain (decimal count.0) again.clean) refl)
           (go (refuse_if rule.Place (no_pipes_here (printed r))) tt _ _ (go_on rule.Place (no_pipes_here (printed r)) place)
-          (go (found_or rule.Word (count_in 0 8 (decimal count.0))) count.0 _ _ (ap (found_or rule.Word) again.reads) (rw some refl)))
+          (go (found_or rule.Word (count_in 0 MOST_PIPELINES (decimal count.0))) count.0 _ _
+          (ap (found_or rule.Word) again.reads) (rw some refl)))
     ] refl) count.2
 
 end_more : (modes : List Modes) (pipes : Option ℕ) (lines : List Line) (ended : Bool) → ended ≡ false
@@ -242,7 +246,7 @@ event_line_back r left w client ws words back is no_port no_pipes no_end h =
     first false b h = refl
     first true b h = absurd cc
 
-words_back : (r left : Reading) (ws : List Word) → AreWords ws → IsBack r → line_of r ws ≡ Ok left → GoesBack r left
+pub words_back : (r left : Reading) (ws : List Word) → AreWords ws → IsBack r → line_of r ws ≡ Ok left → GoesBack r left
 unfolding line_of
 words_back r left [] words back h = goes_back r r left (record { back = back; few = omega arith }) h
 words_back r left (w ∷ ws) words back h =
@@ -268,10 +272,10 @@ line_back r left line back h =
     words_back r left (line_words line) (words_in_are (without_comment (without_return line))) back all.2
 
 -- the lines of a text that is read to its end
-record AllBack (left : Reading) : Type 0 where
-  back : IsBack left
-  ended : left.ended ≡ true
-  few : length (line_list left) ≤ 16383
+pub record AllBack (left : Reading) : Type 0 where
+  pub back : IsBack left
+  pub ended : left.ended ≡ true
+  pub few : length (line_list left) < MOST_LINES
 
 lines_back : (n : ℕ) (r left : Reading) (ls : List (List ℕ)) → IsBack r → length (line_list r) + 2 ≤ n → n ≤ 16385
     → read_lines n r ls ≡ Ok left → AllBack left
@@ -282,9 +286,9 @@ lines_back n r left [] back few most h =
       | false ↦ λ no same. absurd cc
     ] refl h
 lines_back n r left (l ∷ ls) back few most h =
-    let room = bind_ok (refuse_if fault.TooManyLines (nat_lt 16384 n)) _ left h in
+    let room = bind_ok (refuse_if fault.TooManyLines (nat_lt MOST_LINES n)) _ left h in
     let next = bind_ok (at_line n (read_line r l)) _ left room.2 in
-    let within : n ≤ 16384 = grind (arith, nat_tests, passed fault.TooManyLines (nat_lt 16384 n) room.0 room.1) in
+    let within : n ≤ MOST_LINES = grind (arith, nat_tests, passed fault.TooManyLines (nat_lt MOST_LINES n) room.0 room.1) in
     let step = line_back r next.0 l back (at_line_ok n (read_line r l) next.0 next.1) in
     lines_back (n + 1) next.0 left ls step.back (omega (arith, step.few)) (omega arith) next.2
 
@@ -311,8 +315,8 @@ lines_read n r final [] plain all ended few =
 lines_read n r final (ws ∷ wss) plain all ended few =
     let parts = and_parts (list_all is_plain ws) (are_plain wss) plain in
     let first = bind_ok (line_of r ws) (λ next. read_all next wss) final all in
-    let room : nat_lt 16384 n ≡ false = le-ltb 16384 n (omega arith) in
-    go (refuse_if fault.TooManyLines (nat_lt 16384 n)) tt _ _ (ap (refuse_if fault.TooManyLines) room)
+    let room : nat_lt MOST_LINES n ≡ false = le-ltb MOST_LINES n (omega arith) in
+    go (refuse_if fault.TooManyLines (nat_lt MOST_LINES n)) tt _ _ (ap (refuse_if fault.TooManyLines) room)
     (go (at_line n (read_line r (joined ws))) first.0 _ _ (ap (at_line n) (joined_line r ws parts.0 ∙ first.1))
     (lines_read (n + 1) first.0 final wss parts.1 first.2 ended (omega arith)))
 
@@ -375,15 +379,18 @@ of_lines_is : (bytes : List ℕ) (ls : List (List ℕ)) (script : PlainScript) �
 unfolding read_script words_in
 of_lines_is bytes ls script lines read = rw lines read
 
+-- the lines of the canonical text of what was read to its end
+pub text_lines : (r : Reading) → AllBack r → lines_of (canonical (script_of r)) ≡ joined (codes "WFS1" ∷ []) ∷ map joined (line_list r)
+text_lines r all =
+    let plain : are_plain ((codes "WFS1" ∷ []) ∷ line_list r) ≡ true = and_from true (are_plain (line_list r)) refl all.back.plain in
+    ap lines_of (canonical_is r all.ended) ∙ text_again ((codes "WFS1" ∷ []) ∷ line_list r) plain
+
 -- the canonical text of what was read to its end
-text_back : (r : Reading) → AllBack r → read_script (canonical (script_of r)) ≡ Ok (script_of r)
+pub text_back : (r : Reading) → AllBack r → read_script (canonical (script_of r)) ≡ Ok (script_of r)
 unfolding read_script
 text_back r all =
-    let plain : are_plain ((codes "WFS1" ∷ []) ∷ line_list r) ≡ true = and_from true (are_plain (line_list r)) refl all.back.plain in
-    let lines : lines_of (canonical (script_of r)) ≡ joined (codes "WFS1" ∷ []) ∷ map joined (line_list r) =
-    ap lines_of (canonical_is r all.ended) ∙ text_again ((codes "WFS1" ∷ []) ∷ line_list r) plain in
     let read = lines_read 2 nothing_read (printed r) (line_list r) all.back.plain all.back.again all.ended (omega (arith, all.few)) in
-    of_lines_is (canonical (script_of r)) (map joined (line_list r)) (script_of r) lines
+    of_lines_is (canonical (script_of r)) (map joined (line_list r)) (script_of r) (text_lines r all)
     (go (read_lines 2 nothing_read (map joined (line_list r))) (printed r) (λ x. Ok (script_of x)) (Ok (script_of r)) read
     (ap (λ (s : PlainScript). Ok s) (printed_script r)))
 

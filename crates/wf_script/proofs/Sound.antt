@@ -26,6 +26,9 @@ use Rattle.wf_script.specs.Visible.{is_visible}
 use Rattle.wf_script.specs.Words.{Word, is_allowed, without_comment, without_return, is_word, client_of, count_in, sides, size_of, look_up}
 use Rattle.wf_script.proofs.Steps.{AreWords, all_four, all_three, at_most, bind_ok, count_within, found_ok, not_false, passed, words_in_are}
 use Rattle.wf_script.proofs.VerbSound.{arguments_sound, paints_within, ticks_alone}
+use Rattle.wf_pixel.specs.declared.TheConstants.{MOST_SIDE}
+use Rattle.wf_script.specs.declared.TheConstants.{MOST_LINES}
+use Rattle.wf_calls.specs.declared.TheConstants.{MOST_PIPELINES}
 
 -- lines
 
@@ -33,7 +36,7 @@ use Rattle.wf_script.proofs.VerbSound.{arguments_sound, paints_within, ticks_alo
 pub record IsSoundSoFar (r : Reading) : Type 0 where
   pub modes : IsTrue (list_all may_have r.modes)
   pub few : length r.modes ≤ 4
-  pub pipes : unwrap_or r.pipes 0 ≤ 8
+  pub pipes : unwrap_or r.pipes 0 ≤ MOST_PIPELINES
   pub lines : IsTrue (list_all is_line r.lines)
   pub ticks : IsTrue (list_all may_tick r.lines)
   pub ended : r.ended ≡ true → 1 ≤ length r.modes
@@ -48,20 +51,21 @@ goes_on r p q done same = let is : p ≡ q = cc in subst (λ (x : Reading). Goes
 
 size_sound : (w : Word) (s : Size) → size_of w ≡ Some s → has_sides s ≡ true
 unfolding size_of
-size_sound w s h = of_sides (count_in 1 1024 (before_first (λ b. b == byte "x") w)) (count_in 1 1024 (after_first (λ b. b == byte "x") w))
+size_sound w s h = of_sides (count_in 1 MOST_SIDE (before_first (λ b. b == byte "x") w))
+    (count_in 1 MOST_SIDE (after_first (λ b. b == byte "x") w))
     refl refl h
   where
-    of_sides : (a b : Option ℕ) → count_in 1 1024 (before_first (λ b. b == byte "x") w) ≡ a
-        → count_in 1 1024 (after_first (λ b. b == byte "x") w) ≡ b → sides a b ≡ Some s → has_sides s ≡ true
+    of_sides : (a b : Option ℕ) → count_in 1 MOST_SIDE (before_first (λ b. b == byte "x") w) ≡ a
+        → count_in 1 MOST_SIDE (after_first (λ b. b == byte "x") w) ≡ b → sides a b ≡ Some s → has_sides s ≡ true
     of_sides None b ha hb h = absurd cc
     of_sides (Some a) None ha hb h = absurd cc
     of_sides (Some a) (Some b) ha hb h =
-        let first = count_within 1 1024 (before_first (λ b. b == byte "x") w) a ha in
-        let second = count_within 1 1024 (after_first (λ b. b == byte "x") w) b hb in
+        let first = count_within 1 MOST_SIDE (before_first (λ b. b == byte "x") w) a ha in
+        let second = count_within 1 MOST_SIDE (after_first (λ b. b == byte "x") w) b hb in
         let is : record { w = a; h = b } ≡ s = cc in
         subst (λ (x : Size). has_sides x ≡ true) is
-        (and_from (is_side a) (is_side b) (and_from (nat_le 1 a) (nat_le a 1024) (at_most 1 a first.0) (at_most a 1024 first.1))
-        (and_from (nat_le 1 b) (nat_le b 1024) (at_most 1 b second.0) (at_most b 1024 second.1)))
+        (and_from (is_side a) (is_side b) (and_from (nat_le 1 a) (nat_le a MOST_SIDE) (at_most 1 a first.0) (at_most a MOST_SIDE first.1))
+        (and_from (nat_le 1 b) (nat_le b MOST_SIDE) (at_most 1 b second.0) (at_most b MOST_SIDE second.1)))
 
 sizes_sound : (ws : List Word) (read : List Size) → sizes ws ≡ Ok read → (list_all has_sides read ≡ true) × (length read ≡ length ws)
 unfolding sizes
@@ -122,12 +126,12 @@ unfolding pipes_line
 pipes_sound r left ws sound h =
     let here = bind_ok (refuse_if rule.Place (no_pipes_here r)) _ left h in
     let w = bind_ok (alone ws) _ left here.2 in
-    let count = bind_ok (found_or rule.Word (count_in 0 8 w.0)) _ left w.2 in
+    let count = bind_ok (found_or rule.Word (count_in 0 MOST_PIPELINES w.0)) _ left w.2 in
     goes_on r (record r { pipes = Some count.0 }) left (record {
       sound = record {
         modes = sound.modes;
         few = sound.few;
-        pipes = (count_within 0 8 w.0 count.0 (found_ok rule.Word (count_in 0 8 w.0) count.0 count.1)).1;
+        pipes = (count_within 0 MOST_PIPELINES w.0 count.0 (found_ok rule.Word (count_in 0 MOST_PIPELINES w.0) count.0 count.1)).1;
         lines = sound.lines;
         ticks = sound.ticks;
         ended = sound.ended;
@@ -261,19 +265,19 @@ at_line_ok n (Err broken) left h = absurd cc
 
 -- the lines of a text that is read to its end
 lines_sound : (n : ℕ) (r left : Reading) (ls : List (List ℕ)) → IsSoundSoFar r → length r.lines + 2 ≤ n → n ≤ 16385
-    → read_lines n r ls ≡ Ok left → IsSoundSoFar left × (left.ended ≡ true) × (length left.lines ≤ 16383)
+    → read_lines n r ls ≡ Ok left → IsSoundSoFar left × (left.ended ≡ true) × (length left.lines < MOST_LINES)
 unfolding read_lines
 lines_sound n r left [] sound few most h =
     elim r.ended as (λ b. r.ended ≡ b → (if b then Ok r else Err (fault.NoEnd n)) ≡ Ok left → IsSoundSoFar left × (left.ended ≡ true)
-    × (length left.lines ≤ 16383)) [
+    × (length left.lines < MOST_LINES)) [
       | true ↦ λ ended same. (let is : r ≡ left = cc in subst (λ (x : Reading). IsSoundSoFar x × (x.ended ≡ true)
-          × (length x.lines ≤ 16383)) is (sound, ended, omega arith))
+          × (length x.lines < MOST_LINES)) is (sound, ended, omega arith))
       | false ↦ λ no same. absurd cc
     ] refl h
 lines_sound n r left (l ∷ ls) sound few most h =
-    let room = bind_ok (refuse_if fault.TooManyLines (nat_lt 16384 n)) _ left h in
+    let room = bind_ok (refuse_if fault.TooManyLines (nat_lt MOST_LINES n)) _ left h in
     let next = bind_ok (at_line n (read_line r l)) _ left room.2 in
-    let within : n ≤ 16384 = grind (arith, nat_tests, passed fault.TooManyLines (nat_lt 16384 n) room.0 room.1) in
+    let within : n ≤ MOST_LINES = grind (arith, nat_tests, passed fault.TooManyLines (nat_lt MOST_LINES n) room.0 room.1) in
     let step = line_sound r next.0 l sound (at_line_ok n (read_line r l) next.0 next.1) in
     lines_sound (n + 1) next.0 left ls step.sound (omega (arith, step.few)) (omega arith) next.2
 

@@ -35,6 +35,7 @@ use Rattle.wf_script.specs.Words.{stat_words, transitions, transparencies}
 use Rattle.wf_script.proofs.Clean.{all_both, all_pass, is_clean, is_clean_byte, name_byte_is_clean}
 use Rattle.wf_script.proofs.Numerals.{Back, count_back, decimal_digits}
 use Rattle.wf_script.proofs.Steps.{count_within, first_kind}
+use Rattle.wf_pixel.specs.declared.TheConstants.{MOST_SIDE}
 
 -- the first word of a kind, printed
 pub first_back : {A : Type 0} (kind : Word → Option A) (word : A → Word) → ((w : Word) (x : A) → kind w ≡ Some x → Back kind (word x) x)
@@ -183,7 +184,7 @@ module _ (p inside : ℕ → Bool) (none : (b : ℕ) → inside b ≡ true → p
 digit_no_x : (b : ℕ) → is_digit b ≡ true → (b == byte "x") ≡ false
 digit_no_x b h = grind (arith, nat_tests)
 
-size_again : (s : Size) → (let c = count_in 1 1024 in c (decimal s.w) ≡ Some s.w) → count_in 1 1024 (decimal s.h) ≡ Some s.h
+size_again : (s : Size) → (let c = count_in 1 MOST_SIDE in c (decimal s.w) ≡ Some s.w) → count_in 1 MOST_SIDE (decimal s.h) ≡ Some s.h
     → s.w < 2 ^ 64 → size_of (size_word s) ≡ Some s
 unfolding size_of
 size_again s width height small =
@@ -191,9 +192,9 @@ size_again s width height small =
     let digits = decimal_digits s.w small in
     let text : List ℕ = decimal s.w ++ byte "x" ∷ decimal s.h in
     ap size_of (append_assoc (decimal s.w) (codes "x") (decimal s.h))
-    ∙ ap (λ (w : Word). sides (count_in 1 1024 w) (count_in 1 1024 (after_first p text)))
+    ∙ ap (λ (w : Word). sides (count_in 1 MOST_SIDE w) (count_in 1 MOST_SIDE (after_first p text)))
     (before_mark p is_digit digit_no_x (byte "x") refl (decimal s.h) (decimal s.w) digits)
-    ∙ ap (λ (w : Word). sides (count_in 1 1024 (decimal s.w)) (count_in 1 1024 w))
+    ∙ ap (λ (w : Word). sides (count_in 1 MOST_SIDE (decimal s.w)) (count_in 1 MOST_SIDE w))
     (behind_mark p is_digit digit_no_x (byte "x") refl (decimal s.h) (decimal s.w) digits)
     ∙ rw (width, height) refl
 
@@ -205,19 +206,20 @@ word_with (x ∷ xs) u some first second = all_both is_clean_byte (x ∷ xs) u f
 
 pub size_back : (w : Word) (s : Size) → size_of w ≡ Some s → Back size_of (size_word s) s
 unfolding size_of
-size_back w s h = of_sides (count_in 1 1024 (before_first (λ b. b == byte "x") w)) (count_in 1 1024 (after_first (λ b. b == byte "x") w))
+size_back w s h = of_sides (count_in 1 MOST_SIDE (before_first (λ b. b == byte "x") w))
+    (count_in 1 MOST_SIDE (after_first (λ b. b == byte "x") w))
     refl refl h
   where
-    of_sides : (a b : Option ℕ) → count_in 1 1024 (before_first (λ b. b == byte "x") w) ≡ a
-        → count_in 1 1024 (after_first (λ b. b == byte "x") w) ≡ b → sides a b ≡ Some s → Back size_of (size_word s) s
+    of_sides : (a b : Option ℕ) → count_in 1 MOST_SIDE (before_first (λ b. b == byte "x") w) ≡ a
+        → count_in 1 MOST_SIDE (after_first (λ b. b == byte "x") w) ≡ b → sides a b ≡ Some s → Back size_of (size_word s) s
     of_sides None b ha hb h = absurd cc
     of_sides (Some a) None ha hb h = absurd cc
     of_sides (Some a) (Some b) ha hb h =
         let is : record { w = a; h = b } ≡ s = cc in
-        let width = count_back 1 1024 (omega arith) (before_first (λ b. b == byte "x") w) a ha in
-        let height = count_back 1 1024 (omega arith) (after_first (λ b. b == byte "x") w) b hb in
-        let low = (count_within 1 1024 (before_first (λ b. b == byte "x") w) a ha).1 in
-        let high = (count_within 1 1024 (after_first (λ b. b == byte "x") w) b hb).1 in
+        let width = count_back 1 MOST_SIDE (omega arith) (before_first (λ b. b == byte "x") w) a ha in
+        let height = count_back 1 MOST_SIDE (omega arith) (after_first (λ b. b == byte "x") w) b hb in
+        let low = (count_within 1 MOST_SIDE (before_first (λ b. b == byte "x") w) a ha).1 in
+        let high = (count_within 1 MOST_SIDE (after_first (λ b. b == byte "x") w) b hb).1 in
         let plain = and_parts (is_word (decimal a)) (list_all is_clean_byte (decimal a)) width.clean in
         let behind = and_parts (is_word (decimal b)) (list_all is_clean_byte (decimal b)) height.clean in
         subst (λ (x : Size). Back size_of (size_word x) x) is (record {

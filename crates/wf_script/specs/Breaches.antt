@@ -26,6 +26,10 @@ use Rattle.wf_script.specs.Visible.{is_visible}
 use Rattle.wf_script.specs.Words.{Word, client_of, count_in, handle_of, integer_in}
 use Rattle.wf_script.specs.Words.{is_allowed, lines_of, look_up, name_of, none_word, size_of}
 use Rattle.wf_script.specs.Words.{without_return}
+use Rattle.wf_pixel.specs.declared.TheConstants.{MOST_SIDE}
+use Rattle.wf_script.specs.declared.TheConstants.{ROW_DIGITS, MOST_LINES}
+use Rattle.wf_pixel.specs.Choice.{least_coordinate, most_coordinate, most_extent}
+use Rattle.wf_calls.specs.declared.TheConstants.{MOST_PIPELINES}
 
 -- kinds of words
 
@@ -51,10 +55,10 @@ abbrev pub channel : Kind
 channel = read_by (count_in 0 255)
 
 abbrev pub place : Kind
-place = read_by (integer_in (negsuc 16383) (pos 16384))
+place = read_by (integer_in least_coordinate most_coordinate)
 
 abbrev pub extent : Kind
-extent = read_by (count_in 0 16384)
+extent = read_by (count_in 0 most_extent)
 
 -- 8 hexadecimal digits a pixel
 unfoldable pub in_eights : Word → Bool
@@ -63,9 +67,9 @@ in_eights (a ∷ b ∷ c ∷ d ∷ e ∷ f ∷ g ∷ h ∷ rest) =
     list_all (λ x. is_some (hex_digit x)) (a ∷ b ∷ c ∷ d ∷ e ∷ f ∷ g ∷ h ∷ []) && in_eights rest
 in_eights _ = false
 
--- for at most 1,024 pixels
+-- up to those of a whole row
 abbrev pub pixels : Kind
-pixels = record { is = λ w. not (nat_lt 8192 (length w)) && in_eights w; names = false }
+pixels = record { is = λ w. not (nat_lt ROW_DIGITS (length w)) && in_eights w; names = false }
 
 abbrev pub four : Kind → List Kind
 four k = k ∷ k ∷ k ∷ k ∷ []
@@ -74,7 +78,7 @@ four k = k ∷ k ∷ k ∷ k ∷ []
 abbrev pub paint_kinds : PaintForm → List Kind
 paint_kinds paint.Fill = four channel
 paint_kinds paint.Rectangle = place ∷ place ∷ extent ∷ extent ∷ four channel
-paint_kinds paint.Checker = read_by (count_in 1 1024) ∷ four channel ++ four channel
+paint_kinds paint.Checker = read_by (count_in 1 MOST_SIDE) ∷ four channel ++ four channel
 paint_kinds paint.Ramp = four channel ++ four channel
 paint_kinds paint.Row = read_by row_number ∷ pixels ∷ []
 
@@ -221,7 +225,7 @@ is_no_name (Some w) = not (is_some (name_of w))
 
 abbrev pub breaks_word : LineKind → Bool
 breaks_word (of_port ws) = list_any (λ w. not (is_some (size_of w))) ws
-breaks_word (of_pipes ws) = list_any (λ w. not (is_some (count_in 0 8 w))) ws
+breaks_word (of_pipes ws) = list_any (λ w. not (is_some (count_in 0 MOST_PIPELINES w))) ws
 breaks_word (of_event client ws) =
     form_breaks_word (form_in (verb_and_words ws)) (words_behind (verb_and_words ws)) || is_no_name (bound_word ws)
 breaks_word _ = false
@@ -280,7 +284,7 @@ first_fault n None behind = behind
 unfoldable pub lines_fault : ℕ → Reading → List (List ℕ) → Option ScriptFault
 lines_fault n r [] = if r.ended then None else Some (fault.NoEnd n)
 lines_fault n r (l ∷ ls) =
-    if nat_lt 16384 n then Some fault.TooManyLines
+    if nat_lt MOST_LINES n then Some fault.TooManyLines
     else first_fault n (least_broken r l) (lines_fault (n + 1) (taken r (read_line r l)) ls)
 
 -- a script's fault: the header's, or the first of the lines behind it

@@ -41,6 +41,7 @@ paint_words (paint.Row y pixels) = codes "row" ∷ decimal y ∷ flat_map hex_pi
 -- the words of a verb
 abbrev pub verb_words : Verb → List Word
 verb_words (verb.StreamNew w h f b) = codes "stream" ∷ written (number w ∷ number h ∷ format f ∷ number b ∷ [])
+verb_words (verb.StreamQueue w h f d) = codes "queue" ∷ written (number w ∷ number h ∷ format f ∷ number d ∷ [])
 verb_words (verb.Acquire s) = codes "acquire" ∷ written (handle s ∷ [])
 verb_words verb.Post = codes "post" ∷ []
 verb_words verb.Discard = codes "discard" ∷ []

@@ -19,6 +19,7 @@ use Rattle.wf_script.specs.Words.{Word, context_attrs, element_attrs, look_up, p
 abbrev pub forms : List (Word × Form)
 forms =
     (codes "stream", Plain plain.StreamNew)
+    ∷ (codes "queue", Plain plain.StreamQueue)
     ∷ (codes "acquire", Plain plain.Acquire)
     ∷ (codes "post", Plain plain.Post)
     ∷ (codes "discard", Plain plain.Discard)
@@ -70,6 +71,7 @@ forms =
 -- the kinds of the words behind a verb; where the last one decides what follows it, up to that
 abbrev pub fields : plain_form.Plain → List Field
 fields plain.StreamNew = Number ∷ Number ∷ Format ∷ Number ∷ []
+fields plain.StreamQueue = Number ∷ Number ∷ Format ∷ Number ∷ []
 fields plain.Acquire = Handle ∷ []
 fields plain.Post = []
 fields plain.Discard = []

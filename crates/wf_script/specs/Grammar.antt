@@ -21,6 +21,8 @@ use Rattle.wf_script.specs.Script.{PlainScript}
 use Rattle.wf_script.specs.Visible.{is_visible}
 use Rattle.wf_script.specs.Words.{Word, client_of, count_in, is_allowed, lines_of, look_up, name_of, size_of, without_comment}
 use Rattle.wf_script.specs.Words.{without_return, words_in}
+use Rattle.wf_script.specs.declared.TheConstants.{MOST_LINES}
+use Rattle.wf_calls.specs.declared.TheConstants.{MOST_PIPELINES}
 
 -- what was read so far: the ports' modes, the number of pipelines where it was declared, the event lines, and whether
 -- the end stood
@@ -76,7 +78,7 @@ unfoldable pub pipes_line : Reading → List Word → Result Reading Rule
 pipes_line r ws = do
   _ ← refuse_if rule.Place (no_pipes_here r)
   w ← alone ws
-  count ← found_or rule.Word (count_in 0 8 w)
+  count ← found_or rule.Word (count_in 0 MOST_PIPELINES w)
   Ok (record r { pipes = Some count })
 
 -- no event line and no end stands here
@@ -167,11 +169,11 @@ abbrev pub at_line : ℕ → Result Reading Rule → Result Reading ScriptFault
 at_line n (Ok r) = Ok r
 at_line n (Err broken) = Err (fault.Line n (rule_number broken))
 
--- the lines from number n on, of which there are 16,384 at most
+-- the lines from number n on
 unfoldable pub read_lines : ℕ → Reading → List (List ℕ) → Result Reading ScriptFault
 read_lines n r [] = if r.ended then Ok r else Err (fault.NoEnd n)
 read_lines n r (l ∷ ls) = do
-  _ ← refuse_if fault.TooManyLines (nat_lt 16384 n)
+  _ ← refuse_if fault.TooManyLines (nat_lt MOST_LINES n)
   left ← at_line n (read_line r l)
   read_lines (n + 1) left ls
 

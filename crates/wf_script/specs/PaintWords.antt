@@ -13,6 +13,9 @@ use Rattle.wf_script.specs.declared.rule.Rule.{Rule}
 use Rattle.wf_script.specs.declared.rule.Rule.TheVariants as rule
 use Rattle.wf_script.specs.Pick.{counted, first, first_as}
 use Rattle.wf_script.specs.Words.{Word, count_in, integer_in, is_digit, look_up}
+use Rattle.wf_pixel.specs.declared.TheConstants.{MOST_SIDE}
+use Rattle.wf_script.specs.declared.TheConstants.{ROW_DIGITS}
+use Rattle.wf_pixel.specs.Choice.{least_coordinate, most_coordinate, most_extent}
 
 -- the paints
 abbrev pub paint_forms : List (Word × PaintForm)
@@ -44,16 +47,16 @@ fill ws = do
 
 unfoldable pub rectangle : List Word → Result Paint Rule
 rectangle ws = do
-  x ← first_as (integer_in (negsuc 16383) (pos 16384)) ws
-  y ← first_as (integer_in (negsuc 16383) (pos 16384)) x.1
-  w ← first_as (count_in 0 16384) y.1
-  h ← first_as (count_in 0 16384) w.1
+  x ← first_as (integer_in least_coordinate most_coordinate) ws
+  y ← first_as (integer_in least_coordinate most_coordinate) x.1
+  w ← first_as (count_in 0 most_extent) y.1
+  h ← first_as (count_in 0 most_extent) w.1
   c ← color h.1
   Ok (paint.Rectangle (record { x = x.0; y = y.0; w = w.0; h = h.0 }) c.0)
 
 unfoldable pub checker : List Word → Result Paint Rule
 checker ws = do
-  n ← first_as (count_in 1 1024) ws
+  n ← first_as (count_in 1 MOST_SIDE) ws
   a ← color n.1
   b ← color a.1
   Ok (paint.Checker n.0 a.0 b.0)
@@ -96,14 +99,14 @@ hex_pixels _ = Err rule.Word
 
 -- the number of a row, which may have a minus before a zero
 unfoldable pub row_number : Word → Option ℕ
-row_number w = option_map count_of (integer_in (pos 0) (pos 1023) w)
+row_number w = option_map count_of (integer_in (pos 0) (pos (MOST_SIDE - 1)) w)
 
--- a row of at most 1,024 pixels
+-- a row, up to a whole one
 unfoldable pub row : List Word → Result Paint Rule
 row ws = do
   y ← first_as row_number ws
   hex ← first y.1
-  _ ← refuse_if rule.Word (nat_lt 8192 (length hex.0))
+  _ ← refuse_if rule.Word (nat_lt ROW_DIGITS (length hex.0))
   pixels ← hex_pixels hex.0
   Ok (paint.Row y.0 pixels)
 

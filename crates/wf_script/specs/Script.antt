@@ -7,6 +7,7 @@ use Rattle.wf_calls.specs.PortRules.{may_declare}
 use Rattle.wf_script.specs.declared.line.Line.{Line}
 use Rattle.wf_script.specs.declared.line.Verb.{Verb}
 use Rattle.wf_script.specs.declared.line.Verb.TheVariants as verb
+use Rattle.wf_script.specs.declared.TheConstants.{MOST_LINES}
 
 -- the ports that it declares, and its event lines in file order
 pub record PlainScript : Type 0 where
@@ -36,9 +37,9 @@ abbrev pub may_have_verb : ℕ → Verb → Bool
 may_have_verb client verb.Tick = client == 0
 may_have_verb client v = may_paint v
 
--- what holds of every script: its ports may be declared, and it has such lines, in 16,384 lines at most
+-- what holds of every script: its ports may be declared, and it has such lines, and not too many
 pub record IsScript (script : PlainScript) : Type 0 where
   pub ports : IsTrue (may_declare script.ports)
   pub lines : IsTrue (list_all is_line script.lines)
   pub ticks : IsTrue (list_all may_tick script.lines)
-  pub few : length script.lines ≤ 16384
+  pub few : length script.lines ≤ MOST_LINES

@@ -9,6 +9,7 @@ use Rattle.wf_script.specs.Fields.{Item, context_attr, element_attr, filter, for
 use Rattle.wf_script.specs.Fields.{stat, transition, transparency}
 use Rattle.wf_script.specs.Spelled.{integer_word}
 use Rattle.wf_script.specs.Words.{Word}
+use Rattle.wf_pixel.specs.declared.TheConstants.{MOST_SIDE}
 
 -- the item of a word whose kind forms have
 abbrev pub shown_item : Shown → Item
@@ -38,7 +39,7 @@ token_word (token.Pixels pixels) = flat_map hex_pixel_word pixels.now
 -- the longest words are the letters of a verb, and a row of pixels
 abbrev pub is_short : Token → Bool
 is_short (token.Letters letters) = nat_le (length letters.now) 64
-is_short (token.Pixels pixels) = nat_le (length pixels.now) 1024
+is_short (token.Pixels pixels) = nat_le (length pixels.now) MOST_SIDE
 is_short _ = true
 
 -- words, each behind a space

@@ -10,18 +10,58 @@ use Rattle.wf_script.specs.Fields.{stat_at, transition_at, value_at}
 -- the verbs that make something: their lines have a name, under which the answer's value is kept
 abbrev pub creates : Verb → Bool
 creates (verb.StreamNew _ _ _ _) = true
+creates (verb.StreamQueue _ _ _ _) = true
+creates (verb.Acquire _) = false
+creates verb.Post = false
+creates verb.Discard = false
+creates (verb.Stat _) = false
+creates (verb.Paint _) = false
+creates (verb.Frame _ _) = false
+creates verb.Tick = false
 creates verb.DeviceNew = true
+creates (verb.GetError _) = false
 creates (verb.ScreenContext _ _) = true
 creates (verb.StreamContext _ _) = true
 creates (verb.ElementNew _ _) = true
 creates (verb.SourceNew _ _ _) = true
 creates (verb.MaskNew _ _ _) = true
+creates (verb.ElementSet _ _ _ _) = false
+creates (verb.ElementGet _ _ _ _) = false
+creates (verb.ElementInsert _ _ _) = false
+creates (verb.ElementRemove _ _) = false
+creates (verb.ElementAbove _ _) = false
+creates (verb.ElementBelow _ _) = false
+creates (verb.ContextSet _ _ _ _) = false
+creates (verb.ContextGet _ _ _ _) = false
+creates (verb.Commit _ _) = false
+creates (verb.Activate _ _) = false
+creates (verb.Deactivate _ _) = false
+creates (verb.Compose _ _) = false
+creates (verb.TryCompose _ _) = false
+creates (verb.PortSet _ _ _) = false
+creates (verb.PortGet _ _ _) = false
+creates (verb.Attach _ _) = false
+creates (verb.PipeSet _ _ _) = false
+creates (verb.PipeGet _ _ _) = false
+creates (verb.PipeBindPort _ _) = false
 creates (verb.DisplaySource _ _) = true
-creates _ = false
+creates (verb.DisplaySourceDestroy _) = false
+creates (verb.PipeBindSource _ _ _) = false
+creates verb.CommitDevice = false
+creates (verb.CommitPort _) = false
+creates (verb.CommitPipe _) = false
+creates verb.DisplayError = false
+creates (verb.StreamDestroy _) = false
+creates (verb.DeviceDestroy _) = false
+creates (verb.ContextDestroy _ _) = false
+creates (verb.ElementDestroy _ _) = false
+creates (verb.SourceDestroy _ _) = false
+creates (verb.MaskDestroy _ _) = false
 
 -- the verb of a form, by the items of its words
 abbrev pub verb_of : Plain → List Item → Verb
 verb_of plain.StreamNew items = verb.StreamNew (number_at items 0) (number_at items 1) (format_at items 2) (number_at items 3)
+verb_of plain.StreamQueue items = verb.StreamQueue (number_at items 0) (number_at items 1) (format_at items 2) (number_at items 3)
 verb_of plain.Acquire items = verb.Acquire (handle_at items 0)
 verb_of plain.Post items = verb.Post
 verb_of plain.Discard items = verb.Discard

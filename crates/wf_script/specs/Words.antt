@@ -20,6 +20,7 @@ use Rattle.wf_calls.specs.declared.display.PortAttr.TheVariants as port
 use Rattle.wf_calls.specs.declared.display.Transition.{Transition}
 use Rattle.wf_calls.specs.declared.display.Transition.TheVariants.{Now, Vsync}
 use Rattle.wf_script.specs.declared.name.Name.{Name}
+use Rattle.wf_pixel.specs.declared.TheConstants.{MOST_SIDE}
 
 -- a word is its bytes
 abbrev pub Word : Type 0
@@ -124,7 +125,7 @@ sides _ _ = None
 
 -- two sides with an `x` between
 unfoldable pub size_of : Word → Option Size
-size_of w = sides (count_in 1 1024 (before_first (λ b. b == byte "x") w)) (count_in 1 1024 (after_first (λ b. b == byte "x") w))
+size_of w = sides (count_in 1 MOST_SIDE (before_first (λ b. b == byte "x") w)) (count_in 1 MOST_SIDE (after_first (λ b. b == byte "x") w))
 
 -- a digit from 0 to 7
 abbrev pub client_of : Word → Option ℕ

@@ -9,7 +9,7 @@ pub enum ScriptFault {
     Header,
     /// A line breaks a rule: 1 byte, 2 client, 3 verb, 4 place, 5 count, 6 word, 7 name.
     Line { line: u32, rule: u32 },
-    /// There are more than 16,384 lines.
+    /// There are more than `MOST_LINES` lines.
     TooManyLines,
     /// The bytes end without the line `end`. The line is the one behind the last.
     NoEnd { line: u32 },

@@ -12,6 +12,7 @@ use crate::table::look_up;
 #[derive(Clone, Copy)]
 pub(crate) enum Plain {
     StreamNew,
+    StreamQueue,
     Acquire,
     Post,
     Discard,
@@ -67,8 +68,9 @@ pub(crate) enum Form {
 }
 
 /// The verbs.
-const FORMS: [(&[u8], Form); 47] = [
+const FORMS: [(&[u8], Form); 48] = [
     (b"stream", Form::Plain(Plain::StreamNew)),
+    (b"queue", Form::Plain(Plain::StreamQueue)),
     (b"acquire", Form::Plain(Plain::Acquire)),
     (b"post", Form::Plain(Plain::Post)),
     (b"discard", Form::Plain(Plain::Discard)),
@@ -143,7 +145,12 @@ impl Plain {
         ensures few { length result.now ≤ 4 }
     {
         match self {
-            Plain::StreamNew => &[Field::Number, Field::Number, Field::Format, Field::Number],
+            Plain::StreamNew | Plain::StreamQueue => &[
+                Field::Number,
+                Field::Number,
+                Field::Format,
+                Field::Number,
+            ],
             Plain::Acquire
             | Plain::GetError
             | Plain::StreamDestroy

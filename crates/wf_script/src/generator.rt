@@ -287,8 +287,8 @@ fn ports() -> Ports
     Ports { modes, pipes: 1 }
 }
 
-/// The script of the generator, with this many rounds, 1 to 1000. Each is of one of the clients 1 to 7 in turn, shows a stream
-/// that it makes in one frame, and destroys it again, so the film has `n` frames and the script no more than one stream at a time.
+/// Makes the script of `n` rounds, 1 to 1000. Each round is of one of the clients 1 to 7 in turn, shows a stream that it makes
+/// in one frame, and destroys it again, so the film has `n` frames and the script no more than one stream at a time.
 pub fn make(alloc: Global, n: u32) -> Result<Script, NoMemory>
     requires some { 1 ≤ n }
     requires most { n ≤ 1000 }

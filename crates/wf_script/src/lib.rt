@@ -48,3 +48,13 @@ pub use name::Name;
 pub use printing::print;
 pub use reading::parse;
 pub use script::Script;
+use wf_pixel::SIDE_LEN;
+
+/// The most lines of a script.
+pub const MOST_LINES: u32 = 16_384;
+
+/// The most hexadecimal digits of a row: 8 for each pixel.
+const ROW_DIGITS: usize = 8 * SIDE_LEN;
+
+/// The most bytes that a word takes where it is printed, with the space before it. Rooms for texts are counted in such words.
+const WORD_ROOM: usize = ROW_DIGITS + 1;

@@ -29,6 +29,13 @@ pub enum Verb {
         format: Format,
         buffers: i64,
     },
+    /// A new stream that shows each posted image in order, of which up to `depth` wait. The line's name stands for its handle.
+    StreamQueue {
+        width: i64,
+        height: i64,
+        format: Format,
+        depth: i64,
+    },
     /// Takes a stream's write buffer, which `Paint` then paints into.
     Acquire {
         stream: Option<Name>,
@@ -248,21 +255,60 @@ pub enum Verb {
 }
 
 impl Verb {
-    /// Whether the verb makes something: its line has a name, under which the answer's value is kept.
+    /// Tells whether the verb makes something: its line has a name, under which the answer's value is kept.
     pub fn creates(&self) -> bool
         ensures { result ≡ creates self.now }
     {
-        matches!(
-            self,
+        match self {
             Verb::StreamNew { .. }
-                | Verb::DeviceNew
-                | Verb::ScreenContext { .. }
-                | Verb::StreamContext { .. }
-                | Verb::ElementNew { .. }
-                | Verb::SourceNew { .. }
-                | Verb::MaskNew { .. }
-                | Verb::DisplaySource { .. }
-        )
+            | Verb::StreamQueue { .. }
+            | Verb::DeviceNew
+            | Verb::ScreenContext { .. }
+            | Verb::StreamContext { .. }
+            | Verb::ElementNew { .. }
+            | Verb::SourceNew { .. }
+            | Verb::MaskNew { .. }
+            | Verb::DisplaySource { .. } => true,
+            Verb::Acquire { .. }
+            | Verb::Post
+            | Verb::Discard
+            | Verb::Stat { .. }
+            | Verb::Paint(_)
+            | Verb::Frame { .. }
+            | Verb::Tick
+            | Verb::GetError { .. }
+            | Verb::ElementSet { .. }
+            | Verb::ElementGet { .. }
+            | Verb::ElementInsert { .. }
+            | Verb::ElementRemove { .. }
+            | Verb::ElementAbove { .. }
+            | Verb::ElementBelow { .. }
+            | Verb::ContextSet { .. }
+            | Verb::ContextGet { .. }
+            | Verb::Commit { .. }
+            | Verb::Activate { .. }
+            | Verb::Deactivate { .. }
+            | Verb::Compose { .. }
+            | Verb::TryCompose { .. }
+            | Verb::PortSet { .. }
+            | Verb::PortGet { .. }
+            | Verb::Attach { .. }
+            | Verb::PipeSet { .. }
+            | Verb::PipeGet { .. }
+            | Verb::PipeBindPort { .. }
+            | Verb::DisplaySourceDestroy { .. }
+            | Verb::PipeBindSource { .. }
+            | Verb::CommitDevice
+            | Verb::CommitPort { .. }
+            | Verb::CommitPipe { .. }
+            | Verb::DisplayError
+            | Verb::StreamDestroy { .. }
+            | Verb::DeviceDestroy { .. }
+            | Verb::ContextDestroy { .. }
+            | Verb::ElementDestroy { .. }
+            | Verb::SourceDestroy { .. }
+            | Verb::MaskDestroy { .. } => false,
+        }
     }
 }
 

@@ -23,6 +23,12 @@ pub(crate) fn verb_of(plain: Plain, items: &[Item<'_>]) -> Verb
             format: format_at(items, 2),
             buffers: number_at(items, 3),
         },
+        Plain::StreamQueue => Verb::StreamQueue {
+            width: number_at(items, 0),
+            height: number_at(items, 1),
+            format: format_at(items, 2),
+            depth: number_at(items, 3),
+        },
         Plain::Acquire => Verb::Acquire {
             stream: handle_at(items, 0),
         },

@@ -26,7 +26,7 @@ impl Name {
         Name { text }
     }
 
-    /// The letters of the name.
+    /// Returns the letters of the name.
     pub fn as_str(&self) -> &str
         ensures { result.now ≡ self.now }
     {

@@ -4,7 +4,7 @@ ghost use Rattle.std.specs.Prelude.{◌≡◌, ◌<◌, ◌≤◌, ◌≤ℤ◌,
 ghost use Rattle.wf_script.specs.Words.{client_of, count_in, digits_of, integer_in, integer_of, is_digit, size_of};
 
 use crate::words::cut_at;
-use wf_pixel::Size;
+use wf_pixel::{MOST_SIDE, Size};
 
 /// The most digits of a number.
 const MOST_DIGITS: usize = 10;
@@ -83,8 +83,8 @@ pub(crate) fn size_of(word: &[u8]) -> Option<Size>
     ensures { result ≡ size_of word.now }
 {
     let (w, h) = cut_at(word, b'x');
-    let w = count_in(1, 1024, w)?;
-    let h = count_in(1, 1024, h)?;
+    let w = count_in(1, MOST_SIDE, w)?;
+    let h = count_in(1, MOST_SIDE, h)?;
     Some(Size { w, h })
 }
 

@@ -1,11 +1,12 @@
 //! How a paint is printed.
 
-ghost use Rattle.std.specs.Prelude.{◌+◌, ◌≤◌, ◌++◌, IsTrue};
+ghost use Rattle.std.specs.Prelude.{◌+◌, ◌*◌, ◌≤◌, ◌++◌, IsTrue};
 ghost use Rattle.wf_image.specs.Paints.{is_paint};
 ghost use Rattle.wf_script.specs.Canonical.{color_words, paint_words};
 ghost use Rattle.wf_script.specs.Text.{Adds, extent};
 ghost use Rattle.wf_script.specs.Token.{spaced};
 
+use crate::WORD_ROOM;
 use crate::text::Text;
 use crate::token::Token::{Count, Letters, Pixels, Place};
 use crate::token::add_words;
@@ -16,7 +17,7 @@ use wf_pixel::Rgba;
 /// Adds the channels of a colour.
 fn add_color<K: Sink>(text: &mut Text, k: &mut K, color: Rgba)
     ensures adds { Adds K.took K.faults text.old k.old text.new k.new (spaced (color_words color)) }
-    ensures most { extent text.new ≤ extent text.old + 32772 }
+    ensures most { extent text.new ≤ extent text.old + 4 * WORD_ROOM }
 {
     add_words(
         text,
@@ -33,7 +34,7 @@ fn add_color<K: Sink>(text: &mut Text, k: &mut K, color: Rgba)
 /// Adds the channels of two colours.
 fn add_colors<K: Sink>(text: &mut Text, k: &mut K, first: Rgba, second: Rgba)
     ensures adds { Adds K.took K.faults text.old k.old text.new k.new (spaced (color_words first ++ color_words second)) }
-    ensures most { extent text.new ≤ extent text.old + 65544 }
+    ensures most { extent text.new ≤ extent text.old + 8 * WORD_ROOM }
 {
     add_color(text, k, first);
     add_color(text, k, second);
@@ -43,7 +44,7 @@ fn add_colors<K: Sink>(text: &mut Text, k: &mut K, first: Rgba, second: Rgba)
 pub(crate) fn add_paint<K: Sink>(text: &mut Text, k: &mut K, paint: &Paint)
     requires { IsTrue (is_paint paint.now) }
     ensures adds { Adds K.took K.faults text.old k.old text.new k.new (spaced (paint_words paint.now)) }
-    ensures most { extent text.new ≤ extent text.old + 81930 }
+    ensures most { extent text.new ≤ extent text.old + 10 * WORD_ROOM }
 {
     match paint {
         Paint::Fill { color } => {

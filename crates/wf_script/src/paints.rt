@@ -5,7 +5,9 @@ ghost use Rattle.wf_script.specs.PaintWords.{checker, color, fill, paint_of, pai
 ghost use Rattle.wf_script.specs.Pick.{first_as};
 ghost use Rattle.wf_script.specs.Rules.{Gives, Reads};
 ghost use Rattle.wf_script.specs.Words.{count_in, integer_in, words_in};
+ghost use Rattle.wf_pixel.specs.Choice.{least_coordinate, most_coordinate};
 
+use crate::ROW_DIGITS;
 use crate::hex::hex_pixels;
 use crate::numbers::{count_in, integer_in};
 use crate::paint_form::PaintForm;
@@ -13,10 +15,7 @@ use crate::pick::{count, counted, first};
 use crate::rule::{LineFault, Rule};
 use std::alloc::Global;
 use wf_image::Paint;
-use wf_pixel::{Rect, Rgba};
-
-/// The most hexadecimal digits of a row: 8 for each of 1,024 pixels.
-const MOST_DIGITS: usize = 8 * 1024;
+use wf_pixel::{MOST_COORDINATE, MOST_SIDE, Rect, Rgba};
 
 /// The paint that words stand for.
 #[tactic(auto, unfolding(crate::specs::PaintWords::paint_of))]
@@ -81,15 +80,19 @@ fn fill(words: &[u8]) -> Result<Paint, LineFault>
 
 /// The place of a word, left of or above an image, or in it.
 fn place_of(word: &[u8]) -> Option<i32>
-    ensures { result ≡ integer_in (negsuc 16383) (pos 16384) word.now }
+    ensures { result ≡ integer_in least_coordinate most_coordinate word.now }
 {
-    let place = integer_in(-16_384, 16_384, word)?;
+    let place = integer_in(
+        -i64::from(MOST_COORDINATE),
+        i64::from(MOST_COORDINATE),
+        word,
+    )?;
     Some(place as i32)
 }
 
 /// A place, left of or above an image, or in it.
 fn place(words: &[u8]) -> Result<(i32, &[u8]), Rule>
-    ensures { Reads result (first_as (integer_in (negsuc 16383) (pos 16384)) (words_in words.now)) }
+    ensures { Reads result (first_as (integer_in least_coordinate most_coordinate) (words_in words.now)) }
 {
     let (word, words) = first(words)?;
     let place = place_of(word).ok_or(Rule::Word)?;
@@ -102,8 +105,8 @@ fn rectangle(words: &[u8]) -> Result<Paint, LineFault>
 {
     let (x, words) = place(words)?;
     let (y, words) = place(words)?;
-    let (w, words) = count(0, 16_384, words)?;
-    let (h, words) = count(0, 16_384, words)?;
+    let (w, words) = count(0, MOST_COORDINATE, words)?;
+    let (h, words) = count(0, MOST_COORDINATE, words)?;
     let (color, _) = color(words)?;
     let area = Rect { x, y, w, h };
     Ok(Paint::Rectangle { area, color })
@@ -113,7 +116,7 @@ fn rectangle(words: &[u8]) -> Result<Paint, LineFault>
 fn checker(words: &[u8]) -> Result<Paint, LineFault>
     ensures { Gives (λ paint. paint) result (checker (words_in words.now)) }
 {
-    let (n, words) = count(1, 1024, words)?;
+    let (n, words) = count(1, MOST_SIDE, words)?;
     let (first, words) = color(words)?;
     let (second, _) = color(words)?;
     Ok(Paint::Checker { n, first, second })
@@ -133,7 +136,7 @@ fn ramp(words: &[u8]) -> Result<Paint, LineFault>
 fn row_number(word: &[u8]) -> Option<u32>
     ensures { result ≡ row_number word.now }
 {
-    let number = integer_in(0, 1023, word)?;
+    let number = integer_in(0, i64::from(MOST_SIDE) - 1, word)?;
     Some(number as u32)
 }
 
@@ -144,7 +147,7 @@ fn row(alloc: Global, words: &[u8]) -> Result<Paint, LineFault>
     let (word, words) = first(words)?;
     let y = row_number(word).ok_or(Rule::Word)?;
     let (word, _) = first(words)?;
-    if word.len() > MOST_DIGITS {
+    if word.len() > ROW_DIGITS {
         return Err(LineFault::Breaks(Rule::Word));
     }
     let pixels = hex_pixels(alloc, word)?;

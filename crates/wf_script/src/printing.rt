@@ -10,6 +10,7 @@ ghost use Rattle.wf_script.specs.Script.{is_line};
 ghost use Rattle.wf_script.specs.Text.{Adds, extent};
 ghost use Rattle.wf_script.specs.Token.{spaced};
 
+use crate::WORD_ROOM;
 use crate::line::Line;
 use crate::name::Name;
 use crate::script::Script;
@@ -42,7 +43,7 @@ pub fn print<K: Sink>(script: &Script, k: &mut K) -> Result<(), WriteStop>
 fn add_ports<K: Sink>(text: &mut Text, k: &mut K, ports: &[Modes])
     requires { IsTrue (list_all may_have ports.now) }
     ensures adds { Adds K.took K.faults text.old k.old text.new k.new (flat_map port_text ports.now) }
-    ensures most { extent text.new ≤ extent text.old + 65536 * length ports.now }
+    ensures most { extent text.new ≤ extent text.old + 8 * WORD_ROOM * length ports.now }
 {
     for modes in ports {
         add_port(text, k, modes);
@@ -53,7 +54,7 @@ fn add_ports<K: Sink>(text: &mut Text, k: &mut K, ports: &[Modes])
 fn add_port<K: Sink>(text: &mut Text, k: &mut K, modes: &Modes)
     requires { IsTrue (may_have modes.now) }
     ensures adds { Adds K.took K.faults text.old k.old text.new k.new (port_text modes.now) }
-    ensures most { extent text.new ≤ extent text.old + 65536 }
+    ensures most { extent text.new ≤ extent text.old + 8 * WORD_ROOM }
 {
     text.add(k, b"port");
     add_sizes(text, k, modes.sizes.as_slice());
@@ -64,7 +65,7 @@ fn add_port<K: Sink>(text: &mut Text, k: &mut K, modes: &Modes)
 #[tactic(auto, using(crate::proofs::Additions::adds_none), unfolding(crate::specs::Token::spaced))]
 fn add_sizes<K: Sink>(text: &mut Text, k: &mut K, sizes: &[Size])
     ensures adds { Adds K.took K.faults text.old k.old text.new k.new (spaced (map size_word sizes.now)) }
-    ensures most { extent text.new ≤ extent text.old + 8193 * length sizes.now }
+    ensures most { extent text.new ≤ extent text.old + WORD_ROOM * length sizes.now }
 {
     for size in sizes {
         add_word(text, k, &Token::Size(*size));
@@ -74,7 +75,7 @@ fn add_sizes<K: Sink>(text: &mut Text, k: &mut K, sizes: &[Size])
 /// Adds the line of pipelines, where there are any.
 fn add_pipes<K: Sink>(text: &mut Text, k: &mut K, pipes: u32)
     ensures adds { Adds K.took K.faults text.old k.old text.new k.new (pipes_text pipes) }
-    ensures most { extent text.new ≤ extent text.old + 65536 }
+    ensures most { extent text.new ≤ extent text.old + 8 * WORD_ROOM }
 {
     if pipes == 0 {
         return;
@@ -89,7 +90,7 @@ fn add_pipes<K: Sink>(text: &mut Text, k: &mut K, pipes: u32)
 fn add_lines<K: Sink>(text: &mut Text, k: &mut K, lines: &[Line])
     requires { IsTrue (list_all is_line lines.now) }
     ensures adds { Adds K.took K.faults text.old k.old text.new k.new (flat_map event_text lines.now) }
-    ensures most { extent text.new ≤ extent text.old + 262144 * length lines.now }
+    ensures most { extent text.new ≤ extent text.old + 32 * WORD_ROOM * length lines.now }
 {
     for line in lines {
         add_line(text, k, line);
@@ -100,7 +101,7 @@ fn add_lines<K: Sink>(text: &mut Text, k: &mut K, lines: &[Line])
 fn add_line<K: Sink>(text: &mut Text, k: &mut K, line: &Line)
     requires { IsTrue (is_line line.now) }
     ensures adds { Adds K.took K.faults text.old k.old text.new k.new (event_text line.now) }
-    ensures most { extent text.new ≤ extent text.old + 262144 }
+    ensures most { extent text.new ≤ extent text.old + 32 * WORD_ROOM }
 {
     add_count(text, k, line.client as u32);
     add_binding(text, k, &line.name);
@@ -112,7 +113,7 @@ fn add_line<K: Sink>(text: &mut Text, k: &mut K, line: &Line)
 #[tactic(auto, using(crate::proofs::Additions::adds_none), unfolding(crate::specs::Token::spaced))]
 fn add_binding<K: Sink>(text: &mut Text, k: &mut K, name: &Option<Name>)
     ensures adds { Adds K.took K.faults text.old k.old text.new k.new (spaced (binding_words name.now)) }
-    ensures most { extent text.new ≤ extent text.old + 16386 }
+    ensures most { extent text.new ≤ extent text.old + 2 * WORD_ROOM }
 {
     match name {
         Some(name) => add_words(

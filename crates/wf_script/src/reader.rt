@@ -22,14 +22,11 @@ use crate::seen::Seen;
 use crate::words::{are_allowed, next_word, without_comment, without_return};
 use arrayvec::ArrayVec;
 use std::alloc::Global;
-use wf_calls::{Modes, Ports};
+use wf_calls::{MOST_PIPELINES, Modes, Ports};
 use wf_pixel::Size;
 
 /// The most ports, and the most modes of a port.
 const MOST: usize = 4;
-
-/// The most pipelines.
-const MOST_PIPES: u32 = 8;
 
 /// What was read so far: the ports' modes, the number of pipelines where it was declared, the event lines, whether the
 /// end stood, and the names.
@@ -133,7 +130,7 @@ impl<'a> Reader<'a> {
             return Err(Rule::Place);
         }
         let word = alone(words)?;
-        let count = count_in(0, MOST_PIPES, word).ok_or(Rule::Word)?;
+        let count = count_in(0, MOST_PIPELINES, word).ok_or(Rule::Word)?;
         self.pipes = Some(count);
         Ok(())
     }

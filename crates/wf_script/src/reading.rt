@@ -6,6 +6,7 @@ ghost use Rattle.wf_script.specs.Reader.{fault_at, reading};
 ghost use Rattle.wf_script.specs.Script.{PlainScript};
 ghost use Rattle.wf_script.specs.Words.{lines_of};
 
+use crate::MOST_LINES;
 use crate::fault::ScriptFault;
 use crate::reader::Reader;
 use crate::rule::LineFault;
@@ -13,11 +14,8 @@ use crate::script::Script;
 use crate::words::{are_allowed, next_line, next_word, without_comment, without_return};
 use std::alloc::Global;
 
-/// The most lines of a script.
-const MOST_LINES: u32 = 16_384;
-
-/// The script that the bytes stand for, or the first line that breaks a rule, with the least rule that it breaks. In
-/// one pass; memory is taken for the script and for the names that it binds.
+/// Reads the script that the bytes stand for, or finds the first line that breaks a rule, with the least rule that it breaks.
+/// In one pass; memory is taken for the script and for the names that it binds.
 #[tactic(auto, unfolding(crate::specs::Grammar::read_script))]
 pub fn parse(alloc: Global, bytes: &[u8]) -> Result<Script, ScriptFault>
     ensures { Answers (λ script. script) result (read_script bytes.now) }

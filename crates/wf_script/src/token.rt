@@ -15,6 +15,7 @@ use crate::spelled::{
     stat_word, transition_word, transparency_word,
 };
 use crate::text::Text;
+use crate::{ROW_DIGITS, WORD_ROOM};
 use itoa::Buffer;
 use wf_calls::{PipeAttr, PortAttr, StatWord, Transition};
 use wf_io::Sink;
@@ -123,7 +124,7 @@ fn add_shown<K: Sink>(text: &mut Text, k: &mut K, shown: Shown<'_>)
 fn add_token<K: Sink>(text: &mut Text, k: &mut K, token: &Token<'_>)
     requires { IsTrue (is_short token.now) }
     ensures adds { Adds K.took K.faults text.old k.old text.new k.new (token_word token.now) }
-    ensures most { extent text.new ≤ extent text.old + 8192 }
+    ensures most { extent text.new ≤ extent text.old + ROW_DIGITS }
 {
     match token {
         Token::Letters(letters) => text.add(k, letters),
@@ -140,7 +141,7 @@ fn add_token<K: Sink>(text: &mut Text, k: &mut K, token: &Token<'_>)
 pub(crate) fn add_word<K: Sink>(text: &mut Text, k: &mut K, token: &Token<'_>)
     requires { IsTrue (is_short token.now) }
     ensures adds { Adds K.took K.faults text.old k.old text.new k.new (codes " " ++ token_word token.now) }
-    ensures most { extent text.new ≤ extent text.old + 8193 }
+    ensures most { extent text.new ≤ extent text.old + WORD_ROOM }
 {
     text.add(k, b" ");
     add_token(text, k, token);
@@ -151,7 +152,7 @@ pub(crate) fn add_word<K: Sink>(text: &mut Text, k: &mut K, token: &Token<'_>)
 pub(crate) fn add_words<K: Sink>(text: &mut Text, k: &mut K, tokens: &[Token<'_>])
     requires { IsTrue (list_all is_short tokens.now) }
     ensures adds { Adds K.took K.faults text.old k.old text.new k.new (spaced (map token_word tokens.now)) }
-    ensures most { extent text.new ≤ extent text.old + 8193 * length tokens.now }
+    ensures most { extent text.new ≤ extent text.old + WORD_ROOM * length tokens.now }
 {
     for token in tokens {
         add_word(text, k, token);
@@ -162,7 +163,7 @@ pub(crate) fn add_words<K: Sink>(text: &mut Text, k: &mut K, tokens: &[Token<'_>
 #[tactic(auto, using(crate::proofs::Additions::adds_none), unfolding(crate::specs::Token::spaced))]
 pub(crate) fn add_all_shown<K: Sink>(text: &mut Text, k: &mut K, shown: &[Shown<'_>])
     ensures adds { Adds K.took K.faults text.old k.old text.new k.new (spaced (map shown_word shown.now)) }
-    ensures most { extent text.new ≤ extent text.old + 8193 * length shown.now }
+    ensures most { extent text.new ≤ extent text.old + WORD_ROOM * length shown.now }
 {
     for one in shown {
         add_word(text, k, &Token::Shown(*one));

@@ -1,12 +1,13 @@
 //! How a verb is printed.
 
-ghost use Rattle.std.specs.Prelude.{◌≡◌, ◌+◌, ◌≤◌, [], ◌∷◌, ◌++◌, length, map, IsTrue};
+ghost use Rattle.std.specs.Prelude.{◌≡◌, ◌+◌, ◌*◌, ◌≤◌, [], ◌∷◌, ◌++◌, length, map, IsTrue};
 ghost use Rattle.wf_script.specs.Canonical.{verb_words};
 ghost use Rattle.wf_script.specs.Script.{may_paint};
 ghost use Rattle.wf_script.specs.Text.{Adds, extent};
 ghost use Rattle.wf_script.specs.Told.{end_words, told_words};
 ghost use Rattle.wf_script.specs.Token.{shown_word, spaced};
 
+use crate::WORD_ROOM;
 use crate::line::Verb;
 use crate::paint_text::add_paint;
 use crate::shapes::{context_fields, element_fields, pipe_fields, port_fields};
@@ -120,6 +121,19 @@ fn told(verb: &Verb) -> Told<'_>
             Number(height),
             Format(*format),
             Number(buffers),
+            End::Nothing,
+        ),
+        Verb::StreamQueue {
+            width,
+            height,
+            format,
+            depth,
+        } => four(
+            b"queue",
+            Number(width),
+            Number(height),
+            Format(*format),
+            Number(depth),
             End::Nothing,
         ),
         Verb::Acquire { stream } => one(b"acquire", Handle(stream), End::Nothing),
@@ -372,7 +386,7 @@ fn told(verb: &Verb) -> Told<'_>
 #[tactic(auto, using(crate::proofs::Additions::adds_none), unfolding(crate::specs::Token::spaced))]
 fn add_end<K: Sink>(text: &mut Text, k: &mut K, end: End<'_>)
     ensures adds { Adds K.took K.faults text.old k.old text.new k.new (spaced (end_words end.entry)) }
-    ensures most { extent text.new ≤ extent text.old + 81930 }
+    ensures most { extent text.new ≤ extent text.old + 10 * WORD_ROOM }
 {
     match end {
         End::Nothing => {}
@@ -388,7 +402,7 @@ fn add_end<K: Sink>(text: &mut Text, k: &mut K, end: End<'_>)
 pub(crate) fn add_verb<K: Sink>(text: &mut Text, k: &mut K, verb: &Verb)
     requires { IsTrue (may_paint verb.now) }
     ensures adds { Adds K.took K.faults text.old k.old text.new k.new (spaced (verb_words verb.now)) }
-    ensures most { extent text.new ≤ extent text.old + 131072 }
+    ensures most { extent text.new ≤ extent text.old + 16 * WORD_ROOM }
 {
     let told = told(verb);
     add_words(text, k, &[Token::Letters(told.word)]);

@@ -21,6 +21,7 @@ use Rattle.wf_show.specs.declared.player.Player.{Player}
 use Rattle.wf_show.specs.Opened.{passes_from}
 use Rattle.wf_show.specs.Players.{AreFresh, IsFresh, first_pass}
 use Rattle.wf_show.specs.Running.{PlainPass}
+use Rattle.wf_script.specs.declared.TheConstants.{MOST_LINES}
 
 -- a client makes so many events at most
 least_40 : (v : Verb) → line_quota v ≤ 40
@@ -82,7 +83,8 @@ module _ (desk : TableId) (script : PlainScript) where
   dealt o quotas opened are = ap (λ h. fresh desk h 0 quotas) opened ∙ ap (fresh desk (opening script.ports) 0) are
 
   pub fresh_clock : (pass : PlainPass) (p : Program) → pass ≡ first_pass desk script 0 (quota script.lines 0) → p ≡ program script 0
-      → IsFit p → left p ≤ quota script.lines 0 → length script.lines ≤ 16384 → IsFresh desk script 0 (record { pass = pass; program = p })
+      → IsFit p → left p ≤ quota script.lines 0 → length script.lines ≤ MOST_LINES
+      → IsFresh desk script 0 (record { pass = pass; program = p })
   fresh_clock pass p pass_is is fit few lines =
       record {
         quota = quota script.lines 0;
@@ -102,7 +104,7 @@ module _ (desk : TableId) (script : PlainScript) where
 
   pub fresh_one : (done : List PlainPass) (k : PlainPass) (rest : List PlainPass) (client : ℕ) (p : Program)
       → done ++ k ∷ rest ≡ passes_from desk script 1 7 → client ≡ 1 + length done → p ≡ program script client → IsFit p
-      → left p ≤ quota script.lines client → length script.lines ≤ 16384
+      → left p ≤ quota script.lines client → length script.lines ≤ MOST_LINES
       → IsFresh desk script (1 + length done) (record { pass = k; program = p })
   fresh_one done k rest client p same at is fit few lines =
       let c : ℕ = 1 + length done in

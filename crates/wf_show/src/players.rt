@@ -11,7 +11,7 @@ use crate::player::{OTHERS, Player};
 use std::alloc::Global;
 use wf_desk::{Desk, Pass};
 use wf_machine::Machine;
-use wf_script::Script;
+use wf_script::{MOST_LINES, Script};
 use wf_turn::{Program, quota};
 use wf_words::NoMemory;
 
@@ -33,7 +33,7 @@ fn quotas_of(script: &Script) -> [u32; 8]
     ensures quotas { result ≡ quota script.now.lines 0 ∷ quota script.now.lines 1 ∷ quota script.now.lines 2 ∷ quota script.now.lines 3
         ∷ quota script.now.lines 4 ∷ quota script.now.lines 5 ∷ quota script.now.lines 6 ∷ quota script.now.lines 7 ∷ [] }
     ensures sum { sum result < 2 ^ 32 }
-    ensures few { length script.now.lines ≤ 16384 }
+    ensures few { length script.now.lines ≤ MOST_LINES }
     ensures ticks { IsTrue (list_all may_tick script.now.lines) }
 {
     // What holds of every script is known by its lines.
@@ -58,7 +58,7 @@ fn players_of<'a>(
     passes: Vec<Pass<Machine>>,
 ) -> Result<Vec<Player<'a>>, NoMemory>
     requires passes { passes.items ≡ passes_from desk.now.id script.now 1 7 }
-    requires few { length script.now.lines ≤ 16384 }
+    requires few { length script.now.lines ≤ MOST_LINES }
     ensures fresh { IfOk result (λ players. AreFresh desk.now.id script.now 1 players.items) }
     ensures seven { IfOk result (λ players. length players.items ≡ 7) }
 {

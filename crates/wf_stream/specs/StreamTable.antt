@@ -58,7 +58,7 @@ abbrev pub AreApart : List (ℕ × Place) → Type 0
 AreApart [] = Unit {0}
 AreApart (e ∷ places) = HasNone e.1.key places × AreApart places
 
--- no stream has more than 16 MiB
+-- no stream has more than 36 MiB
 abbrev pub AreSmall : List KeptStream → Type 0
 AreSmall [] = Unit {0}
 AreSmall (s ∷ streams) = (buffer_bytes s.buffers ≤ STREAM_BYTES) × AreSmall streams

@@ -1,11 +1,11 @@
 //! The store: the handles of all objects, and the streams by number.
 
-ghost use Rattle.std.specs.Prelude.{◌≡◌, ◌↔◌, ◌+◌, ◌<◌, ◌≤◌, ◌||◌, [], not, map, Some, option_copied};
+ghost use Rattle.std.specs.Prelude.{◌≡◌, ◌↔◌, ◌+◌, ◌<◌, ◌≤◌, ◌||◌, [], false, not, map, Some, option_copied};
 ghost use Rattle.std.specs.Prelude.{IfOk, IfSome, OnOk, OnErr, IsErrOf, IsSome, IsTrue};
 ghost use Rattle.std.specs.Result.{result_ok};
 ghost use Rattle.wf_pixel.specs.Choice.{has_sides};
 ghost use Rattle.wf_life.specs.Handles.{is_full, is_live, without};
-ghost use Rattle.wf_stream.specs.Buffers.{fresh};
+ghost use Rattle.wf_stream.specs.Buffers.{fresh, fresh_queue};
 ghost use Rattle.wf_stream.specs.Counts.{without_count};
 ghost use Rattle.wf_stream.specs.Streams.{held, empty, with_screen, with_live_stream, with_other, has_no_room, number_of, key_in, is_alive};
 ghost use Rattle.wf_stream.specs.Streams.{is_stream, count_in, killed, stream_at, unnamed, buffers_at, IsNumbered};
@@ -14,7 +14,7 @@ ghost use Rattle.wf_stream.specs.Names.{IsReleasable};
 
 use crate::stream::{Stream, bytes_of};
 use crate::streams::Streams;
-use crate::{Held, MOST_BYTES, MOST_STREAMS};
+use crate::{Held, MOST_BUFFERS, MOST_BYTES, MOST_DEPTH, MOST_STREAMS};
 use std::alloc::Global;
 use std::marker::Model;
 use wf_image::NoMemory;
@@ -86,7 +86,7 @@ impl Store {
         Ok(number)
     }
 
-    /// Makes a stream of `size` and `format` with `buffers` buffers, and returns its handle.
+    /// Makes a plain stream of `size` and `format` with `buffers` buffers, and returns its handle.
     pub fn make(&mut self, size: Size, format: Format, buffers: u32) -> Result<u32, MakeStop>
         requires sides { IsTrue (has_sides size) }
         requires least { 2 ≤ buffers }
@@ -98,13 +98,46 @@ impl Store {
             || is_full self.old.made) }
         ensures refused { OnErr result (self.new ≡ self.old) }
     {
-        if has_no_room(&self.streams, size, format, buffers) || self.handles.full() {
+        if self.at_limit(size, format, buffers) {
             return Err(MakeStop::Limit);
         }
+        match Stream::new(self.alloc, size, format, buffers) {
+            Ok(stream) => self.keep(stream),
+            Err(_) => Err(MakeStop::NoMemory),
+        }
+    }
+
+    /// Makes a queue stream of `size` and `format` in which at most `depth` images wait, and returns its handle.
+    pub fn queue(&mut self, size: Size, format: Format, depth: u32) -> Result<u32, MakeStop>
+        requires sides { IsTrue (has_sides size) }
+        requires least { 1 ≤ depth }
+        requires most { depth ≤ MOST_DEPTH }
+        ensures handle { IfOk result (λ handle. handle ≡ self.old.made + 1) }
+        ensures made { OnOk result (self.new ≡ with_live_stream (fresh_queue size format depth) self.old) }
+        ensures uncounted { OnOk result (without_count (self.old.numbered + 1) self.old.counts ≡ self.old.counts) }
+        ensures limit { IsErrOf result MakeStop.Limit ↔ IsTrue (has_no_room (fresh_queue size format depth) self.old.streams
+            || is_full self.old.made) }
+        ensures refused { OnErr result (self.new ≡ self.old) }
+    {
+        if self.at_limit(size, format, depth + 1) {
+            return Err(MakeStop::Limit);
+        }
+        match Stream::queue(self.alloc, size, format, depth) {
+            Ok(stream) => self.keep(stream),
+            Err(_) => Err(MakeStop::NoMemory),
+        }
+    }
+
+    /// Keeps `stream` under the next number, and returns the next handle, which it gives to it, while handles are left.
+    fn keep(&mut self, stream: Stream) -> Result<u32, MakeStop>
+        requires left { is_full self.old.made ≡ false }
+        ensures handle { IfOk result (λ handle. handle ≡ self.old.made + 1) }
+        ensures made { OnOk result (self.new ≡ with_live_stream stream self.old) }
+        ensures uncounted { OnOk result (without_count (self.old.numbered + 1) self.old.counts ≡ self.old.counts) }
+        ensures memory { OnErr result (IsErrOf result MakeStop.NoMemory) }
+        ensures refused { OnErr result (self.new ≡ self.old) }
+    {
         let number = self.numbered + 1;
-        let Ok(stream) = Stream::new(self.alloc, size, format, buffers) else {
-            return Err(MakeStop::NoMemory);
-        };
         let Ok(_) = self.streams.push(number, 0, stream) else {
             return Err(MakeStop::NoMemory);
         };
@@ -128,7 +161,7 @@ impl Store {
     /// many bytes, or all handles were given.
     pub fn at_limit(&self, size: Size, format: Format, buffers: u32) -> bool
         requires sides { IsTrue (has_sides size) }
-        requires most { buffers ≤ 4 }
+        requires most { buffers ≤ MOST_BUFFERS }
         ensures { result ≡ (has_no_room (fresh size format buffers) self.now.streams || is_full self.now.made) }
     {
         has_no_room(&self.streams, size, format, buffers) || self.handles.full()
@@ -221,7 +254,7 @@ impl Store {
 /// Another stream is one too many, or its bytes are.
 fn has_no_room(streams: &Streams, size: Size, format: Format, buffers: u32) -> bool
     requires sides { IsTrue (has_sides size) }
-    requires most { buffers ≤ 4 }
+    requires most { buffers ≤ MOST_BUFFERS }
     ensures { result ≡ has_no_room (fresh size format buffers) streams.now.streams }
 {
     streams.len() >= MOST_STREAMS || streams.bytes() + bytes_of(size, format, buffers) > MOST_BYTES

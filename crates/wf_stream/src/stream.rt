@@ -1,14 +1,16 @@
-//! One stream: its buffers, which are free, out, finished or read.
+//! One stream: its buffers, which are free, out, waiting or read.
 
 ghost use Rattle.std.specs.Prelude.{◌≡◌, ◌↔◌, ◌*◌, ◌<◌, ◌≤◌, ◌≢◌, not, ◌&&◌, IfOk, OnOk, OnErr, IfSome, IsErrOf, IsTrue};
 ghost use Rattle.std.specs.List.{All};
 ghost use Rattle.std.specs.Vec.{vec_len, vec_capacity};
 ghost use Rattle.wf_pixel.specs.Choice.{has_sides};
 ghost use Rattle.wf_image.specs.Bitmap.{blank, image_bytes};
-ghost use Rattle.wf_stream.specs.Buffers.{fresh, acquired, posted, discarded, newest, latched, latched_if, returned, is_blocked, away};
+ghost use Rattle.wf_stream.specs.Buffers.{fresh, fresh_queue, acquired, posted, discarded, next_image};
+ghost use Rattle.wf_stream.specs.Buffers.{latched, latched_if, returned, is_blocked, away};
 ghost use Rattle.wf_stream.specs.Buffers.{HasShape, buffer_bytes};
 
-use crate::STREAM_BYTES;
+use crate::{MOST_BUFFERS, MOST_DEPTH, STREAM_BYTES};
+use circular_buffer::HeapCircularBuffer;
 use std::alloc::Global;
 use std::marker::Model;
 use std::mem;
@@ -20,7 +22,7 @@ use wf_pixel::{Format, Size};
 pub enum Refused {
     /// The write buffer is out.
     Busy,
-    /// None is out, and none is free.
+    /// None is out, and none may be taken.
     NoBuffer,
 }
 
@@ -32,15 +34,17 @@ enum Read {
     Home(Image),
 }
 
-/// A size, a format, and 2 to 4 buffers of them. At most one is out for writing, at most one is finished, at most one
-/// is read, and the others are free. All are taken when the stream is made, so no later call can lack memory.
+/// A size, a format, and buffers of them. At most one is out for writing, and at most one is read. Finished images that no frame
+/// took wait in order, and the others are free. In a plain stream, of depth 0, at most one waits, the newest; in a queue at most
+/// as many as its depth. All buffers are taken when the stream is made, so no later call takes memory, and none copies an image.
 #[derive(Drop)]
 pub struct Stream {
     size: Size,
     format: Format,
     buffers: u32,
+    depth: u32,
     out: bool,
-    ready: Option<Image>,
+    waiting: HeapCircularBuffer<Image>,
     read: Read,
     free: Vec<Image>,
 }
@@ -58,7 +62,7 @@ impl Model for Stream {
 }
 
 impl Stream {
-    /// Makes a stream of `size` and `format` without any post, with all its `buffers` buffers.
+    /// Makes a plain stream of `size` and `format` without any post, with all its `buffers` buffers.
     pub fn new(alloc: Global, size: Size, format: Format, buffers: u32) -> Result<Stream, NoMemory>
         requires sides { IsTrue (has_sides size) }
         requires least { 2 ≤ buffers }
@@ -66,12 +70,36 @@ impl Stream {
         ensures { IfOk result (λ stream. stream ≡ fresh size format buffers) }
     {
         let free = images(alloc, size, format, buffers)?;
+        let waiting = HeapCircularBuffer::with_capacity(alloc, 1)?;
         Ok(Stream {
             size,
             format,
             buffers,
+            depth: 0,
             out: false,
-            ready: None,
+            waiting,
+            read: Read::Never,
+            free,
+        })
+    }
+
+    /// Makes a queue stream of `size` and `format` without any post, with all its buffers: one more than its `depth`.
+    pub fn queue(alloc: Global, size: Size, format: Format, depth: u32) -> Result<Stream, NoMemory>
+        requires sides { IsTrue (has_sides size) }
+        requires least { 1 ≤ depth }
+        requires most { depth ≤ MOST_DEPTH }
+        ensures { IfOk result (λ stream. stream ≡ fresh_queue size format depth) }
+    {
+        let buffers = depth + 1;
+        let free = images(alloc, size, format, buffers)?;
+        let waiting = HeapCircularBuffer::with_capacity(alloc, depth as usize)?;
+        Ok(Stream {
+            size,
+            format,
+            buffers,
+            depth,
+            out: false,
+            waiting,
             read: Read::Never,
             free,
         })
@@ -107,12 +135,37 @@ impl Stream {
         bytes_of(self.size, self.format, self.buffers)
     }
 
-    /// Tells whether a buffer is free: now, or where `latched` is set after a `latch`.
+    /// Tells whether no buffer may be taken for writing: none is free, or in a queue as many images wait as its depth.
+    fn is_blocked(&self) -> bool
+        ensures { result ≡ is_blocked self.now }
+    {
+        if self.depth == 0 {
+            self.free.is_empty()
+        } else {
+            self.waiting.is_full()
+        }
+    }
+
+    /// Tells the same of the stream after a `latch`, which makes room in a queue, and in a plain stream where it frees the read
+    /// buffer.
+    fn is_blocked_latched(&self) -> bool
+        requires { self.now.read ≢ away }
+        ensures { result ≡ is_blocked (latched self.now) }
+    {
+        let makes_room = self.depth > 0 || !self.waiting.is_empty() && self.read.is_home();
+        self.is_blocked() && !makes_room
+    }
+
+    /// Tells whether a buffer may be taken for writing: now, or where `latched` is set after a `latch`.
     pub fn roomy(&self, latched: bool) -> bool
         requires { IsTrue latched → self.now.read ≢ away }
         ensures { result ≡ not (is_blocked (latched_if latched self.now)) }
     {
-        !self.free.is_empty() || latched && self.ready.is_some() && self.read.is_home()
+        if latched {
+            !self.is_blocked_latched()
+        } else {
+            !self.is_blocked()
+        }
     }
 
     /// Takes a free buffer, all zero, to be written for the stream `number`.
@@ -127,8 +180,11 @@ impl Stream {
         if self.out {
             return Err(Refused::Busy);
         }
-        let Some(mut image) = self.free.pop() else {
+        if self.is_blocked() {
             return Err(Refused::NoBuffer);
+        }
+        let Some(mut image) = self.free.pop() else {
+            unreachable!()
         };
         clear(&mut image);
         self.out = true;
@@ -139,13 +195,14 @@ impl Stream {
     }
 
     /// Takes the write buffer `c` as finished. A finished one that no frame took is free again.
+    /// Takes the write buffer `c` as finished. An image that waits in a plain stream is free again.
     pub fn post(&mut self, c: Canvas)
         requires out { IsTrue self.old.out }
         requires shape { HasShape self.old.size self.old.format c.image }
         ensures { self.new ≡ posted c.image self.old }
     {
         self.out = false;
-        if let Some(image) = self.ready.replace(c.image) {
+        if let Some(image) = self.waiting.push_back(c.image) {
             self.free.push_reserved(image);
         }
     }
@@ -160,15 +217,16 @@ impl Stream {
         self.out = false;
     }
 
-    /// Takes the newest finished image, for a frame. It is away until the frame gives it back.
+    /// Takes the oldest image that waits, or else the one that was taken last, for a frame. It is away until the frame gives it
+    /// back.
     pub fn latch(&mut self) -> Option<Image>
         requires { self.old.read ≢ away }
-        ensures image { result ≡ newest self.old }
+        ensures image { result ≡ next_image self.old }
         ensures shape { IfSome result (HasShape self.old.size self.old.format) }
         ensures latched { self.new ≡ latched self.old }
     {
         let before = self.read.leave();
-        let Some(image) = self.ready.take() else {
+        let Some(image) = self.waiting.pop_front() else {
             return before;
         };
         self.read = Read::Away;
@@ -245,7 +303,7 @@ fn clear(image: &mut Image)
 /// The bytes of buffers of one size and format.
 pub(crate) fn bytes_of(size: Size, format: Format, buffers: u32) -> u64
     requires sides { IsTrue (has_sides size) }
-    requires most { buffers ≤ 4 }
+    requires most { buffers ≤ MOST_BUFFERS }
     ensures bytes { result ≡ image_bytes size format * buffers }
     ensures most { result ≤ STREAM_BYTES }
 {

@@ -4,7 +4,7 @@ ghost use Rattle.std.specs.Prelude.{◌≡◌, ◌≢◌, ◌-◌, ◌*◌, ◌<
 ghost use Rattle.std.specs.Prelude.{IfOk, IfSome, IsErrOf, IsSome, IsSomeAnd, IsTrue, Some, true, false};
 ghost use Rattle.std.specs.Option.{option_and_then};
 ghost use Rattle.wf_image.specs.Bitmap.{blank};
-ghost use Rattle.wf_stream.specs.Buffers.{HasShape, acquired, away, discarded, is_blocked, latched, newest, posted, returned};
+ghost use Rattle.wf_stream.specs.Buffers.{HasShape, acquired, away, discarded, is_blocked, latched, next_image, posted, returned};
 ghost use Rattle.wf_stream.specs.Streams.{held, IsNumbered, KeptStream, buffers_at, change_stream, hand_over, less_streams, stream_at};
 ghost use Rattle.wf_stream.specs.Counts.{counted, one_name_more, less_counts, without_count};
 
@@ -181,7 +181,7 @@ impl Streams {
         }
     }
 
-    /// Makes a write buffer the newest image of its stream, if that is kept.
+    /// Posts a write buffer, which waits in its stream as a finished image, if that is kept.
     pub(crate) fn post(&mut self, canvas: Canvas)
         requires { IfSome (buffers_at canvas.stream self.old.streams) (λ b. IsTrue b.out × HasShape b.size b.format canvas.image) }
         ensures { self.new ≡ record self.old { streams = change_stream canvas.stream (posted canvas.image) self.old.streams } }
@@ -209,10 +209,10 @@ impl Streams {
         }
     }
 
-    /// The newest image of a stream, if that is kept and has one. It is away until it is given back.
+    /// Takes the next image of a stream, if that is kept and has one. It is away until it is given back.
     pub(crate) fn latch(&mut self, number: u32) -> Option<Image>
         requires { IfSome (buffers_at number self.old.streams) (λ b. b.read ≢ away) }
-        ensures image { result ≡ option_and_then newest (buffers_at number self.old.streams) }
+        ensures image { result ≡ option_and_then next_image (buffers_at number self.old.streams) }
         ensures shape { IfSome result (λ image. IsSomeAnd (buffers_at number self.old.streams) (λ b. HasShape b.size b.format image)) }
         ensures latched { self.new ≡ record self.old { streams = change_stream number latched self.old.streams } }
     {

@@ -9,6 +9,7 @@ use Rattle.wf_script.specs.declared.line.Verb.TheVariants as verb
 use Rattle.wf_turn.specs.declared.stage.Phase.TheVariants as phase
 use Rattle.wf_turn.specs.declared.stage.Stage.TheVariants as stage
 use Rattle.wf_turn.specs.Program.{painted_canvas}
+use Rattle.wf_model.specs.declared.TheConstants.{MOST_CONTEXTS}
 
 -- a program whose changing parts are these
 abbrev pub changed : Program → List (ℕ × Line) → List (Name × ℕ) → Option Canvas → Option Job → Bool → Stage → ℕ → Program
@@ -45,7 +46,7 @@ module _ (P : Program
   keeps_on : (p : Program) (l : Option Phase) → P p → P (go_on p l)
   keeps_on p None holds = keeps_done p 0 holds
   keeps_on p (Some (phase.Contexts asked last)) holds =
-      elim ((last == 0) || not (nat_lt asked 16)) as (λ b. P
+      elim ((last == 0) || not (nat_lt asked MOST_CONTEXTS)) as (λ b. P
       (cond b (at_port p 1) (record p { stage = stage.Ticking (phase.Contexts asked last) }))) [
         | true ↦ keeps_port p 1 holds
         | false ↦

@@ -35,7 +35,7 @@ pub use Rattle.wf_io.specs.Parts.{puts_both, stops_late}
 pub use Rattle.wf_machine.specs.Object.{IsPaintable, IsStep, SamePayload}
 pub use Rattle.wf_model.specs.Beginnings.{by_begin, next_is, port_is}
 pub use Rattle.wf_model.specs.Effects.{effect, moves_frame}
-pub use Rattle.wf_model.specs.Frames.{Beginning, home_if, is_of_frame, is_running, is_target, job_of, newest_images, newest_of}
+pub use Rattle.wf_model.specs.Frames.{Beginning, home_if, is_of_frame, is_running, is_target, job_of, next_images, next_image_of}
 pub use Rattle.wf_model.specs.Calls.{begin_call}
 pub use Rattle.wf_model.specs.Frames.{running_of, same_kind, scene_streams, start}
 pub use Rattle.wf_model.specs.Picture.{Images}

@@ -11,6 +11,7 @@ use Rattle.wf_script.specs.declared.line.Verb.TheVariants as verb
 use Rattle.wf_turn.specs.declared.stage.Phase.TheVariants as phase
 use Rattle.wf_turn.specs.declared.stage.Stage.TheVariants as stage
 use Rattle.wf_turn.specs.Quota.{phase_left, next_left, stage_left}
+use Rattle.wf_model.specs.declared.TheConstants.{MOST_CONTEXTS}
 
 one_line : (l : ℕ × Line) (ls : List (ℕ × Line)) → lines_left (l ∷ ls) ≡ line_quota l.1.verb + lines_left ls
 one_line l ls = sum_by-cons (λ m. line_quota m.1.verb) l ls
@@ -48,11 +49,11 @@ module _ (p : Program) (l : ℕ × Line) (ls : List (ℕ × Line)) where
         | false ↦ omega arith
       ]
 
-  left_asked : (asked last : ℕ) → left (asked_next at_line asked last) ≤ 2 * (16 - asked) + 2 * port_count p + lines_left ls
+  left_asked : (asked last : ℕ) → left (asked_next at_line asked last) ≤ 2 * (MOST_CONTEXTS - asked) + 2 * port_count p + lines_left ls
   left_asked asked last =
-      elim ((last == 0) || not (nat_lt asked 16)) as (λ b. left
+      elim ((last == 0) || not (nat_lt asked MOST_CONTEXTS)) as (λ b. left
       (cond b (at_port at_line 1) (record at_line { stage = stage.Ticking (phase.Contexts asked last) })) ≤
-      2 * (16 - asked) + 2 * port_count p + lines_left ls) [
+      2 * (MOST_CONTEXTS - asked) + 2 * port_count p + lines_left ls) [
         | true ↦ omega (arith, left_ports 1)
         | false ↦ omega arith
       ]

@@ -23,6 +23,7 @@ use Rattle.wf_turn.specs.Played.{Replays}
 use Rattle.wf_turn.proofs.Ranges.{film_stands}
 use Rattle.wf_turn.proofs.Clocks.{opening_clocked, run_clocked, shows_alone}
 use Rattle.wf_turn.proofs.Serials.{begins_serial, complete, is_serial, legal, replayed, run_more}
+use Rattle.wf_script.specs.declared.TheConstants.{MOST_LINES}
 
 -- how many events the programs make at most
 
@@ -130,7 +131,7 @@ module _ {K : Type 0} (took : K → List ℕ → Type 0) (form : FilmForm) (scri
       put = plays.put;
     }
 
-    pub stands : AllByRecursion IsEntry order → length script.lines ≤ 16384 → IsFilm (as_read (plain_film form script order))
+    pub stands : AllByRecursion IsEntry order → length script.lines ≤ MOST_LINES → IsFilm (as_read (plain_film form script order))
     stands values small =
         film_stands form script order (legal script last order plays.run few)
         (subst (AllByRecursion (IsFrameIn form)) (sym (frames_are a b was written now order as_replay)) plays.put.stand) values

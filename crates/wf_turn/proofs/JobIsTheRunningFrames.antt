@@ -1,7 +1,7 @@
 -- The Job of a frame that begins is that frame's, painted or not.
 use Rattle.wf_turn.proofs.Common.{◌≡◌, ℕ, ◌+◌, true, false, ◌==◌, List, [], ◌∷◌, map, length, Option, Some, None, refl, subst, arith}
 use Rattle.wf_turn.proofs.Common.{list_all, eq-eqb, nat_tests, length-map, is_in, Format, Size, same_format, same_size, Bitmap, drawn}
-use Rattle.wf_turn.proofs.Common.{image_of, KeptStream, stream_at, JobKind, Beginning, is_of_frame, job_of, newest_images, newest_of}
+use Rattle.wf_turn.proofs.Common.{image_of, KeptStream, stream_at, JobKind, Beginning, is_of_frame, job_of, next_images, next_image_of}
 use Rattle.wf_turn.proofs.Common.{running_of, same_kind, scene_streams, Images, State, painted_job}
 use Rattle.wf_pixel.specs.declared.Format.TheVariants as format
 use Rattle.wf_calls.specs.declared.call.JobKind.TheVariants as kind
@@ -13,27 +13,28 @@ abbrev Apart : Images → Type 0
 Apart [] = Unit {0}
 Apart (p ∷ xs) = (image_of p.0 xs ≡ None) × Apart xs
 
-no_image : (n : ℕ) (ns : List ℕ) (streams : List KeptStream) → is_in n ns ≡ false → image_of n (newest_images ns streams) ≡ None
+no_image : (n : ℕ) (ns : List ℕ) (streams : List KeptStream) → is_in n ns ≡ false → image_of n (next_images ns streams) ≡ None
 no_image n [] streams absent = refl
 no_image n (k ∷ ns) streams absent =
-    elim (k == n) as (λ b. (k == n) ≡ b → image_of n (newest_images (k ∷ ns) streams) ≡ None) [
+    elim (k == n) as (λ b. (k == n) ≡ b → image_of n (next_images (k ∷ ns) streams) ≡ None) [
       | true ↦ λ here. absurd (let no : true ≡ false = rw here at absent in cc)
-      | false ↦ λ apart. of_newest apart (no_image n ns streams (rw apart at absent)) (newest_of (stream_at k streams)) refl
+      | false ↦ λ apart. of_next_image apart (no_image n ns streams (rw apart at absent)) (next_image_of (stream_at k streams)) refl
     ] refl
   where
-    of_newest : (k == n) ≡ false → image_of n (newest_images ns streams) ≡ None → (o : Option Bitmap) → newest_of (stream_at k streams) ≡ o
-        → image_of n (newest_images (k ∷ ns) streams) ≡ None
-    of_newest apart rest None is = rw is rest
-    of_newest apart rest (Some image) is = rw (is, apart) rest
+    of_next_image : (k == n) ≡ false → image_of n (next_images ns streams) ≡ None → (o : Option Bitmap)
+        → next_image_of (stream_at k streams) ≡ o
+        → image_of n (next_images (k ∷ ns) streams) ≡ None
+    of_next_image apart rest None is = rw is rest
+    of_next_image apart rest (Some image) is = rw (is, apart) rest
 
-newest_apart : (ns : List ℕ) (streams : List KeptStream) → NoneTwice ns → Apart (newest_images ns streams)
-newest_apart [] streams none = tt
-newest_apart (n ∷ ns) streams none = of_newest (newest_apart ns streams none.1) (newest_of (stream_at n streams)) refl
+next_images_apart : (ns : List ℕ) (streams : List KeptStream) → NoneTwice ns → Apart (next_images ns streams)
+next_images_apart [] streams none = tt
+next_images_apart (n ∷ ns) streams none = of_next_image (next_images_apart ns streams none.1) (next_image_of (stream_at n streams)) refl
   where
-    of_newest : Apart (newest_images ns streams) → (o : Option Bitmap) → newest_of (stream_at n streams) ≡ o
-        → Apart (newest_images (n ∷ ns) streams)
-    of_newest rest None is = rw is rest
-    of_newest rest (Some image) is = rw is (no_image n ns streams none.0, rest)
+    of_next_image : Apart (next_images ns streams) → (o : Option Bitmap) → next_image_of (stream_at n streams) ≡ o
+        → Apart (next_images (n ∷ ns) streams)
+    of_next_image rest None is = rw is rest
+    of_next_image rest (Some image) is = rw is (no_image n ns streams none.0, rest)
 
 same_sizes : (s : Size) → same_size s s ≡ true
 same_sizes s = rw (eq-eqb s.w s.w refl, eq-eqb s.h s.h refl) refl
@@ -71,8 +72,8 @@ pub own_job : (b : Beginning) (h : State) → is_of_frame (painted_job (job_of b
 unfolding drawn
 own_job b h =
     let streams = scene_streams b.scene in
-    let images = newest_images streams h.streams in
-    let shaped = all_shaped images (newest_apart streams h.streams (once_none_twice _)) images (λ n i found. found) in
+    let images = next_images streams h.streams in
+    let shaped = all_shaped images (next_images_apart streams h.streams (once_none_twice _)) images (λ n i found. found) in
     rw (
       eq-eqb (h.begun + 1) (h.begun + 1) refl,
       same_kinds b.kind,

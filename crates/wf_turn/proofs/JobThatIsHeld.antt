@@ -8,6 +8,7 @@ use Rattle.wf_turn.specs.declared.stage.Phase.TheVariants as phase
 use Rattle.wf_turn.specs.declared.stage.Stage.TheVariants as stage
 use Rattle.wf_words.specs.Each.{each_set}
 use Rattle.wf_turn.proofs.Cases.{turn_case}
+use Rattle.wf_model.specs.declared.TheConstants.{MOST_CONTEXTS}
 
 module _ (Q : Option Job → Bool → Type 0) where
   abbrev pub Holds : Program → Type 0
@@ -30,7 +31,7 @@ module _ (Q : Option Job → Bool → Type 0) where
   pub on_holds : (p : Program) (l : Option Phase) → Holds p → Holds (go_on p l)
   on_holds p None holds = done_holds p 0 holds
   on_holds p (Some (phase.Contexts asked last)) holds =
-      elim ((last == 0) || not (nat_lt asked 16)) as (λ b. Holds
+      elim ((last == 0) || not (nat_lt asked MOST_CONTEXTS)) as (λ b. Holds
       (cond b (at_port p 1) (record p { stage = stage.Ticking (phase.Contexts asked last) }))) [
         | true ↦ port_holds p 1 holds
         | false ↦

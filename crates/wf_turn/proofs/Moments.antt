@@ -155,6 +155,6 @@ module _ (script : PlainScript) (order : List Turn) where
       elim (replay script order) as (λ o. replay script order ≡ o → All (IsOfMoment script order) (frames_after o)) [
         | None ↦ λ none. All-nil (IsOfMoment script order)
         | Some last ↦
-            λ is. (order_keeps script order AreOfMoments turn_keeps
+            λ is. (order_keeps script order (λ ts. AreOfMoments) turn_keeps
             (record { painted = opening_hold IsPainted refl script 0 8; frames = All-nil (IsOfMoment script order) }) last is).frames
       ] refl

@@ -12,6 +12,7 @@ use Rattle.wf_script.specs.declared.line.Verb.TheVariants as verb
 use Rattle.wf_turn.specs.declared.stage.Phase.TheVariants as phase
 use Rattle.wf_turn.specs.declared.stage.Stage.TheVariants as stage
 use Rattle.wf_turn.specs.Ready.{IsAnswered}
+use Rattle.wf_model.specs.declared.TheConstants.{MOST_CONTEXTS}
 
 -- where lines are skipped, an event stands first
 skips_to : (canvas : Option Canvas) (ls : List (ℕ × Line))
@@ -61,13 +62,13 @@ holds_ports p port few =
 
 holds_asked : (p : Program) (asked last : ℕ) → port_count p ≤ 4 → Holds (asked_next p asked last)
 holds_asked p asked last few =
-    elim ((last == 0) || not (nat_lt asked 16)) as (λ b. ((last == 0) || not (nat_lt asked 16)) ≡ b
+    elim ((last == 0) || not (nat_lt asked MOST_CONTEXTS)) as (λ b. ((last == 0) || not (nat_lt asked MOST_CONTEXTS)) ≡ b
     → Holds (cond b (at_port p 1) (record p { stage = stage.Ticking (phase.Contexts asked last) }))) [
       | true ↦ λ over. holds_ports p 1 few
       | false ↦
           λ on. record {
-            at = if_some (first_line p) (λ l. ltb-true asked 16
-                (below (nat_lt asked 16) (or_parts (last == 0) (not (nat_lt asked 16)) on).1));
+            at = if_some (first_line p) (λ l. ltb-true asked MOST_CONTEXTS
+                (below (nat_lt asked MOST_CONTEXTS) (or_parts (last == 0) (not (nat_lt asked MOST_CONTEXTS)) on).1));
             ports = few;
           }
     ] refl

@@ -1,6 +1,7 @@
 -- What each turn keeps holds in every show that an order reaches.
 use Rattle.wf_turn.proofs.Common.{◌≡◌, ◌∙◌, ℕ, Bool, true, false, not, cond, ◌&&◌, ◌==◌, List, [], ◌∷◌, ◌++◌, Option, Some, None, refl, sym}
-use Rattle.wf_turn.proofs.Common.{ap, subst, append_assoc, slice_get, unwrap_or, and_parts, eqb-true, Turn, is_running, step, PlainScript}
+use Rattle.wf_turn.proofs.Common.{ap, append-nil, subst, append_assoc, slice_get, unwrap_or, and_parts, eqb-true, Turn, is_running, step}
+use Rattle.wf_turn.proofs.Common.{PlainScript}
 use Rattle.wf_turn.proofs.Common.{Wanted, is_marked, replay, replay_from, replay_turn, same_turn, Program, next, Show, answered}
 use Rattle.wf_turn.proofs.Common.{is_setting_up, opening_show, program_at, turn}
 use Rattle.wf_turn.specs.Moments.{At}
@@ -47,6 +48,19 @@ replay_more start show after (u ∷ us) t reached is =
           ∙ replay_more s show after us t (sym (replay_step start u us (Some s) some) ∙ reached) is
     ] refl
 
+-- a replay goes on where its front ends
+pub replay_on : (start show : Show) (xs rest : List Turn) → replay_from start xs ≡ Some show
+    → replay_from start (xs ++ rest) ≡ replay_from show rest
+replay_on start show [] rest is =
+    let both : Some start ≡ Some show = sym (nothing_replayed start) ∙ is in
+    ap (λ o. replay_from (unwrap_or o show) rest) both
+replay_on start show (x ∷ xs) rest is =
+    elim (next_show start x) as (λ o. next_show start x ≡ o → replay_from start (x ∷ xs ++ rest) ≡ replay_from show rest) [
+      | None ↦ λ none. absurd (let no : None ≡ Some show = sym (replay_step start x xs None none) ∙ is in cc)
+      | Some after ↦ λ some. replay_step start x (xs ++ rest) (Some after) some
+          ∙ replay_on after show xs rest (sym (replay_step start x xs (Some after) some) ∙ is)
+    ] refl
+
 -- an entry more that is no turn ends it
 pub replay_ends : (start show : Show) (ts : List Turn) (t : Turn) → replay_from start ts ≡ Some show → next_show show t ≡ None
     → replay_from start (ts ++ t ∷ []) ≡ None
@@ -84,24 +98,26 @@ at_step {show = show} Holds s holds = record {
   holds = holds;
 }
 
-module _ (script : PlainScript) (order : List Turn) (Holds : Show → Type 0) (keeps : (show after : Show) → Step script order show after
-    → Holds show → Holds after) where
-  rest_keeps : (later earlier : List Turn) (show last : Show) → order ≡ earlier ++ later → replay script earlier ≡ Some show → Holds show
-      → replay_from show later ≡ Some last → Holds last
-  rest_keeps [] earlier show last cut reached holds is =
-      let same : Some show ≡ Some last = sym (nothing_replayed show) ∙ is in
-      subst Holds (ap (λ o. unwrap_or o last) same) holds
-  rest_keeps (t ∷ later) earlier show last cut reached holds is =
-      elim (next_show show t) as (λ o. next_show show t ≡ o → Holds last) [
-        | None ↦ λ none. absurd (let no : None ≡ Some last = sym (replay_step show t later None none) ∙ is in cc)
-        | Some after ↦ λ some. rest_keeps later (earlier ++ t ∷ []) after last (cut ∙ sym (append_assoc earlier (t ∷ []) later))
-            (replay_more (opening_show script) show after earlier t reached some)
-            (keeps show after (record { earlier = earlier; entry = t; later = later; cut = cut; reached = reached; takes = some }) holds)
-            (sym (replay_step show t later (Some after) some) ∙ is)
-      ] refl
+-- of an order so far and the show that it leaves: what each turn keeps
+module _ (script : PlainScript) (order : List Turn) (Holds : List Turn → Show → Type 0)
+    (keeps : (show after : Show) (s : Step script order show after) → Holds s.earlier show → Holds (s.earlier ++ s.entry ∷ []) after)
+  where
+    rest_keeps : (later earlier : List Turn) (show last : Show) → order ≡ earlier ++ later → replay script earlier ≡ Some show
+        → Holds earlier show → replay_from show later ≡ Some last → Holds order last
+    rest_keeps [] earlier show last cut reached holds is =
+        let same : Some show ≡ Some last = sym (nothing_replayed show) ∙ is in
+        subst (λ ts. Holds ts last) (sym (cut ∙ append-nil earlier)) (subst (Holds earlier) (ap (λ o. unwrap_or o last) same) holds)
+    rest_keeps (t ∷ later) earlier show last cut reached holds is =
+        elim (next_show show t) as (λ o. next_show show t ≡ o → Holds order last) [
+          | None ↦ λ none. absurd (let no : None ≡ Some last = sym (replay_step show t later None none) ∙ is in cc)
+          | Some after ↦ λ some. rest_keeps later (earlier ++ t ∷ []) after last (cut ∙ sym (append_assoc earlier (t ∷ []) later))
+              (replay_more (opening_show script) show after earlier t reached some)
+              (keeps show after (record { earlier = earlier; entry = t; later = later; cut = cut; reached = reached; takes = some }) holds)
+              (sym (replay_step show t later (Some after) some) ∙ is)
+        ] refl
 
-  pub order_keeps : Holds (opening_show script) → (last : Show) → replay script order ≡ Some last → Holds last
-  order_keeps holds last is = rest_keeps order [] (opening_show script) last refl (nothing_replayed (opening_show script)) holds is
+    pub order_keeps : Holds [] (opening_show script) → (last : Show) → replay script order ≡ Some last → Holds order last
+    order_keeps holds last is = rest_keeps order [] (opening_show script) last refl (nothing_replayed (opening_show script)) holds is
 
 -- the program whose turn it was, and what it asked for
 pub record TurnOf (show : Show) (client : ℕ) (m : Bool) (done : Show × Turn) : Type 0 where

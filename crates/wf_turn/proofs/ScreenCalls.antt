@@ -6,14 +6,15 @@ use Rattle.wf_turn.proofs.Common.{same_kind, Running, State, act, step, effect, 
 use Rattle.std.specs.Prelude.{Result, Ok, Err}
 use Rattle.wf_stream.specs.Buffers.{is_blocked}
 use Rattle.wf_calls.specs.declared.call.Call.TheVariants as call
+use Rattle.wf_calls.specs.Replies.{bare, done, gives_back_job}
 use Rattle.wf_calls.specs.declared.reply.Refusal.{Refusal}
 use Rattle.wf_calls.specs.declared.code.Code.TheVariants as code
-use Rattle.wf_model.specs.Frames.{brought_home, end_frame}
+use Rattle.wf_model.specs.Frames.{brought_home, end, end_frame}
 use Rattle.wf_model.specs.Names.{all_names, settle_if}
 use Rattle.wf_model.specs.Outcome.{found, refuse}
 use Rattle.wf_model.specs.Streams.{acquirable, is_out_at_client, is_out_of, with_stream, stream_made}
-use Rattle.wf_turn.proofs.StreamsOfScreens.{AreFine, BringsHome, at_number, begun_fine, ended_fine, home_fine, of_handle, others_change}
-use Rattle.wf_turn.proofs.StreamsOfScreens.{unnamed_fine, Fine}
+use Rattle.wf_turn.proofs.StreamsOfScreens.{AreFine, AreHome, IsDelivered, Others, at_number, begun_fine, ended_fine, home_fine, of_handle}
+use Rattle.wf_turn.proofs.StreamsOfScreens.{others_change, screens_stay, unnamed_fine, Fine}
 use Rattle.wf_model.specs.Effects.{Effect, acquires, begins, composes, displays, ends, makes, refuses, returns, tells, unnames}
 use Rattle.wf_calls.specs.Parts.{Register, of_device, of_display, register_of, no_register}
 use Rattle.wf_words.specs.Each.{each_filtered, each_more}
@@ -24,20 +25,23 @@ use Rattle.wf_words.specs.Options.{not_some}
 own_kind : (job : Job) (r : Running) → is_of_frame job r ≡ true → same_kind job.kind r.kind ≡ true
 own_kind job r is = grind (arith, is)
 
+pub own_number : (job : Job) (r : Running) → is_of_frame job r ≡ true → job.number ≡ r.number
+own_number job r is = grind (arith, nat_tests, is)
+
+-- a call that ends no frame
+abbrev pub EndsNone : Call → Type 0
+EndsNone c = (job : Job) → c ≡ call.End job → ⊥
+
+pub still_ends_none : (c : Call) → moves_frame c ≡ false → EndsNone c
+still_ends_none c still job is = (let no : true ≡ false = rw is at still in cc)
+
+pub begin_ends_none : (c : Call) → is_begin c ≡ true → EndsNone c
+begin_ends_none c asks job is = (let no : false ≡ true = rw is at asks in cc)
+
 module _ (n : ℕ) (Composed : ℕ → Bitmap → Type 0) where
   pub record AreScreens (h : State) : Type 0 where
     pub streams : AreFine n Composed h.frame h.streams
     pub numbered : nat_le n h.numbered ≡ true
-
-  -- a Job that a call ends brings home what was composed
-  abbrev pub Carries : Call → Type 0
-  Carries c = (job : Job) → c ≡ call.End job → BringsHome n Composed job
-
-  pub carries_none : (c : Call) → moves_frame c ≡ false → Carries c
-  carries_none c still job is = absurd (let no : true ≡ false = rw is at still in cc)
-
-  pub asks_carry : (c : Call) → is_begin c ≡ true → Carries c
-  asks_carry c asks job is = absurd (let no : false ≡ true = rw is at asks in cc)
 
   offered_keeps : (register : Register) (refused : Code) (h : State) → AreScreens h → AreScreens (offered register refused h)
   offered_keeps (of_device d) refused h are = record { streams = are.streams; numbered = are.numbered }
@@ -114,41 +118,68 @@ module _ (n : ℕ) (Composed : ℕ → Bitmap → Type 0) where
       }
   settled false h are = are
 
-  ended_keeps : (job : Job) (r : Running) (h : State) → h.frame ≡ Some r → is_of_frame job r ≡ true → BringsHome n Composed job
-      → AreScreens h → AreScreens (end_frame job h)
-  ended_keeps job r h runs is brings are =
-      let home = brought_home job.contents h.streams in
-      let fine : AreFine n Composed (Some r) h.streams = rw runs at are.streams in
-      record {
-        streams = ended_fine n Composed job.kind job.image r (own_kind job r is) brings.image home
-            (each_mapped (Fine n Composed (Some r)) (Fine n Composed (Some r)) (λ s. home_if (image_of s.number job.contents) s)
-            (home_fine n Composed (Some r) job.contents brings.contents) h.streams fine);
-        numbered = are.numbered;
-      }
-
   -- of every kind of effect
-  effect_keeps : (h : State) (c : Call) (x : State × Reply) → Effect h c x → Carries c → AreScreens h → AreScreens x.0
-  effect_keeps h c x (refuses honest left) carries are = subst AreScreens (sym left) (offered_keeps (register_of c) x.1.code h are)
-  effect_keeps h c x (composes m w value does is) carries are =
+  effect_keeps : (h : State) (c : Call) (x : State × Reply) → Effect h c x → EndsNone c → AreScreens h → AreScreens x.0
+  effect_keeps h c x (refuses honest left) none are = subst AreScreens (sym left) (offered_keeps (register_of c) x.1.code h are)
+  effect_keeps h c x (composes m w value does is) none are =
       subst (λ y. AreScreens y.0) (sym is) (record { streams = are.streams; numbered = are.numbered })
-  effect_keeps h c x (displays m w value does is) carries are =
+  effect_keeps h c x (displays m w value does is) none are =
       subst (λ y. AreScreens y.0) (sym is) (record { streams = are.streams; numbered = are.numbered })
-  effect_keeps h c x (makes new is) carries are = subst (λ y. AreScreens y.0) (sym is) (made_keeps new h are)
-  effect_keeps h c x (unnames handle is) carries are =
+  effect_keeps h c x (makes new is) none are = subst (λ y. AreScreens y.0) (sym is) (made_keeps new h are)
+  effect_keeps h c x (unnames handle is) none are =
       subst (λ y. AreScreens y.0) (sym is)
       (record { streams = unnamed_fine n Composed handle h.frame h.streams are.streams; numbered = are.numbered })
-  effect_keeps h c x (acquires handle s at is) carries are =
+  effect_keeps h c x (acquires handle s at is) none are =
       subst (λ y. AreScreens y.0) (sym is) (changed_keeps s.number acquired h (acquired_apart handle s h are at) are)
-  effect_keeps h c x (returns canvas f way out is) carries are =
+  effect_keeps h c x (returns canvas f way out is) none are =
       subst (λ y. AreScreens y.0) (sym is) (changed_keeps canvas.stream f h (clients_canvas canvas h are out) are)
-  effect_keeps h c x (begins b free begun is) carries are =
+  effect_keeps h c x (begins b free begun is) none are =
       subst (λ y. AreScreens y.0) (sym is)
       (record { streams = begun_fine n Composed (job_of b h) h (not_some h.frame free) are.streams; numbered = are.numbered })
-  effect_keeps h c x (ends job r call_is runs own is) carries are =
-      subst (λ y. AreScreens y.0) (sym is) (ended_keeps job r h runs own (carries job call_is) are)
-  effect_keeps h c x (tells value is) carries are = subst (λ y. AreScreens y.0) (sym is) are
+  effect_keeps h c x (ends job r call_is runs own is) none are = absurd (none job call_is)
+  effect_keeps h c x (tells value is) none are = subst (λ y. AreScreens y.0) (sym is) are
 
-  pub step_keeps : (h : State) (client : ℕ) (c : Call) (m : Bool) → Carries c → AreScreens h → AreScreens (step h client c m).0
+  pub step_keeps : (h : State) (client : ℕ) (c : Call) (m : Bool) → EndsNone c → AreScreens h → AreScreens (step h client c m).0
   unfolding step
-  step_keeps h client c m carries are =
-      settled (is_ok_code (act h c m).1.code) (act h c m).0 (effect_keeps h c (act h c m) (effect h c m) carries are)
+  step_keeps h client c m none are =
+      settled (is_ok_code (act h c m).1.code) (act h c m).0 (effect_keeps h c (act h c m) (effect h c m) none are)
+
+-- the end of a frame
+module _ (n : ℕ) (Before After : ℕ → Bitmap → Type 0) where
+  pub others_stay : (h : State) → ((k : ℕ) (image : Bitmap) → Before k image → After k image) → AreScreens n Before h
+      → AreScreens n After h
+  others_stay h stay are =
+      record { streams = screens_stay n Before After h.frame h.streams stay are.streams; numbered = are.numbered }
+
+  pub ended_keeps : (job : Job) (r : Running) (h : State) → h.frame ≡ Some r → is_of_frame job r ≡ true → AreHome n Before job.contents
+      → IsDelivered n Before After job.kind job.image → Others n Before After job.kind → AreScreens n Before h
+      → AreScreens n After (settle_if true (end_frame job h))
+  ended_keeps job r h runs is contents image others are =
+      let back = brought_home job.contents h.streams in
+      let fine : AreFine n Before (Some r) h.streams = rw runs at are.streams in
+      settled n After true (end_frame job h)
+      (record {
+        streams = ended_fine n Before After job.kind job.image r (own_kind job r is) image others back
+            (each_mapped (Fine n Before (Some r)) (Fine n Before (Some r)) (λ s. home_if (image_of s.number job.contents) s)
+            (home_fine n Before (Some r) job.contents contents) h.streams fine);
+        numbered = are.numbered;
+      })
+
+-- a Job comes back, or it ends the running frame
+pub by_end : (P : State × Reply → Type 0) (h : State) (job : Job) → P (h, gives_back_job job)
+    → ((r : Running) → h.frame ≡ Some r → is_of_frame job r ≡ true → P (end_frame job h, bare (done 0))) → P (end job h)
+by_end P h job back ended = of_frame h.frame refl
+  where
+    of_own : (r : Running) → h.frame ≡ Some r → (b : Bool) → is_of_frame job r ≡ b → P (end job h)
+    of_own r runs true own = rw (runs, own) (ended r runs own)
+    of_own r runs false own = subst P (sym other) back
+      where
+        other : end job h ≡ (h, gives_back_job job)
+        other = rw (runs, own) refl
+
+    of_frame : (o : Option Running) → h.frame ≡ o → P (end job h)
+    of_frame None none = subst P (sym free) back
+      where
+        free : end job h ≡ (h, gives_back_job job)
+        free = rw none refl
+    of_frame (Some r) runs = of_own r runs (is_of_frame job r) refl

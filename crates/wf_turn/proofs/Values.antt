@@ -4,6 +4,7 @@ use Rattle.wf_turn.proofs.Common.{Option, Some, None, refl, sym, ap, arith, filt
 use Rattle.wf_turn.proofs.Common.{option_map, bytes_eq, Line, Name, next_place, place_in, bound_by, bound_names, value_of}
 use Rattle.std.proofs.lemmas.List.{take_more, length-take}
 use Rattle.std.specs.Prelude.{filter_map}
+use Rattle.wf_script.specs.declared.TheConstants.{MOST_LINES}
 
 abbrev pub value_at : List ℕ → Option ℕ → Option ℕ
 value_at values None = None
@@ -57,7 +58,7 @@ few_names client (l ∷ lines) = of_name (bound_by client l) refl (few_names cli
     of_name (Some n) is few = rw is (omega (arith, few))
 
 pub few_so_far : (client : ℕ) (lines : List Line) (i : ℕ) (names : List Name) → names ≡ bound_names client (take i lines)
-    → length lines ≤ 16384 → length names < 4294967296
+    → length lines ≤ MOST_LINES → length names < 4294967296
 few_so_far client lines i names are few =
     omega (arith, ap length are, few_names client (take i lines), length-take i lines, few)
 

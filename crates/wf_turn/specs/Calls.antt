@@ -61,6 +61,7 @@ context_call handle v = element_call handle v
 -- the call of a line that is one call and waits for nothing
 abbrev pub plain_call : (Option Name → ℕ) → Verb → Option Call
 plain_call handle (verb.StreamNew width height format buffers) = Some (call.StreamNew width height format buffers)
+plain_call handle (verb.StreamQueue width height format depth) = Some (call.StreamQueue width height format depth)
 plain_call handle (verb.StreamDestroy stream) = Some (call.StreamDestroy (handle stream))
 plain_call handle (verb.Stat what) = Some (call.Stat what)
 plain_call handle verb.DeviceNew = Some call.DeviceNew

@@ -8,6 +8,7 @@ use Rattle.wf_turn.specs.Names.{bound_names, known}
 use Rattle.wf_turn.specs.Passing.{IsPlace}
 use Rattle.wf_turn.specs.Ready.{IsAnswered, IsAsking}
 use Rattle.wf_turn.specs.Program.{Program, lines_from, setup_lines, setup_names}
+use Rattle.wf_script.specs.declared.TheConstants.{MOST_LINES}
 
 -- a program, as it is seen
 abbrev pub program_of : Inside → Program
@@ -40,5 +41,5 @@ pub record IsProgram (p : Inside) : Type 0 where
   pub end_of_setup : p.setup ≡ setup_lines p.script.now.lines
   pub ports : p.port_count ≡ length p.script.now.ports.modes.items
   pub few_ports : p.port_count ≤ 4
-  pub few : length p.script.now.lines ≤ 16384
+  pub few : length p.script.now.lines ≤ MOST_LINES
   pub stage : IsStage (length p.script.now.ports.modes.items) p.at p.tick p.stage

@@ -1,23 +1,28 @@
 -- The clients of a script: their programs, their turns, and the film of an order of turns.
-pub mod Index
+
+-- What is promised: the words that the clauses of public functions stand on.
 pub mod Names
-pub mod Tables
 pub mod Puts
 pub mod Calls
 pub mod Program
-pub mod Asked
 pub mod Ready
 pub mod Quota
-pub mod Passing
-pub mod Inside
-pub mod Lending
 pub mod Turns
 pub mod Play
 pub mod Moments
 pub mod Serial
 pub mod Films
-pub mod Members
-pub mod Playing
-pub mod Played
 pub mod Going
 pub mod Replayed
+pub mod MadePlay
+-- What callers prove with: words and facts that other crates use.
+pub mod Playing
+-- What is kept inside.
+pub mod Index
+pub mod Tables
+pub mod Asked
+pub mod Passing
+pub mod Inside
+pub mod Lending
+pub mod Members
+pub mod Played

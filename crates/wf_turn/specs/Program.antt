@@ -24,6 +24,7 @@ use Rattle.wf_turn.specs.declared.stage.Stage.TheVariants as stage
 use Rattle.wf_turn.specs.declared.stage.Wanted.{Wanted}
 use Rattle.wf_turn.specs.Calls.{plain_call}
 use Rattle.wf_turn.specs.Names.{bound_name, bound_names, value_of}
+use Rattle.wf_model.specs.declared.TheConstants.{MOST_CONTEXTS}
 
 -- its script and its client; its lines that are not through, each with its place in the file; the values of the names
 -- that it bound, and of those that the setup bound; the canvas that it holds; the Job that it holds, and whether that
@@ -178,7 +179,7 @@ at_port p port = if nat_lt (port_count p) port then line_done p 0 else at_stage 
 -- has no handle, or sixteen times
 abbrev pub asked_next : Program → ℕ → ℕ → Program
 asked_next p asked last =
-    if (last == 0) || not (nat_lt asked 16) then at_port p 1 else at_stage p (stage.Ticking (phase.Contexts asked last))
+    if (last == 0) || not (nat_lt asked MOST_CONTEXTS) then at_port p 1 else at_stage p (stage.Ticking (phase.Contexts asked last))
 
 -- a tick goes on, or a line that is no tick is through
 abbrev pub go_on : Program → Option Phase → Program

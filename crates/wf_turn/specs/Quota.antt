@@ -9,6 +9,7 @@ use Rattle.wf_turn.specs.declared.stage.Phase.TheVariants as phase
 use Rattle.wf_turn.specs.declared.stage.Stage.{Stage}
 use Rattle.wf_turn.specs.declared.stage.Stage.TheVariants as stage
 use Rattle.wf_turn.specs.Program.{Program, port_count}
+use Rattle.wf_model.specs.declared.TheConstants.{MOST_CONTEXTS}
 
 -- how many events a line makes at most
 abbrev pub line_quota : Verb → ℕ
@@ -37,7 +38,7 @@ most_turns lines = sum_by (quota lines) (range_with_len 0 8)
 
 -- how many events a tick still makes at most
 abbrev pub phase_left : ℕ → Phase → ℕ
-phase_left ports (phase.Contexts asked last) = 2 * (16 - asked) + 2 * ports
+phase_left ports (phase.Contexts asked last) = 2 * (MOST_CONTEXTS - asked) + 2 * ports
 phase_left ports (phase.Ports port) = 2 * (ports + 1 - port)
 
 -- how many events a line still makes at most once its frame ended

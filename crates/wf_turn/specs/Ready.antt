@@ -8,15 +8,16 @@ use Rattle.wf_turn.specs.declared.stage.Phase.TheVariants as phase
 use Rattle.wf_turn.specs.declared.stage.Stage.{Stage}
 use Rattle.wf_turn.specs.declared.stage.Stage.TheVariants as stage
 use Rattle.wf_turn.specs.Program.{Program, first_line, is_event, port_count}
+use Rattle.wf_model.specs.declared.TheConstants.{MOST_CONTEXTS}
 
 -- the numbers of a tick before a question, and before the end of a frame
 abbrev pub IsAsking : ℕ → Phase → Type 0
-IsAsking ports (phase.Contexts asked last) = asked < 16
+IsAsking ports (phase.Contexts asked last) = asked < MOST_CONTEXTS
 IsAsking ports (phase.Ports port) = port ≤ ports
 
 abbrev pub IsAnswered : ℕ → Option Phase → Type 0
 IsAnswered ports None = Unit {0}
-IsAnswered ports (Some (phase.Contexts asked last)) = asked ≤ 16
+IsAnswered ports (Some (phase.Contexts asked last)) = asked ≤ MOST_CONTEXTS
 IsAnswered ports (Some (phase.Ports port)) = port ≤ ports + 1
 
 -- a Job that is not painted yet can be painted

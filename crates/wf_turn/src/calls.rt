@@ -324,6 +324,20 @@ impl<'a> Program<'a> {
                     buffers: *buffers,
                 },
             ),
+            Verb::StreamQueue {
+                width,
+                height,
+                format,
+                depth,
+            } => put(
+                call,
+                Request::StreamQueue {
+                    width: *width,
+                    height: *height,
+                    format: *format,
+                    depth: *depth,
+                },
+            ),
             Verb::StreamDestroy { stream } => put(
                 call,
                 Request::StreamDestroy {

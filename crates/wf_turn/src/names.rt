@@ -9,7 +9,7 @@ ghost use Rattle.wf_turn.specs.Names.{bound_by, bound_names, known, value_of};
 use crate::index::Index;
 use std::alloc::Global;
 use std::marker::Model;
-use wf_script::{Line, Name};
+use wf_script::{Line, MOST_LINES, Name};
 use wf_words::NoMemory;
 
 /// The name that a line binds, if it is a client's.
@@ -25,7 +25,7 @@ fn bound_by(client: u8, line: &Line) -> Option<&Name>
 
 /// The names that the lines of a client bind.
 fn index_of<'a>(alloc: Global, lines: &'a [Line], client: u8) -> Result<Index<'a>, NoMemory>
-    requires few { length lines.now ≤ 16384 }
+    requires few { length lines.now ≤ MOST_LINES }
     ensures names { IfOk result (λ index. names_of index ≡ bound_names client lines.now) }
     ensures index { IfOk result IsIndex }
 {
@@ -65,7 +65,7 @@ impl<'a> Model for Names<'a> {
 impl<'a> Names<'a> {
     /// The names that the lines of a client bind, without values.
     pub(crate) fn new(alloc: Global, lines: &'a [Line], client: u8) -> Result<Names<'a>, NoMemory>
-        requires { length lines.now ≤ 16384 }
+        requires { length lines.now ≤ MOST_LINES }
         ensures { IfOk result (λ names. names ≡ record { names = bound_names client lines.now; values = [] }) }
     {
         let index = index_of(alloc, lines, client)?;

@@ -22,7 +22,7 @@ use wf_calls::{Order, Turn};
 use wf_film::{FRAME_BYTES, FilmForm, Writer};
 use wf_io::{Sink, WriteStop};
 use wf_kernel::{Painter, Plain};
-use wf_script::Script;
+use wf_script::{MOST_LINES, Script};
 use wf_words::NoMemory;
 
 /// Why a film was not played to its end.
@@ -122,7 +122,7 @@ fn write_film<K: Sink, P: Painter>(
 ) -> Result<Order, PlayStop>
     requires opened { show.old ≡ opening_show (script_of show.old) }
     requires cast { IsCast show.old }
-    requires few { length (script_of show.old).lines ≤ 16384 }
+    requires few { length (script_of show.old).lines ≤ MOST_LINES }
     requires ticks { IsTrue (list_all may_tick (script_of show.old).lines) }
     requires none { played.items ≡ [] }
     requires room { most_turns (script_of show.old).lines ≤ vec_capacity played }

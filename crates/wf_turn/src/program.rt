@@ -78,7 +78,7 @@ fn line_at(lines: &[Line], at: usize) -> Option<&Line>
 }
 
 impl<'a> Program<'a> {
-    /// The program of a client before its first call.
+    /// Makes the program of a client before its first call.
     pub fn new(alloc: Global, script: &'a Script, client: u8) -> Result<Program<'a>, NoMemory>
         ensures program { IfOk result (λ p. p ≡ program script.now client) }
         ensures fit { IfOk result IsFit }
@@ -128,9 +128,9 @@ impl<'a> Program<'a> {
         line_at(self.script.lines(), self.at)
     }
 
-    /// The next call, or none where the client's lines are through. What the call carries goes out with it. No Job is
-    /// held that is not painted yet, and no answer is owed. Once an answer is taken, and the Job that came is painted, there
-    /// is a next call again, or the lines are through; a call that waits begins a frame.
+    /// Returns the next call, or `None` where the client's lines are through. What the call carries goes out with it. No Job is
+    /// held that is not painted yet, and no answer is owed. Once an answer is taken, and the Job that came is painted, there is
+    /// a next call again, or the lines are through; a call that waits begins a frame.
     pub fn next(&mut self) -> Option<Wanted>
         ensures wanted { result ≡ next self.old }
         ensures issued { self.new ≡ issued self.old }
@@ -145,21 +145,21 @@ impl<'a> Program<'a> {
         self.wanted(asks, place)
     }
 
-    /// The client whose program it is.
+    /// Returns the client whose program it is.
     pub fn client(&self) -> u8
         ensures { result ≡ self.now.client }
     {
         self.client
     }
 
-    /// The number of the running tick, from 1, or of the last one.
+    /// Returns the number of the running tick, from 1, or of the last one.
     pub fn tick(&self) -> u32
         ensures { result ≡ self.now.tick }
     {
         self.tick
     }
 
-    /// The place among the script's lines of the first one that is not through, or none where all are.
+    /// Returns the place among the script's lines of the first one that is not through, or `None` where all are.
     pub fn place(&self) -> Option<usize>
         ensures place { result ≡ place_of self.now }
         ensures own { IfSome result (λ place. IsSomeAnd (slice_get self.now.script.lines place) (λ l. l.client ≡ self.now.client)) }
@@ -170,8 +170,8 @@ impl<'a> Program<'a> {
         }
     }
 
-    /// The number of the line of the next event in the script's canonical text, counted from 1, or 0 where the client's lines are
-    /// through.
+    /// Returns the number of the line of the next event in the script's canonical text, counted from 1, or 0 where the client's
+    /// lines are through.
     pub fn line(&self) -> u32
         ensures { result ≡ line_of self.now }
     {
@@ -185,7 +185,7 @@ impl<'a> Program<'a> {
         }
     }
 
-    /// Whether a line of the setup is not through: of client 0's lines before the first line of another client.
+    /// Tells whether a line of the setup is not through: of client 0's lines before the first line of another client.
     pub fn in_setup(&self) -> bool
         ensures { result ≡ in_setup self.now }
     {

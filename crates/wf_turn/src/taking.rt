@@ -18,10 +18,8 @@ use crate::skipping::skip;
 use crate::stage::{Phase, Stage};
 use wf_calls::{Answer, Job};
 use wf_kernel::Painter;
+use wf_model::MOST_CONTEXTS;
 use wf_script::{Line, Verb};
-
-/// How many contexts a tick asks for at most.
-const MOST_CONTEXTS: u32 = 16;
 
 /// Gives the name that a line binds, if there is one, its value.
 fn bind_line(own: &mut Names, line: &Line, value: u32)
@@ -60,10 +58,10 @@ impl<'a> Program<'a> {
 
     /// Goes on after the answer to a question for a context's frame, or after the end of that frame.
     fn asked_next(&mut self, asked: u32, last: u32)
-        requires { asked ≤ 16 }
+        requires { asked ≤ MOST_CONTEXTS }
         ensures { self.new ≡ asked_next self.old asked last }
     {
-        if last == 0 || asked >= MOST_CONTEXTS {
+        if last == 0 || asked as usize >= MOST_CONTEXTS {
             self.at_port(1);
         } else {
             self.stage = Stage::Ticking(Phase::Contexts { asked, last });
@@ -154,8 +152,8 @@ impl<'a> Program<'a> {
         }
     }
 
-    /// The Job that is held and not painted yet, to paint it, or none. A Job that was lent counts as painted, with the image that
-    /// the borrower leaves.
+    /// Lends the Job that is held and not painted yet, to paint it, or returns `None`. A Job that was lent counts as painted,
+    /// with the image that the borrower leaves.
     pub fn work(&mut self) -> Option<&mut Job>
         ensures* writes_back { sem 𝓛 (lends_job self.entry result) }
         ensures job { option_copied_mut result ≡ (if self.old.unpainted then self.old.job else None) }
@@ -165,7 +163,7 @@ impl<'a> Program<'a> {
         }
         self.unpainted = false;
         if self.job.is_held() {
-            Some(&mut self.job.job)
+            Some(self.job.job_mut())
         } else {
             None
         }
@@ -186,7 +184,7 @@ impl<'a> Program<'a> {
         }
     }
 
-    /// The Job that is held.
+    /// Returns the Job that is held, or `None`.
     pub fn job(&self) -> Option<&Job>
         ensures { option_copied result ≡ self.now.job }
     {

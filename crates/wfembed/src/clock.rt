@@ -58,7 +58,7 @@ pub(crate) fn tick<K: Sink>(
     Ok(())
 }
 
-/// Begins a frame. At this one event it takes the committed scene, and of each stream in it the newest image that was finished:
+/// Begins a frame. At this one event it takes the committed scene, and of each stream in it the next finished image:
 /// they move into the Job, so that no post, commit or destruction that comes later can touch the frame.
 fn begin(machine: &mut Machine, call: Call) -> Begun
     ensures { IfSome result.job (λ job. IsPaintable job) }

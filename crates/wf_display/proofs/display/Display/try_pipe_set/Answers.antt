@@ -9,6 +9,7 @@ use Rattle.wf_display.specs.Does.{Does}
 use Rattle.wf_display.proofs.Styles.{style_sound}
 use Rattle.wf_display.proofs.AttributesSet.{pipeline_is, pipeline_set, read_at, read_twice, refuses, stays}
 use Rattle.wf_display.proofs.display.Display.try_pipe_set.Goals as goal
+use Rattle.wf_calls.specs.declared.TheConstants.{MOST_PIPELINES}
 
 pub returns : goal.returns
 returns c =
@@ -51,7 +52,7 @@ invariant_of-self c =
           committed = is.committed;
         });
         few_ports = c.self.invariant.display.few_ports;
-        few_pipelines = subst (λ k. k ≤ 8) (sym (length-set mine place y)) c.self.invariant.display.few_pipelines;
+        few_pipelines = subst (λ k. k ≤ MOST_PIPELINES) (sym (length-set mine place y)) c.self.invariant.display.few_pipelines;
       };
       room = c.self.invariant.room;
     }

@@ -62,7 +62,7 @@ begin_name-requires-clause-room c =
     let m = c.self.inside in
     let s = found _ c.in-Ok.number m.store.numbered m.store.streams c.self.invariant.holds.numbered c.in-Ok.ensures.number in
     acquired_room m c.self.invariant c.in-Ok.number s.0 s.2 (c.in-Ok-acquire.ensures.free s.0 s.2).0 _
-    c.in-Ok-acquire.ensures.acquired (room m c.self.invariant c.few_names.ensures c.few_names-2.ensures)
+    c.in-Ok-acquire.ensures.acquired (room m c.self.invariant c.prove_few_names.ensures c.prove_few_names-2.ensures)
 
 pub invariant_of-self-2 : goal.invariant_of-self-2
 invariant_of-self-2 c =

@@ -13,7 +13,7 @@ pub run-requires-clause-names : goal.run-requires-clause-names
 run-requires-clause-names c = core_fits c.self.inside c.self.invariant
 
 pub run-requires-clause-room : goal.run-requires-clause-room
-run-requires-clause-room c = room c.self.inside c.self.invariant c.few_names.ensures c.few_names-2.ensures
+run-requires-clause-room c = room c.self.inside c.self.invariant c.prove_few_names.ensures c.prove_few_names-2.ensures
 
 pub run-requires-clause-given : goal.run-requires-clause-given
 run-requires-clause-given c =

@@ -18,6 +18,19 @@ returns-in-StreamNew c =
     (as_settled _ _ _ (rw (to_z-of_z w, to_z-of_z h, to_z-of_z b) at c.stream_new.ensures.made) c.stream_new.ensures.settled)
     (plain_answer c.stream_new.result)
 
+pub returns-in-StreamQueue : goal.returns-in-StreamQueue
+unfolding act
+returns-in-StreamQueue c =
+    let x = c.in-StreamQueue in
+    let w : SFits w64 c.in-StreamQueue.width = search rules in
+    let h : SFits w64 c.in-StreamQueue.height = search rules in
+    let b : SFits w64 c.in-StreamQueue.depth = search rules in
+    as_act _ _ _ (call.StreamQueue x.width x.height x.format x.depth)
+    (bare _) (ap call_of x.is)
+    (as_settled _ _ _ (rw (to_z-of_z w, to_z-of_z h, to_z-of_z b) at c.stream_new-in-StreamQueue.ensures.made)
+    c.stream_new-in-StreamQueue.ensures.settled)
+    (plain_answer c.stream_new-in-StreamQueue.result)
+
 pub returns-in-StreamDestroy : goal.returns-in-StreamDestroy
 unfolding act
 returns-in-StreamDestroy c =
@@ -30,5 +43,5 @@ unfolding act
 returns-in-Stat c =
     as_act _ _ _ (call.Stat c.in-Stat.what) (bare _) (ap call_of c.in-Stat.is)
     (as_settled _ _ _ (ap (λ a. (c.args.self.now, bare a)) (sym c.stat.ensures))
-    c.all_named.ensures)
+    c.prove_all_named.ensures)
     (plain_answer c.stat.result)

@@ -18,7 +18,7 @@ use Rattle.wf_machine.proofs.parts.Parts.begin_port.Goals as goal
 
 pub returns-in_default-clause-left : goal.returns-in_default-clause-left
 returns-in_default-clause-left c = settled_left (started no_register c.args.self.now (begin_port c.args.port c.args.self.now)) _
-    (search rules) c.all_named.ensures
+    (search rules) c.prove_all_named.ensures
 
 pub begin-requires-clause-fits : goal.begin-requires-clause-fits
 begin-requires-clause-fits c = c.self.invariant.holds.shows
@@ -27,7 +27,7 @@ pub begin-requires-clause-names : goal.begin-requires-clause-names
 begin-requires-clause-names c = display_fits c.self.inside c.self.invariant
 
 pub begin-requires-clause-room : goal.begin-requires-clause-room
-begin-requires-clause-room c = room c.self.inside c.self.invariant c.few_names.ensures c.few_names-2.ensures
+begin-requires-clause-room c = room c.self.inside c.self.invariant c.prove_few_names.ensures c.prove_few_names-2.ensures
 
 pub start_port-requires-clause-begun : goal.start_port-requires-clause-begun
 start_port-requires-clause-begun c =

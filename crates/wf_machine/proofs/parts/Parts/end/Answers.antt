@@ -1,10 +1,11 @@
 use Rattle.std.proofs.lemmas.Option.{none-some, same_Some}
 use Rattle.wf_machine.proofs.Common.{◌≡◌, [], true, ap, sym, ◌∙◌, refl, subst, option_map, StoreView, brought_home, delivered, Inside}
 use Rattle.std.specs.Prelude.{if◌then◌else◌}
-use Rattle.wf_machine.proofs.Common.{IfSome, IsDue, Job, Option, Some, State, end, Reply, Bool, None, Bitmap, is_some}
+use Rattle.wf_machine.proofs.Common.{IfSome, IsDue, Job, Option, Some, State, end, Reply, Bool, None, Bitmap}
+use Rattle.std.specs.Option.{IsSome}
 use Rattle.wf_machine.proofs.Common.{bare, Holds, is_of_running, running_of, settled_so}
 use Rattle.wf_calls.specs.declared.reply.Answer.{Answer}
-use Rattle.wf_calls.specs.Places.{is_aside, is_held, job_in}
+use Rattle.wf_calls.specs.Places.{Place, is_held, job_in, says_held}
 use Rattle.wf_calls.specs.Replies.{with_job}
 use Rattle.wf_stream.specs.Names.{NamesFit}
 use Rattle.wf_stream.specs.Renames.{Renames}
@@ -27,27 +28,36 @@ image_is_own : (image : Bitmap) (there : Bool) (job : Job) → there ≡ true
     → Some image ≡ option_map (λ (j : Job). j.image) (if there then Some job else None) → image ≡ job.image
 image_is_own image there job is_there is = same_Some image job.image (rw is_there at is)
 
+-- the Job that is lent is the one that stands there, also once it came back
+job_stands : (place : Place) (job : Job) → IsSome (job_in place) → job ≡ place.job → job_in place ≡ Some job
+job_stands place job there is = is_held place there ∙ ap (λ j. Some j) (sym is)
+
+back_stands : (place : Place) (job : Job) → IsSome (job_in place) → job_in (record place { job = job }) ≡ Some job
+back_stands place job there = ap (λ b. if b then Some job else None) (says_held place there)
+
 pub returns-then-not-is_of_running : goal.returns-then-not-is_of_running
 returns-then-not-is_of_running c =
-    let held = is_held c.args.place.now c.requires in
-    of_job _ _ _ _ _ c.args.place.now.job held
-    (as_settled _ _ _ (stays_running c.args.place.now.job c.args.self.now (with_job c.refuse.result (job_in c.args.place.now))
-    (sym c.is_of_running.ensures ∙ c.if-not-is_of_running.true) (λ i. with_job (c.refuse.ensures i) (held i))) c.all_named.ensures)
+    let place = c.args.place.now in
+    let job = c.job_mut-job.result.now in
+    let back = back_stands place job c.requires in
+    of_job _ _ _ _ _ job (job_stands place job c.requires c.job_mut-job.ensures.job)
+    (as_settled _ _ _ (stays_running job c.args.self.now (with_job c.refuse.result (job_in (record place { job = job })))
+    (sym c.is_of_running.ensures ∙ c.if-not-is_of_running.true) (λ i. with_job (c.refuse.ensures i) (back i))) c.prove_all_named.ensures)
 
 pub unreachable-requires : goal.unreachable-requires
 unreachable-requires c =
-    none_of c.self.inside c.args.place.now.job (sym c.take.ensures.value ∙ c.in_default.is)
-    (was_running c.self.inside c.args.place.now.job _ c.self.view_is (sym c.is_of_running.ensures ∙ c.if-not-is_of_running.false))
+    none_of c.self.inside c.job_mut-job.result.now (sym c.take.ensures.value ∙ c.in_default.is)
+    (was_running c.self.inside c.job_mut-job.result.now _ c.self.view_is (sym c.is_of_running.ensures ∙ c.if-not-is_of_running.false))
 
 pub bring_home-requires-clause-awaited : goal.bring_home-requires-clause-awaited
 bring_home-requires-clause-awaited c =
-    ending_awaited c.self.inside c.args.place.now.job (was_running c.self.inside c.args.place.now.job _ c.self.view_is
+    ending_awaited c.self.inside c.job_mut-job.result.now (was_running c.self.inside c.job_mut-job.result.now _ c.self.view_is
     (sym c.is_of_running.ensures ∙ c.if-not-is_of_running.false)) c.self.invariant.holds
 
 -- the Job still stands there when its images are home
 pub unreachable-requires-in_default-end : goal.unreachable-requires-in_default-end
 unreachable-requires-in_default-end c =
-    none_held (is_some c.args.place.now.aside) _ (is_aside c.args.place.now c.requires)
+    none_held (c.args.place.now.held) _ (says_held c.args.place.now c.requires)
     (sym c.in_default-end.is ∙ c.end.ensures.image)
   where
     none_held : (there : Bool) (job : Job) → there ≡ true
@@ -65,8 +75,8 @@ came_home m job image home now own home_is now_is =
 pub deliver-requires : goal.deliver-requires
 deliver-requires c =
     let m = c.self.inside in
-    let job = c.args.place.now.job in
-    let own = image_is_own c.in-Some-end.image (is_some c.args.place.now.aside) _ (is_aside c.args.place.now c.requires)
+    let job = c.job_mut-job.result.now in
+    let own = image_is_own c.in-Some-end.image (c.args.place.now.held) _ (says_held c.args.place.now c.requires)
     (sym c.in-Some-end.is ∙ c.end.ensures.image) in
     subst (λ image. IsDue c.bring_home.new.store.streams m.ports.items c.in-Some.frame.mode job.kind image) (sym own)
     (subst (λ ss. IsDue ss m.ports.items c.in-Some.frame.mode job.kind job.image) (sym (ap (λ v. v.streams) c.bring_home.ensures))
@@ -76,11 +86,11 @@ deliver-requires c =
 pub end_names-requires : goal.end_names-requires
 end_names-requires c =
     let m = c.self.inside in
-    let job = c.args.place.now.job in
+    let job = c.job_mut-job.result.now in
     let f = c.in-Some.frame in
     let is = was_running m job c.args.self.now c.self.view_is (sym c.is_of_running.ensures ∙ c.if-not-is_of_running.false) in
     let ran = sym c.take.ensures.value ∙ c.in-Some.is in
-    let own = image_is_own c.in-Some-end.image (is_some c.args.place.now.aside) _ (is_aside c.args.place.now c.requires)
+    let own = image_is_own c.in-Some-end.image (c.args.place.now.held) _ (says_held c.args.place.now c.requires)
     (sym c.in-Some-end.is ∙ c.end.ensures.image) in
     let now : Inside = record m { store = c.deliver.new.store; ports = c.deliver.new.ports; frame = c.take.new.self } in
     subst (λ cs. NamesFit (held_names cs job.kind) c.deliver.new.store) (sym c.as_slice.ensures.value)
@@ -94,7 +104,7 @@ module _ (c : goal.After-done) where
   m = c.self.inside
 
   abbrev job : Job
-  job = c.args.place.now.job
+  job = c.job_mut-job.result.now
 
   is : is_of_running job (option_map running_of m.frame) ≡ true
   is = was_running m job c.args.self.now c.self.view_is (sym c.is_of_running.ensures ∙ c.if-not-is_of_running.false)
@@ -103,7 +113,7 @@ module _ (c : goal.After-done) where
   ran = sym c.take.ensures.value ∙ c.in-Some.is
 
   own : c.in-Some-end.image ≡ job.image
-  own = image_is_own c.in-Some-end.image (is_some c.args.place.now.aside) _ (is_aside c.args.place.now c.requires)
+  own = image_is_own c.in-Some-end.image (c.args.place.now.held) _ (says_held c.args.place.now c.requires)
       (sym c.in-Some-end.is ∙ c.end.ensures.image)
 
   -- the machine before the store is told that the names ended
@@ -145,7 +155,7 @@ invariant_of-self c =
 
 pub returns : goal.returns
 returns c =
-    of_job _ _ _ _ _ (job c) (is_held c.args.place.now c.requires)
+    of_job _ _ _ _ _ (job c) (job_stands c.args.place.now (job c) c.requires c.job_mut-job.ensures.job)
     (ap settled_so (left_ended (m c) (job c) (is c) c.self.invariant.holds _ _ (reply c) (now c) refl refl refl refl refl
     c.take.ensures.after (ended c) c.args.self.now c.self.view_is)
     ∙ ap (λ s. (s, reply c)) (sym (untold_seen (m c) (now c) (job c) c.in-Some.frame c.self.invariant (ran c)

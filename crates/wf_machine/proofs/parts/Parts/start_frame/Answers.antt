@@ -59,7 +59,7 @@ begin_names-requires-clause-room c n =
     subst (λ k. k < 2147483648)
     (sym (ap (count_of n) (c.take_target-image.ensures.store
     ∙ ap (λ (v : StoreView). record v { streams = drawing c.args.kind v.streams }) c.latch_scene.ensures.store)))
-    (room c.self.inside c.self.invariant c.few_names.ensures c.few_names-2.ensures n)
+    (room c.self.inside c.self.invariant c.prove_few_names.ensures c.prove_few_names-2.ensures n)
 
 module _ (c : goal.After-done) where
   abbrev frame : Frame

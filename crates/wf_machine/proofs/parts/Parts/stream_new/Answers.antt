@@ -1,7 +1,8 @@
-use Rattle.wf_machine.proofs.Common.{◌+◌, Err, sym, ap, subst, ◌∙◌, with_live_stream, is_out_of_memory, count_of, bare, done, refusal}
-use Rattle.wf_machine.proofs.Common.{refused, new_buffers, size_from, stream_new, stream_step, IsSound, to_z-of_z}
+use Rattle.wf_machine.proofs.Common.{◌+◌, Err, sym, ap, subst, ◌∙◌, with_live_stream, is_out_of_memory, bare, done, refusal}
+use Rattle.wf_machine.proofs.Common.{refused, new_buffers, stream_new, stream_step, IsSound, to_z-of_z}
 use Rattle.wf_calls.specs.declared.code.Code.TheVariants as code
-use Rattle.wf_machine.proofs.StreamCallsKeepInvariant.{leaves, limited, made, made_sides, sound_made, stays, unmade}
+use Rattle.wf_machine.proofs.StreamCallsKeepInvariant.{leaves, limited, made, made_home, made_sides, made_unread, sound_made}
+use Rattle.wf_machine.proofs.StreamCallsKeepInvariant.{stays, unmade}
 use Rattle.wf_machine.proofs.Counts.{same_settled, sound_settles}
 use Rattle.wf_machine.proofs.StreamNames.{sound_pushed}
 use Rattle.wf_machine.proofs.parts.Parts.stream_new.Goals as goal
@@ -11,12 +12,13 @@ returns-in-Err-Limit-clause-made c =
     let a = c.args in
     let inside = c.self.inside in
     stays inside a.self.now c.self.view_is (λ t r. stream_step t
-    (stream_new a.width a.height a.format a.buffers (is_out_of_memory r.code) t))
+    (stream_new a.queue a.width a.height a.format a.number (is_out_of_memory r.code) t))
     c.make.new.store (bare _) (bare (refused (refusal code.Limit))) c.in-Err-Limit.ensures.refused
     (ap bare c.refuse-in-Err-Limit.ensures)
-    (limited a.width a.height a.buffers a.format _ (rw (to_z-of_z c.ranges.width, to_z-of_z c.ranges.height, to_z-of_z c.ranges.buffers) at
+    (limited a.queue a.width a.height a.number a.format _
+    (rw (to_z-of_z c.ranges.width, to_z-of_z c.ranges.height, to_z-of_z c.ranges.number) at
     (sym c.may_make.ensures ∙ c.if-not-may_make.false))
-    (rw (to_z-of_z c.ranges.width, to_z-of_z c.ranges.height, to_z-of_z c.ranges.buffers) at
+    (rw (to_z-of_z c.ranges.width, to_z-of_z c.ranges.height, to_z-of_z c.ranges.number) at
     (c.in-Err-Limit.ensures.limit (ap (λ e. Err e) c.in-Err-Limit.field-0-is))))
 
 pub returns-in-Err-NoMemory-clause-made : goal.returns-in-Err-NoMemory-clause-made
@@ -24,16 +26,17 @@ returns-in-Err-NoMemory-clause-made c =
     let a = c.args in
     let inside = c.self.inside in
     stays inside a.self.now c.self.view_is (λ t r. stream_step t
-    (stream_new a.width a.height a.format a.buffers (is_out_of_memory r.code) t))
+    (stream_new a.queue a.width a.height a.format a.number (is_out_of_memory r.code) t))
     c.make.new.store (bare _) (bare (refused (refusal code.OutOfMemory))) c.in-Err-NoMemory.ensures.refused
     (ap bare c.refuse-in-Err-NoMemory.ensures)
-    (unmade a.width a.height a.buffers a.format _ (rw (to_z-of_z c.ranges.width, to_z-of_z c.ranges.height, to_z-of_z c.ranges.buffers) at
+    (unmade a.queue a.width a.height a.number a.format _
+    (rw (to_z-of_z c.ranges.width, to_z-of_z c.ranges.height, to_z-of_z c.ranges.number) at
     (sym c.may_make.ensures ∙ c.if-not-may_make.false))
-    (rw (to_z-of_z c.ranges.width, to_z-of_z c.ranges.height, to_z-of_z c.ranges.buffers) at
+    (rw (to_z-of_z c.ranges.width, to_z-of_z c.ranges.height, to_z-of_z c.ranges.number) at
     (c.in-Err-NoMemory.ensures.memory (ap (λ e. Err e) c.in-Err-NoMemory.field-0-is))))
 
 pub returns-then-not-may_make-clause-settled : goal.returns-then-not-may_make-clause-settled
-returns-then-not-may_make-clause-settled c = c.all_named.ensures
+returns-then-not-may_make-clause-settled c = c.prove_all_named.ensures
 
 pub returns-in-Err-Limit-clause-settled : goal.returns-in-Err-Limit-clause-settled
 returns-in-Err-Limit-clause-settled c = same_settled c.self.inside _ c.in-Err-Limit.ensures.refused c.self.invariant
@@ -53,12 +56,14 @@ made_sound : (c : goal.After-done) → IsSound (record c.self.inside { store = c
 made_sound c =
     let a = c.args in
     subst (λ store. IsSound (record c.self.inside { store = store }))
-    (sym (rw (to_z-of_z c.ranges.width, to_z-of_z c.ranges.height, to_z-of_z c.ranges.buffers) at c.in-Ok.ensures.made))
-    (sound_pushed c.self.inside c.self.invariant (size_from a.width a.height) a.format (count_of a.buffers) c.in-Ok.ensures.uncounted
-    (sound_made c.self.inside (size_from a.width a.height) a.format (count_of a.buffers)
-    (made_sides a.width a.height a.buffers (rw (to_z-of_z c.ranges.width, to_z-of_z c.ranges.height, to_z-of_z c.ranges.buffers) at
-    (sym c.may_make.ensures ∙ c.if-not-may_make.false)))
-    (rw (to_z-of_z c.ranges.width, to_z-of_z c.ranges.height, to_z-of_z c.ranges.buffers) at c.in-Ok.ensures.room) c.self.invariant.holds))
+    (sym (rw (to_z-of_z c.ranges.width, to_z-of_z c.ranges.height, to_z-of_z c.ranges.number) at c.in-Ok.ensures.made))
+    (sound_pushed c.self.inside c.self.invariant (new_buffers a.queue a.width a.height a.format a.number)
+    (made_home a.width a.height a.number a.format a.queue) c.in-Ok.ensures.uncounted
+    (sound_made c.self.inside (new_buffers a.queue a.width a.height a.format a.number)
+    (made_sides a.width a.height a.number a.format a.queue
+    (rw (to_z-of_z c.ranges.width, to_z-of_z c.ranges.height, to_z-of_z c.ranges.number) at
+    (sym c.may_make.ensures ∙ c.if-not-may_make.false))) (made_unread a.width a.height a.number a.format a.queue)
+    (rw (to_z-of_z c.ranges.width, to_z-of_z c.ranges.height, to_z-of_z c.ranges.number) at c.in-Ok.ensures.room) c.self.invariant.holds))
 
 pub invariant_of-self-2 : goal.invariant_of-self-2
 invariant_of-self-2 c = made_sound c
@@ -70,12 +75,13 @@ pub returns-clause-made : goal.returns-clause-made
 returns-clause-made c =
     let a = c.args in
     let inside = c.self.inside in
-    let new = new_buffers a.width a.height a.format a.buffers in
+    let new = new_buffers a.queue a.width a.height a.format a.number in
     leaves inside a.self.now c.self.view_is (λ t r. stream_step t
-    (stream_new a.width a.height a.format a.buffers (is_out_of_memory r.code) t))
+    (stream_new a.queue a.width a.height a.format a.number (is_out_of_memory r.code) t))
     c.make.new.store (with_live_stream new inside.store) (bare _) (bare (done (inside.store.made + 1)))
-    (rw (to_z-of_z c.ranges.width, to_z-of_z c.ranges.height, to_z-of_z c.ranges.buffers) at c.in-Ok.ensures.made)
+    (rw (to_z-of_z c.ranges.width, to_z-of_z c.ranges.height, to_z-of_z c.ranges.number) at c.in-Ok.ensures.made)
     (ap bare c.done.ensures ∙ ap (λ n. bare (done n)) c.in-Ok.ensures.handle)
-    (made a.width a.height a.buffers a.format _ (rw (to_z-of_z c.ranges.width, to_z-of_z c.ranges.height, to_z-of_z c.ranges.buffers) at
+    (made a.queue a.width a.height a.number a.format _
+    (rw (to_z-of_z c.ranges.width, to_z-of_z c.ranges.height, to_z-of_z c.ranges.number) at
     (sym c.may_make.ensures ∙ c.if-not-may_make.false))
-    (rw (to_z-of_z c.ranges.width, to_z-of_z c.ranges.height, to_z-of_z c.ranges.buffers) at c.in-Ok.ensures.room) c.in-Ok.ensures.free)
+    (rw (to_z-of_z c.ranges.width, to_z-of_z c.ranges.height, to_z-of_z c.ranges.number) at c.in-Ok.ensures.room) c.in-Ok.ensures.free)

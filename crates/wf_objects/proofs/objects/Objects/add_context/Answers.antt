@@ -23,6 +23,7 @@ use Rattle.wf_objects.specs.Inside.{HasFewLayers}
 use Rattle.wf_objects.proofs.NamesOfObjectsGone.{begun_fits, begun_names}
 use Rattle.wf_objects.proofs.NameCounts.{context_more}
 use Rattle.wf_objects.proofs.objects.Objects.add_context.Goals as goal
+use Rattle.wf_model.specs.declared.TheConstants.{MOST_CONTEXTS}
 
 pub add-requires-clause-is_open : goal.add-requires-clause-is_open
 add-requires-clause-is_open c =
@@ -91,14 +92,14 @@ returns c =
       committed = blank_scene a.target.size;
     } in
     let grown : CoreState → CoreState = λ k. record k { contexts = k.contexts ++ new ∷ [] } in
-    let below : nat_le 16 (length core.contexts) ≡ false = lt-leb 16 (length core.contexts)
+    let below : nat_le MOST_CONTEXTS (length core.contexts) ≡ false = lt-leb MOST_CONTEXTS (length core.contexts)
     (omega (arith, c.if-len-ge-MOST_CONTEXTS.false, c.len.ensures, ap (λ k. length k.contexts) c.self.view_is)) in
     let fit : ContextFits store.streams new = record { target = c.requires.kept; size = refl; layers = tt } in
     let made = c.in_ok-handle.ensures.made in
     let rest = c.begin_name.ensures.rest ∙ ap but_names made in
     rw (c.push_reserved.ensures.items, c.in_ok-handle.ensures.handle, c.in-Ok.ensures, c.blank_scene.ensures)
     (subst (λ k. Does (context_made a.device a.port a.target) core (grown k) store now (Ok (store.made + 1))) (sym c.self.view_is)
-    (creates core store c.requires.fits (context_made a.device a.port a.target) (nat_le 16 (length core.contexts)) (grown core)
+    (creates core store c.requires.fits (context_made a.device a.port a.target) (nat_le MOST_CONTEXTS (length core.contexts)) (grown core)
     (λ m. refl) kind.Context a.device refl refl below c.in_ok-handle.ensures.stopped now rest
     (begun_names core (grown core) store c.mint.new.store (ap (λ v. v.streams) made) (ap (λ v. v.counts) made) (a.target.stream ∷ []) now
     c.begin_name.ensures.names (λ n some. context_more n core new))

@@ -12,6 +12,7 @@ use Rattle.wf_objects.specs.Inside.{tables_of}
 use Rattle.wf_objects.proofs.MembersTellTables.{device_tracked, devices_room, fresh_device, no_device_open, tracked_as}
 use Rattle.wf_objects.proofs.CreationsFit.{creates, device_fits}
 use Rattle.wf_objects.proofs.objects.Objects.add_device.Goals as goal
+use Rattle.wf_model.specs.declared.TheConstants.{MOST_DEVICES}
 
 pub open-requires-clause-closed : goal.open-requires-clause-closed
 open-requires-clause-closed c =
@@ -47,13 +48,13 @@ returns c =
     let store = c.args.store.now in
     let grown : CoreState → CoreState =
     λ k. record k { devices = k.devices ++ record { handle = store.made + 1; register = None } ∷ [] } in
-    let below : nat_le 8 (length core.devices) ≡ false = lt-leb 8 (length core.devices)
+    let below : nat_le MOST_DEVICES (length core.devices) ≡ false = lt-leb MOST_DEVICES (length core.devices)
     (omega (arith, c.if-len-ge-MOST_DEVICES.false, c.len.ensures, ap (λ k. length k.devices) c.self.view_is)) in
     rw (c.in_ok-handle.ensures.made, c.push_reserved.ensures.items, c.in_ok-handle.ensures.handle)
     (subst (λ k. Does device_new core (grown k) store (with_other kind.Device 0 store) (Ok (store.made + 1)))
     (sym c.self.view_is)
-    (creates core store c.requires device_new (nat_le 8 (length core.devices)) (grown core) (λ m. refl) kind.Device 0 refl refl below
-    c.in_ok-handle.ensures.stopped (with_other kind.Device 0 store) refl
+    (creates core store c.requires device_new (nat_le MOST_DEVICES (length core.devices)) (grown core) (λ m. refl) kind.Device 0 refl refl
+    below c.in_ok-handle.ensures.stopped (with_other kind.Device 0 store) refl
     (names_stay (core_names core) (core_names (grown core)) store (with_other kind.Device 0 store) refl refl (λ n some. refl))
     (device_fits core store c.requires)))
 

@@ -13,6 +13,7 @@ use Rattle.wf_objects.proofs.Owners.{standing}
 use Rattle.wf_objects.proofs.MembersTellTables.{kept_in}
 use Rattle.std.proofs.lemmas.Grind.{common_steps}
 use Rattle.wf_objects.proofs.objects.Objects.add_element.Goals as goal
+use Rattle.wf_scene.specs.declared.TheConstants.{MOST_ELEMENTS}
 
 pub add-requires-clause-fresh : goal.add-requires-clause-fresh
 add-requires-clause-fresh c =
@@ -44,7 +45,7 @@ returns c =
     let handle : z.handle ≡ x.handle =
     (let same : z ≡ x = let both = sym named ∙ at in cc in ap (λ y. y.handle) same) in
     let same : y ≡ x = let both = sym counted ∙ at in cc in
-    let below : nat_le 64 (length x.cached.elements) ≡ false = lt-leb 64 (length x.cached.elements)
+    let below : nat_le MOST_ELEMENTS (length x.cached.elements) ≡ false = lt-leb MOST_ELEMENTS (length x.cached.elements)
     (omega (arith, c.if-count-ge-MOST_ELEMENTS.false, c.count.ensures.count, ap (λ y. length y.cached.elements) same)) in
     rw (c.in_ok-handle.ensures.made, handle, c.add.ensures.added, c.in_ok-handle.ensures.handle)
     (subst (λ k. Does (in_place a.place element_made) core
@@ -57,7 +58,7 @@ returns-then-count-ge-MOST_ELEMENTS c =
     refuses (in_place c.args.place element_made) c.args.self.now c.args.store.now c.of.result c.requires.fits
     (let x = context_of c.behind-self.inside in
     let at = standing _ c.args.self.now c.args.place _ x c.self.view_is c.requires.within c.index.ensures c.behind-self.view_is in
-    let full : nat_le 64 (length x.cached.elements) ≡ true = le-leb 64 (length x.cached.elements)
+    let full : nat_le MOST_ELEMENTS (length x.cached.elements) ≡ true = le-leb MOST_ELEMENTS (length x.cached.elements)
     (omega (arith, c.if-count-ge-MOST_ELEMENTS.true, c.count.ensures.count)) in
     rw (at, full, c.of.ensures) refl)
 
@@ -65,7 +66,7 @@ pub returns-in_err-handle : goal.returns-in_err-handle
 returns-in_err-handle c =
     let x = context_of c.behind-self.inside in
     let at = standing _ c.args.self.now c.args.place _ x c.self.view_is c.requires.within c.index.ensures c.behind-self.view_is in
-    let below : nat_le 64 (length x.cached.elements) ≡ false = lt-leb 64 (length x.cached.elements)
+    let below : nat_le MOST_ELEMENTS (length x.cached.elements) ≡ false = lt-leb MOST_ELEMENTS (length x.cached.elements)
     (omega (arith, c.if-count-ge-MOST_ELEMENTS.false, c.count.ensures.count)) in
     record {
       case = rw (at, below) (grind (arith, common_steps));

@@ -1,7 +1,7 @@
 use Rattle.std.proofs.Common.{arith}
 use Rattle.wf_objects.specs.Inside.{tables_of}
 use Rattle.wf_objects.proofs.NameCounts.{few}
-use Rattle.wf_objects.proofs.objects.Objects.few_names.Goals as goal
+use Rattle.wf_objects.proofs.objects.Objects.prove_few_names.Goals as goal
 
 pub returns : goal.returns
 returns c =
