@@ -30,7 +30,7 @@ stream_context-requires-clause-names c = c.screened-context.ensures.ours.fit
 
 pub stream_context-requires-clause-room : goal.stream_context-requires-clause-room
 stream_context-requires-clause-room c =
-    ours_room (core_names c.screened-context.new.core) c.screened-context.new.store c.screened-context.ensures.ours c.few_names.ensures
+    ours_room (core_names c.screened-context.new.core) c.screened-context.new.store c.screened-context.ensures.ours c.prove_few_names.ensures
 
 pub source_new-requires-clause-names : goal.source_new-requires-clause-names
 source_new-requires-clause-names c = (with_element (goal.at.source_new-requires-clause-names c).After-element_new).fit
@@ -38,7 +38,7 @@ source_new-requires-clause-names c = (with_element (goal.at.source_new-requires-
 pub source_new-requires-clause-room : goal.source_new-requires-clause-room
 source_new-requires-clause-room c =
     ours_room (core_names c.element_new.new.self) c.element_new.new.store
-    (with_element (goal.at.source_new-requires-clause-room c).After-element_new) c.few_names-2.ensures
+    (with_element (goal.at.source_new-requires-clause-room c).After-element_new) c.prove_few_names-2.ensures
 
 pub mask_new-requires-clause-names : goal.mask_new-requires-clause-names
 mask_new-requires-clause-names c = (with_source (goal.at.mask_new-requires-clause-names c).After-source_new).fit
@@ -46,4 +46,4 @@ mask_new-requires-clause-names c = (with_source (goal.at.mask_new-requires-claus
 pub mask_new-requires-clause-room : goal.mask_new-requires-clause-room
 mask_new-requires-clause-room c =
     ours_room (core_names c.source_new.new.self) c.source_new.new.store
-    (with_source (goal.at.mask_new-requires-clause-room c).After-source_new) c.few_names-3.ensures
+    (with_source (goal.at.mask_new-requires-clause-room c).After-source_new) c.prove_few_names-3.ensures

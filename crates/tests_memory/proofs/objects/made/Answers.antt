@@ -29,7 +29,7 @@ add_context-requires-clause-names c = (with_device (goal.at.add_context-requires
 pub add_context-requires-clause-room : goal.add_context-requires-clause-room
 add_context-requires-clause-room c =
     ours_room (core_names c.add_device.new.self) c.add_device.new.store
-    (with_device (goal.at.add_context-requires-clause-room c).After-add_device) c.few_names.ensures
+    (with_device (goal.at.add_context-requires-clause-room c).After-add_device) c.prove_few_names.ensures
 
 pub add_link-requires-clause-names : goal.add_link-requires-clause-names
 add_link-requires-clause-names c = (with_element (goal.at.add_link-requires-clause-names c).After-add_element).fit
@@ -37,7 +37,7 @@ add_link-requires-clause-names c = (with_element (goal.at.add_link-requires-clau
 pub add_link-requires-clause-room : goal.add_link-requires-clause-room
 add_link-requires-clause-room c =
     ours_room (core_names c.add_element.new.self) c.add_element.new.store
-    (with_element (goal.at.add_link-requires-clause-room c).After-add_element) c.few_names-2.ensures
+    (with_element (goal.at.add_link-requires-clause-room c).After-add_element) c.prove_few_names-2.ensures
 
 pub add_link-requires-clause-live : goal.add_link-requires-clause-live
 add_link-requires-clause-live c =
