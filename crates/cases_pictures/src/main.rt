@@ -80,7 +80,14 @@ fn paint_all<R: Threads + Sync + AllocGlobal>(
         let (scene, contents) = scenes::scene_of(rt.alloc(), &mut dice, most(number))?;
         kinds::mark(seen, &scene, &contents);
         if fits(&scene, &contents) {
-            compare(rt.alloc(), &mut dice, &mut other, &scene, &contents, &mut found)?;
+            compare(
+                rt.alloc(),
+                &mut dice,
+                &mut other,
+                &scene,
+                &contents,
+                &mut found,
+            )?;
             if number % 7 == 0 || most(number) > 40 {
                 compare_rows(rt, &mut other, &scene, &contents, &mut found)?;
             }

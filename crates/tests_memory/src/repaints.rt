@@ -9,7 +9,8 @@ use wf_script::{Script, parse};
 use wf_turn::{PlayStop, serial_by};
 
 /// Two ticks of a port of 4 by 2, whose one layer has the same image at both.
-const TWICE: &str = "WFS1\nport 4x2\n0 d = device\n0 c = screen d 1\n0 s = stream 1 1 rgba 2\n0 x = source d c s\n0 e = element d c\n\
+const TWICE: &str =
+    "WFS1\nport 4x2\n0 d = device\n0 c = screen d 1\n0 s = stream 1 1 rgba 2\n0 x = source d c s\n0 e = element d c\n\
     0 set d e source x\n0 set d e srcrect 0 0 1 1\n0 set d e dest 0 0 4 2\n0 insert d e none\n0 commit d c\n0 activate d c\n\
     0 frame s fill 9 8 7 255\n0 tick\n0 tick\nend\n";
 
@@ -27,9 +28,7 @@ fn painted(alloc: Global, script: &Script, room: usize) -> Result<(u64, usize), 
 
 #[test]
 fn pictures_are_kept(rt: HostRuntime) -> Result<(), Fail> {
-    let script = parse(rt.alloc(), TWICE.as_bytes())
-        .ok()
-        .ok_or("no script")?;
+    let script = parse(rt.alloc(), TWICE.as_bytes()).ok().ok_or("no script")?;
     // The first tick asks for 8 pixels of the context and for 8 of the port, and the second one for none, where there is room.
     let kept = painted(rt.alloc(), &script, 8_388_608).ok();
     let empty = painted(rt.alloc(), &script, 0).ok();

@@ -120,21 +120,11 @@ fn form_in(matches: &ArgMatches) -> FilmForm
     }
 }
 
-/// Whether `--threads` stands among the words.
-fn threads_in(matches: &ArgMatches) -> bool
-    ensures { IsSet (first_value (found_of matches.now) (codes "threads")) result }
+/// Whether the flag `name` stands among the words.
+fn flag_in(matches: &ArgMatches, name: &str) -> bool
+    ensures { IsSet (first_value (found_of matches.now) name.now) result }
 {
-    match matches.get_str("threads") {
-        Some(word) => word == "true",
-        None => false,
-    }
-}
-
-/// Whether `--repaint` stands among the words.
-fn repaint_in(matches: &ArgMatches) -> bool
-    ensures { IsSet (first_value (found_of matches.now) (codes "repaint")) result }
-{
-    match matches.get_str("repaint") {
+    match matches.get_str(name) {
         Some(word) => word == "true",
         None => false,
     }
@@ -165,9 +155,9 @@ fn asked_in(matches: &ArgMatches) -> Option<Asked>
     ensures asked { IfSome result (IsMeant (texts_in (found_of matches.now))) }
     ensures none { IfNone result ((a : Asked) → ¬ (IsMeant (texts_in (found_of matches.now)) a)) }
 {
-    let (threads, rows) = (threads_in(matches), rows_in(matches));
+    let (threads, rows) = (flag_in(matches, "threads"), rows_in(matches));
     let (form, size) = (form_in(matches), size_in(matches));
-    let repaint = repaint_in(matches);
+    let repaint = flag_in(matches, "repaint");
     match matches.get_str("mode") {
         Some(word) => match mode_named(word) {
             Some(mode) => Some(Asked {

@@ -1,6 +1,6 @@
 -- Outside of the areas the pictures agree.
-use Rattle.std.proofs.Common.{◌≡◌, ℕ, ◌+◌, ◌-◌, ◌<◌, ◌≤◌, List, [], ◌∷◌, ◌++◌, length, map, ℤ, pos, Bool, true, false, refl, sym, ap, subst, ◌∙◌, arith}
-use Rattle.std.specs.Prelude.{◌&&◌, ◌==◌, All, reverse, Option, Some, None, is_some, option_and_then, option_map, bytes_eq, if◌then◌else◌}
+use Rattle.std.proofs.Common.{◌≡◌, ℕ, ◌<◌, List, [], ◌∷◌, ◌++◌, map, ℤ, pos, Bool, true, false, refl, sym, ap, ◌∙◌, arith}
+use Rattle.std.specs.Prelude.{◌&&◌, ◌==◌, All, reverse, Option, Some, None, is_some, option_and_then, option_map, if◌then◌else◌}
 use mathlib.Core.List.{reverse_aux}
 use Rattle.std.proofs.lemmas.Bool.{and_parts}
 use Rattle.std.proofs.lemmas.List.Elements.{All-head, All-tail}
@@ -18,7 +18,7 @@ use Rattle.wf_pixel.specs.declared.Size.{Size}
 use Rattle.wf_pixel.specs.declared.Transparency.{Transparency}
 use Rattle.wf_pixel.specs.Along.{along}
 use Rattle.wf_pixel.specs.Choice.{same_size, same_format}
-use Rattle.wf_pixel.specs.Place.{place, source_pixel, turned, turned_back}
+use Rattle.wf_pixel.specs.Place.{source_pixel, turned, turned_back}
 use Rattle.wf_pixel.specs.Arithmetic.{lift}
 use Rattle.wf_image.specs.Bitmap.{Bitmap, pixel}
 use Rattle.wf_image.specs.Contents.{image_of}

@@ -1,16 +1,15 @@
 -- Pictures that are painted over older ones, rectangle by rectangle.
-use Rattle.std.proofs.Common.{◌≡◌, ℕ, zero, suc, ◌+◌, ◌-◌, ◌*◌, ◌/◌, ◌%◌, ◌<◌, ◌≤◌, List, [], ◌∷◌, ◌++◌, length, take, drop, get_or, refl, sym, ap, ◌∙◌, arith}
-use Rattle.std.proofs.Common.{Bool, true, false, pos, zero-add, subst, length-set, slice_set, Option, IfSome, None, Some}
+use Rattle.std.proofs.Common.{◌≡◌, ℕ, ◌+◌, ◌%◌, ◌<◌, List, [], ◌∷◌, ◌++◌, length, take, get_or, refl, sym, ap, ◌∙◌, arith}
+use Rattle.std.proofs.Common.{Bool, true, false, subst, length-set, slice_set, Option, IfSome, None, Some}
 use Rattle.wf_calls.specs.declared.call.JobKind.{JobKind}
-use Rattle.std.specs.Prelude.{flat_map, ◌||◌, All, if◌then◌else◌}
-use Rattle.std.specs.List.{range_with_len, list_any}
+use Rattle.std.specs.Prelude.{◌||◌, All, if◌then◌else◌}
+use Rattle.std.specs.List.{list_any}
 use Rattle.std.proofs.lemmas.List.Elements.{All-cons, All-nil, All-set}
 use Rattle.wf_pixel.specs.declared.Rgba.{Rgba}
 use Rattle.wf_pixel.specs.declared.Rect.{Rect}
 use Rattle.wf_pixel.specs.declared.Size.{Size}
 use Rattle.wf_pixel.specs.declared.Format.{Format}
-use Rattle.wf_pixel.specs.declared.Format.TheVariants.{Rgba8, Rgba8Pre, Rgbx8, A8}
-use Rattle.wf_image.specs.Bitmap.{Bitmap, IsWhole, image_bytes, stored, read_at, drawn_row, drawn, pixel, pixel_bytes}
+use Rattle.wf_image.specs.Bitmap.{Bitmap, image_bytes, stored, drawn_row, drawn, pixel, pixel_bytes}
 use Rattle.wf_scene.specs.declared.Scene.{Scene}
 use Rattle.wf_model.specs.Picture.{Images, picture, picture_pixel}
 use Rattle.wf_damage.specs.Areas.{areas_of, whole_of}
@@ -18,8 +17,7 @@ use Rattle.wf_kernel.specs.Parts.{covers_at, part_picture}
 use Rattle.wf_damage.proofs.Agreement.{agreement, whole_covers}
 use Rattle.wf_damage.specs.declared.bench.Kept.{Kept}
 use Rattle.wf_damage.specs.Bench.{over_picture, ArePlaces, IsKept, IsRise, area}
-use Rattle.wf_image.specs.Lending.{with_bytes}
-use Rattle.std.proofs.lemmas.List.{take_at, take_more, map-append}
+use Rattle.std.proofs.lemmas.List.{take_more, map-append}
 use Rattle.std.specs.Prelude.{sum, map, ◌^◌}
 use Rattle.std.proofs.Math.Nat.{add-mod-mod}
 use Rattle.std.proofs.lemmas.Grind.{common_steps}

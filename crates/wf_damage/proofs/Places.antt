@@ -1,7 +1,7 @@
 -- Areas place by place.
 use Rattle.std.proofs.Common.{◌≡◌, ℕ, ◌+◌, ◌*◌, ◌≤◌, List, [], ◌∷◌, ◌++◌, length, take, drop, refl, sym, ap, ◌∙◌, arith, append_assoc, length-append}
 use Rattle.std.specs.Prelude.{Bool, true, false}
-use Rattle.std.proofs.lemmas.List.{drop-drop, drop_all, append-nil}
+use Rattle.std.proofs.lemmas.List.{drop-drop, append-nil}
 use Rattle.wf_pixel.specs.declared.Rect.{Rect}
 use Rattle.wf_scene.specs.declared.Layer.{Layer}
 use Rattle.wf_model.specs.Picture.{Images}

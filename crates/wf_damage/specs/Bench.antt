@@ -1,5 +1,5 @@
 -- What a bench keeps, and what it asks its brush for.
-use Rattle.std.specs.Prelude.{◌≡◌, ◌≢◌, ℕ, ◌+◌, ◌-◌, ◌*◌, ◌%◌, ◌^◌, ◌==◌, ◌&&◌, Bool, true, false, nat_le, List, [], ◌∷◌, length}
+use Rattle.std.specs.Prelude.{◌≡◌, ◌≢◌, ℕ, ◌+◌, ◌-◌, ◌*◌, ◌%◌, ◌^◌, ◌==◌, ◌&&◌, Bool, false, nat_le, List, [], ◌∷◌, length}
 use Rattle.std.specs.Prelude.{All, Option, Some, None, IfSome, slice_index_or, if◌then◌else◌}
 use Rattle.std.specs.List.{list_any}
 use Rattle.wf_pixel.specs.declared.Rect.{Rect}

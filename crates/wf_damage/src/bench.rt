@@ -8,8 +8,8 @@ ghost use Rattle.wf_damage.specs.Bench.{AreKept, IsKept, IsRise, area, asked, ke
 ghost use Rattle.wf_damage.specs.Compared.{AreCompared};
 
 use crate::NoMemory;
-use crate::changes::{areas_by, whole_of};
 use crate::brush::Brush;
+use crate::changes::{areas_by, whole_of};
 use crate::comparing::Compared;
 use crate::equal::same_format;
 use crate::paying::{Rest, pays};
@@ -102,7 +102,16 @@ impl<B: Brush + Drop> Painter for Bench<B> {
         let place = &mut self.places[i];
         let was_kept = place.is_some();
         repaint(&mut self.brush, place, kind, scene, contents, target);
-        self.rests[i] = keep(place, was_kept, self.rests[i], self.room, kind, scene, contents, target);
+        self.rests[i] = keep(
+            place,
+            was_kept,
+            self.rests[i],
+            self.room,
+            kind,
+            scene,
+            contents,
+            target,
+        );
     }
 }
 

@@ -13,6 +13,7 @@ const BLENDED: u64 = 4;
 
 /// How many paints a place rests for once it did not pay, the first time and at most.
 const FIRST_REST: u32 = 8;
+
 const MOST_REST: u32 = 1024;
 
 /// When a place that was lost is used again.

@@ -1,11 +1,10 @@
 -- Places that are copied over others, one by one.
 use Rattle.std.proofs.Common.{◌≡◌, ℕ, zero, suc, ◌+◌, ◌-◌, ◌<◌, ◌==◌, List, [], ◌∷◌, ◌++◌, length, take, drop, get_or, refl, sym, ap, ◌∙◌, arith}
-use Rattle.std.proofs.Common.{Bool, true, false, cond, subst, Some, None, IsTrue, length-take, slice_set, eq-eqb, append_assoc}
+use Rattle.std.proofs.Common.{Bool, true, false, cond, subst, Some, None, length-take, slice_set, eq-eqb, append_assoc}
 use Rattle.std.specs.Prelude.{Option, find, option_map, replicate, All}
-use Rattle.std.specs.List.{list_any}
 use Rattle.std.proofs.lemmas.Bool.{eqb-true}
 use Rattle.std.proofs.lemmas.List.{get_or-drop, get_or-append_right, get_or_default, set-append_right, take_more}
-use Rattle.std.proofs.lemmas.List.Elements.{All-head, All-tail, filter_map-append}
+use Rattle.std.proofs.lemmas.List.Elements.{filter_map-append}
 use Rattle.std.proofs.lemmas.List.Sums.{sum_by-append}
 use Rattle.std.proofs.Math.Seq.{drop-cons}
 use Rattle.wf_image.specs.Bitmap.{Bitmap}

@@ -1,27 +1,21 @@
 -- Pixels of a part are written row by row, and the others stay.
-use Rattle.std.proofs.Common.{◌≡◌, ℕ, zero, suc, ◌+◌, ◌-◌, ◌*◌, ◌<◌, ◌≤◌, List, [], ◌∷◌, ◌++◌, length, take, drop, get_or, refl, sym, ap, ◌∙◌, arith}
-use Rattle.std.proofs.Common.{Bool, true, false, ℤ, pos, negsuc, inl, inr, ◌≢◌, zero-add, length-append, length-take, length-drop}
-use Rattle.std.specs.Prelude.{flat_map, nat_le, nat_lt, ◌&&◌, is_some, if◌then◌else◌, map, ◌⊎◌, IsTrue}
+use Rattle.std.proofs.Common.{◌≡◌, ℕ, ◌+◌, ◌-◌, ◌*◌, ◌<◌, ◌≤◌, List, ◌++◌, length, take, drop, get_or, refl, sym, ap, ◌∙◌, arith}
+use Rattle.std.proofs.Common.{Bool, true, false, ℤ, pos, negsuc, inl, inr, ◌≢◌, length-append, length-take, length-drop}
+use Rattle.std.specs.Prelude.{flat_map, nat_le, nat_lt, ◌&&◌, is_some, if◌then◌else◌, map}
 use Rattle.std.specs.List.{range_with_len}
-use Rattle.std.specs.Simd.Lanes.{chunk}
 use Rattle.std.proofs.Math.Seq.{get_or-append_right}
 use Rattle.std.proofs.Math.ListN.{get_or-append}
-use Rattle.std.proofs.lemmas.List.{get_or-take, get_or-drop, take_all}
+use Rattle.std.proofs.lemmas.List.{get_or-take, get_or-drop}
 use Rattle.std.proofs.lemmas.Bool.{cases_lt}
 use Rattle.std.proofs.lemmas.Bool.Decides.{nat_tests}
 use Rattle.std.proofs.lemmas.Int.{ints}
 use borrow.Rule.Slice.PartMut.{put_mid}
 use Rattle.wf_pixel.specs.declared.Rgba.{Rgba}
 use Rattle.wf_pixel.specs.declared.Rect.{Rect}
-use Rattle.wf_pixel.specs.declared.Rotation.{Rotation}
-use Rattle.wf_pixel.specs.declared.Rotation.TheVariants.{R0, R90, R180, R270}
 use Rattle.wf_pixel.specs.declared.Size.{Size}
-use Rattle.wf_pixel.specs.declared.Format.{Format}
-use Rattle.wf_pixel.specs.declared.Format.TheVariants.{Rgba8, Rgba8Pre, Rgbx8, A8}
+use Rattle.wf_pixel.specs.declared.Format.TheVariants.{Rgba8Pre}
 use Rattle.wf_pixel.specs.Along.{along}
-use Rattle.wf_pixel.specs.Place.{turned, turned_back}
 use Rattle.wf_image.specs.Bitmap.{Bitmap, stored, read_at, drawn_row, drawn, pixel, pixel_bytes}
-
 use Rattle.wf_kernel.specs.declared.parts.Part.{Part}
 use Rattle.wf_kernel.specs.Parts.{covers, covers_at, part_picture}
 use Rattle.wf_kernel.specs.PartOfTarget.{holds, IsPart, IsPartly}
@@ -152,27 +146,27 @@ part_more w h colour p y at k old mid new piece inside top low count at_is k_is 
                 pixel_stays w colour p x y v old mid new (before_read (4 * (v * w + x)) (omega arith)) (before.pixels x v x_low v_low)
                 (other_row p x y v (λ e. omega (arith, e, above))))
             | inr not_above ↦ elim (cases_lt y v) [
-                | inl below ↦ (let apart = rows_apart w y v below in
-                    pixel_stays w colour p x y v old mid new (behind_read (4 * (v * w + x)) (omega arith)) (before.pixels x v x_low v_low)
-                    (other_row p x y v (λ e. omega (arith, e, below))))
-                | inr not_below ↦ (let same : v ≡ y = omega arith in
-                    let row : v * w ≡ y * w = ap (λ (n : ℕ). n * w) same in
-                    elim (cases_lt x p.left) [
+              | inl below ↦ (let apart = rows_apart w y v below in
+                  pixel_stays w colour p x y v old mid new (behind_read (4 * (v * w + x)) (omega arith)) (before.pixels x v x_low v_low)
+                  (other_row p x y v (λ e. omega (arith, e, below))))
+              | inr not_below ↦ (let same : v ≡ y = omega arith in
+                  let row : v * w ≡ y * w = ap (λ (n : ℕ). n * w) same in
+                  elim (cases_lt x p.left) [
                     | inl less ↦ pixel_stays w colour p x y v old mid new (before_read (4 * (v * w + x)) (omega arith))
                         (before.pixels x v x_low v_low) (left_of p x y v less)
                     | inr from ↦ elim (cases_lt x p.right) [
-                        | inl within ↦ (let j : ℕ = x - p.left in
-                            let there : p.left + j ≡ x = omega arith in
-                            ap (λ (l : List ℕ). read_at Rgba8Pre l (4 * (v * w + x))) new_is
-                            ∙ read_in at k (4 * (v * w + x)) (4 * j) mid piece (omega arith) (omega arith) (omega arith)
-                            ∙ ap (λ (l : List ℕ). read_at Rgba8Pre l (4 * j)) piece_is
-                            ∙ read_drawn n (λ x. colour (p.left + x) y) j (omega arith)
-                            ∙ (λ i. colour (there i) (sym same i))
-                            ∙ ap (λ (b : Bool). if b then colour x v else pixel_in w old x v) (sym (held p x y v same from within top)))
-                        | inr more ↦ pixel_stays w colour p x y v old mid new (behind_read (4 * (v * w + x)) (omega arith))
-                            (before.pixels x v x_low v_low) (right_of p x y v more)
+                      | inl within ↦ (let j : ℕ = x - p.left in
+                          let there : p.left + j ≡ x = omega arith in
+                          ap (λ (l : List ℕ). read_at Rgba8Pre l (4 * (v * w + x))) new_is
+                          ∙ read_in at k (4 * (v * w + x)) (4 * j) mid piece (omega arith) (omega arith) (omega arith)
+                          ∙ ap (λ (l : List ℕ). read_at Rgba8Pre l (4 * j)) piece_is
+                          ∙ read_drawn n (λ x. colour (p.left + x) y) j (omega arith)
+                          ∙ (λ i. colour (there i) (sym same i))
+                          ∙ ap (λ (b : Bool). if b then colour x v else pixel_in w old x v) (sym (held p x y v same from within top)))
+                      | inr more ↦ pixel_stays w colour p x y v old mid new (behind_read (4 * (v * w + x)) (omega arith))
+                          (before.pixels x v x_low v_low) (right_of p x y v more)
                     ]
-                ])
+                  ])
             ]
           ];
     }
@@ -200,8 +194,8 @@ side_from n w j start end a b c d =
     elim (cases_lt j start) [
       | inl less ↦ (let low = b less in grind (arith, ints, nat_tests))
       | inr more ↦ (let high = a more in elim (cases_lt j end) [
-          | inl less ↦ (let low = c less in grind (arith, ints, nat_tests))
-          | inr over ↦ (let high = d over in grind (arith, ints, nat_tests))
+        | inl less ↦ (let low = c less in grind (arith, ints, nat_tests))
+        | inr over ↦ (let high = d over in grind (arith, ints, nat_tests))
       ])
     ]
 

@@ -23,7 +23,6 @@ pub use bands::picture_rows;
 pub use painter::{Painter, Plain, Rows};
 pub use painting::picture;
 pub use parts::picture_part;
-
 use wf_pixel::{MOST_COORDINATE, MOST_SIDE, SIDE_LEN};
 
 /// The farthest that a rectangle on a target may begin from 0, to either side, however the target is turned.

@@ -132,7 +132,13 @@ fn part_by_tables<const N: usize>(bytes: &mut [u8], scene: &Scene, contents: &Co
 }
 
 /// The same, where each layer that needs a table has it.
-fn part_of_bound(bytes: &mut [u8], scene: &Scene, contents: &Contents, tables: &[[u16; SIDE_LEN]], part: Part)
+fn part_of_bound(
+    bytes: &mut [u8],
+    scene: &Scene,
+    contents: &Contents,
+    tables: &[[u16; SIDE_LEN]],
+    part: Part,
+)
     requires count { length bytes.old ≡ scene.now.size.w * scene.now.size.h * 4 }
     requires fits { Fits scene.now contents.now }
     requires tables { AreTables scene.now tables.now }
@@ -169,15 +175,38 @@ fn part_of_layers<const N: usize>(
     bind_layers(&mut list, scene, contents, tables);
     let layers = list.as_slice();
     if are_forward(layers) {
-        paint_part(bytes, scene.size.w, scene.size.h, layers, scene.background, part, &mut [], &mut []);
+        paint_part(
+            bytes,
+            scene.size.w,
+            scene.size.h,
+            layers,
+            scene.background,
+            part,
+            &mut [],
+            &mut [],
+        );
     } else {
-        part_by_lines(bytes, scene.size.w, scene.size.h, layers, scene.background, part);
+        part_by_lines(
+            bytes,
+            scene.size.w,
+            scene.size.h,
+            layers,
+            scene.background,
+            part,
+        );
     }
 }
 
 /// Writes a part for which pixels of sources are kept.
 #[inline(never)]
-fn part_by_lines(bytes: &mut [u8], width: u32, height: u32, layers: &[BoundLayer], background: Rgba, part: Part)
+fn part_by_lines(
+    bytes: &mut [u8],
+    width: u32,
+    height: u32,
+    layers: &[BoundLayer],
+    background: Rgba,
+    part: Part,
+)
     requires few { width ≤ MOST_SIDE }
     requires few_rows { height ≤ MOST_SIDE }
     requires count { length bytes.old ≡ width * height * 4 }
@@ -186,7 +215,9 @@ fn part_by_lines(bytes: &mut [u8], width: u32, height: u32, layers: &[BoundLayer
 {
     let mut kept = [nothing_kept(part.right)];
     let mut spare = [[0; ROW_BYTES]];
-    paint_part(bytes, width, height, layers, background, part, &mut kept, &mut spare);
+    paint_part(
+        bytes, width, height, layers, background, part, &mut kept, &mut spare,
+    );
 }
 
 /// Writes a part by what is kept.
@@ -212,7 +243,15 @@ fn paint_part(
         let at = 4 * (y * width + part.left) as usize;
         let piece = &mut bytes[at..at + 4 * (part.right - part.left) as usize];
         paint_piece(
-            piece, part.left, part.right, layers, background, &mut strips, kept, spare, y,
+            piece,
+            part.left,
+            part.right,
+            layers,
+            background,
+            &mut strips,
+            kept,
+            spare,
+            y,
         );
     }
 }

@@ -59,7 +59,15 @@ fn play_script<R: Threads + Wait + Sync, O: Sink, G: Gate>(
         };
         play_by(rt, alloc, asked, script, film, gate, &mut bench)
     } else if asked.threads {
-        play_by(rt, alloc, asked, script, film, gate, &mut Rows::new(rt, asked.rows.into()))
+        play_by(
+            rt,
+            alloc,
+            asked,
+            script,
+            film,
+            gate,
+            &mut Rows::new(rt, asked.rows.into()),
+        )
     } else {
         play_by(rt, alloc, asked, script, film, gate, &mut Plain)
     }

@@ -1,9 +1,8 @@
-use Rattle.std.proofs.Common.{◌≡◌, ◌+◌, ◌∷◌, [], ◌++◌, ℕ, List, take, map, length, get_or, sym, ap, subst, ◌∙◌, refl, arith, pos}
+use Rattle.std.proofs.Common.{ℕ, List, take, map, length, get_or, sym, ap, subst, ◌∙◌, refl, pos}
 use Rattle.std.specs.Prelude.{sum}
 use Rattle.std.proofs.lemmas.List.{take_more}
 use Rattle.wf_pixel.specs.declared.Rect.{Rect}
-use Rattle.wf_pixel.specs.declared.Format.{Format}
-use Rattle.wf_image.specs.Bitmap.{Bitmap, pixel_bytes}
+use Rattle.wf_image.specs.Bitmap.{Bitmap}
 use Rattle.wf_damage.specs.Bench.{area, IsRise, over_picture}
 use Rattle.wf_damage.proofs.Painted.{over_none, over_more, part_size, part_format, rise_none, rise_more, sum_more}
 use Rattle.wf_damage.proofs.bench.paint_areas.Goals as goal

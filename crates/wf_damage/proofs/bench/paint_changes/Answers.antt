@@ -1,10 +1,8 @@
-use Rattle.std.proofs.Common.{◌≡◌, List, ap, map, sym, subst, ◌∙◌}
+use Rattle.std.proofs.Common.{List, ap, map, sym, subst, ◌∙◌}
 use Rattle.std.specs.Prelude.{sum}
 use Rattle.wf_pixel.specs.declared.Rect.{Rect}
 use Rattle.wf_image.specs.Bitmap.{Bitmap}
-use Rattle.wf_damage.specs.declared.bench.Kept.{Kept}
 use Rattle.wf_damage.specs.Bench.{area, IsRise, over_picture}
-use Rattle.wf_damage.specs.Areas.{areas_of}
 use Rattle.wf_damage.proofs.Painted.{over_all, picture_size}
 use Rattle.wf_damage.proofs.bench.paint_changes.Goals as goal
 

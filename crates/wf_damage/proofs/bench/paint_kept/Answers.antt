@@ -1,7 +1,5 @@
 use Rattle.std.proofs.Common.{◌≡◌, ap, refl, sym, ◌∙◌}
 use Rattle.wf_image.specs.Bitmap.{Bitmap, pixel_bytes}
-use Rattle.wf_pixel.specs.declared.Format.{Format}
-use Rattle.wf_model.specs.Picture.{picture}
 use Rattle.wf_damage.proofs.Painted.{copied_is, picture_size, picture_format}
 use Rattle.wf_damage.proofs.bench.paint_kept.Goals as goal
 

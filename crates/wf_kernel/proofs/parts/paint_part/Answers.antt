@@ -1,4 +1,4 @@
-use Rattle.std.proofs.Common.{◌≡◌, ℕ, ◌+◌, ◌-◌, ◌*◌, length, arith, refl, sym, ap, ◌∙◌}
+use Rattle.std.proofs.Common.{ℕ, ◌+◌, ◌-◌, ◌*◌, arith, refl}
 use Rattle.std.proofs.lemmas.List.Elements.{All-replicate}
 use borrow.Rule.Slice.PartMut.{put_mid}
 use Rattle.wf_kernel.specs.Bound.{bound_colour}

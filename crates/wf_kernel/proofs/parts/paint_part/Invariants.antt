@@ -1,4 +1,3 @@
-use Rattle.std.proofs.Common.{◌≡◌}
 use Rattle.std.specs.Prelude.{All}
 use Rattle.wf_kernel.specs.Bound.{bound_colour}
 use Rattle.wf_kernel.specs.Kept.{AreKept}

@@ -1,7 +1,7 @@
-use Rattle.std.proofs.Common.{◌≡◌, ℕ, ◌+◌, ◌-◌, ◌<◌, ◌≤◌, pos, sym, ap, ◌∙◌, arith}
+use Rattle.std.proofs.Common.{◌≡◌, ℕ, ◌-◌, pos, sym, ap, ◌∙◌, arith}
 use Rattle.std.specs.Prelude.{Bool}
 use Rattle.wf_pixel.specs.declared.Rotation.{Rotation}
-use Rattle.wf_pixel.specs.declared.Rotation.TheVariants.{R0, R90, R180, R270}
+use Rattle.wf_pixel.specs.declared.Rotation.TheVariants.{R90, R180, R270}
 use Rattle.wf_pixel.specs.declared.Size.{Size}
 use Rattle.wf_pixel.specs.Place.{turned, turned_back}
 use Rattle.wf_kernel.specs.Parts.{covers}

@@ -1,4 +1,3 @@
-use Rattle.std.proofs.Common.{◌≡◌, ap, subst, sym, ◌∙◌, IfSome, Option}
 use Rattle.wf_damage.proofs.Painted.{are_places, kept_is}
 use Rattle.wf_damage.proofs.bench.BenchPainter.paint.Goals as goal
 
