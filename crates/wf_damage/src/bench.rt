@@ -101,7 +101,15 @@ impl<B: Brush + Drop> Painter for Bench<B> {
         };
         let place = &mut self.places[i];
         let was_kept = place.is_some();
-        repaint(&mut self.brush, place, kind, scene, contents, target);
+        repaint(
+            &mut self.brush,
+            place,
+            self.room,
+            kind,
+            scene,
+            contents,
+            target,
+        );
         self.rests[i] = keep(
             place,
             was_kept,
@@ -171,6 +179,7 @@ fn paint_whole<B: Brush>(brush: &mut B, scene: &Scene, contents: &Contents, targ
 fn repaint<B: Brush>(
     brush: &mut B,
     place: &mut Option<Kept>,
+    room: usize,
     kind: &JobKind,
     scene: &Scene,
     contents: &Contents,
@@ -187,7 +196,7 @@ fn repaint<B: Brush>(
 {
     if let Some(kept) = place {
         if serves(kept, kind, scene) {
-            if !paint_kept(brush, kept, kind, scene, contents, target) {
+            if !paint_kept(brush, kept, room, kind, scene, contents, target) {
                 *place = None;
             }
             return;
@@ -202,6 +211,7 @@ fn repaint<B: Brush>(
 fn paint_kept<B: Brush>(
     brush: &mut B,
     kept: &mut Kept,
+    room: usize,
     kind: &JobKind,
     scene: &Scene,
     contents: &Contents,
@@ -218,16 +228,18 @@ fn paint_kept<B: Brush>(
     ensures whole { IsTrue result
         → kept.new ≡ record { kind = kind.now; scene = scene.now; contents = contents.now; picture = target.new } }
 {
-    let whole = paint_over(brush, kept, kind, scene, contents);
+    let whole = paint_over(brush, kept, room, kind, scene, contents);
     copy_bytes(&kept.picture, target);
     whole && same_format(kept.picture.format(), target.format())
 }
 
-/// Paints a frame over a kept picture of its size, and keeps its scene and its images with it. Returns whether all of it is kept and it
-/// paid: not where memory was refused, or where the brush was asked for more pixels than the picture has.
+/// Paints a frame over a kept picture of its size, and keeps its scene and its images with it. Returns whether all of it is kept: not
+/// where the brush was asked for more pixels than the picture has, where the frame is not worth keeping in so much `room`, or where memory
+/// was refused.
 fn paint_over<B: Brush>(
     brush: &mut B,
     kept: &mut Kept,
+    room: usize,
     kind: &JobKind,
     scene: &Scene,
     contents: &Contents,
@@ -245,8 +257,11 @@ fn paint_over<B: Brush>(
     let paid = paint_changes(brush, &mut compared, kept, scene, contents);
     kept.kind = *kind;
     kept.scene.copy_from(scene);
+    if !paid || !is_worth_keeping(room, scene, contents, &kept.picture) {
+        return false;
+    }
     let copied = kept.contents.copy_from(contents, compared.same.as_slice());
-    copied.is_ok() && paid
+    copied.is_ok()
 }
 
 /// Asks `brush` for what changed in a kept picture, and notes which images were compared. Returns whether that was no more than the
@@ -338,28 +353,23 @@ fn keep(
     if let Some(left) = rest.waited() {
         return left;
     }
-    if !pays(scene, contents) {
+    if !is_worth_keeping(room, scene, contents, target) {
         return rest;
     }
-    *place = kept_of(room, kind, scene, contents, target);
+    *place = kept_of(kind, scene, contents, target);
     if place.is_some() { rest } else { rest.lost() }
 }
 
-/// Returns copies of a frame that was painted, or nothing where it has more bytes than `room` or memory is refused.
-fn kept_of(
-    room: usize,
-    kind: &JobKind,
-    scene: &Scene,
-    contents: &Contents,
-    target: &Image,
-) -> Option<Kept>
+/// Returns whether a frame has at most `room` bytes of images and picture, and costs more to paint anew than to keep.
+fn is_worth_keeping(room: usize, scene: &Scene, contents: &Contents, picture: &Image) -> bool {
+    contents.bytes().saturating_add(picture.bytes().len()) <= room && pays(scene, contents)
+}
+
+/// Returns copies of a frame that was painted, or nothing where memory is refused.
+fn kept_of(kind: &JobKind, scene: &Scene, contents: &Contents, target: &Image) -> Option<Kept>
     ensures { IfSome result
         (λ k. k ≡ record { kind = kind.now; scene = scene.now; contents = contents.now; picture = target.now }) }
 {
-    let bytes = contents.bytes().saturating_add(target.bytes().len());
-    if bytes > room {
-        return None;
-    }
     let mut images = Contents::new();
     if images.copy_from(contents, &[]).is_err() {
         return None;
