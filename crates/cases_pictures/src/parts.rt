@@ -24,7 +24,10 @@ pub(crate) fn area(dice: &mut Dice, space: Size) -> Rect
 }
 
 /// How many pixels of `got` are neither, inside `area` of the scene's space, those of the picture `want`, nor elsewhere as they were.
-pub(crate) fn differing(scene: &Scene, area: Rect, want: &[u8], got: &[u8]) -> u64 {
+pub(crate) fn differing(scene: &Scene, area: Rect, want: &[u8], got: &[u8]) -> u64
+    requires w { scene.now.size.w ≤ MOST_SIDE }
+    requires h { scene.now.size.h ≤ MOST_SIDE }
+{
     let space = turned(scene.turn, scene.size);
     let mut count = 0u64;
     for y in 0..scene.size.h {
