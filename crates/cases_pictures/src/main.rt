@@ -1,6 +1,6 @@
 //! The program `cases_pictures`: paints scenes without a pattern, by the painter in one thread and in several, whole and in
-//! part, and by a plain painter that asks all layers at each pixel. It prints how many scenes and kinds of layers there were, and how many pixels
-//! differ.
+//! part, and by a plain painter that asks all layers at each pixel. It prints how many scenes and kinds of layers there were, and
+//! how many pixels differ.
 #![tactic(auto)]
 
 ghost use Rattle.std.specs.Prelude.{◌≡◌, ◌≢◌, ◌≤◌, IfOk, IsTrue};

@@ -70,7 +70,8 @@ bare =
 
 abbrev pub command : App
 command =
-    with_rule (with_rule (with_rule (with_rule (with_rule (with_rule bare mode_rule) threads_rule) rows_rule) film_rule) size_rule) repaint_rule
+    with_rule (with_rule (with_rule (with_rule (with_rule (with_rule bare mode_rule) threads_rule) rows_rule) film_rule) size_rule)
+    repaint_rule
 
 -- what the words ask for
 

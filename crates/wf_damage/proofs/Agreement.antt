@@ -89,7 +89,8 @@ outside f (Some dx) (Some dy) out = absurd cc
 
 texel_outside : (l : Layer) (contents : Images) (x y : ℤ) → covers l.dest x y ≡ false → texel l contents x y ≡ None
 texel_outside l contents x y out =
-    ap (λ (p : Option (ℕ × ℕ)). p >>= (λ p. image_of l.stream contents >>= (λ image. mask_of l (image_of l.mask contents) x y >>= (λ value. Some (lift (pixel image p.0 p.1) image.format l.transparency l.alpha value)))))
+    ap (λ (p : Option (ℕ × ℕ)). p >>= (λ p. image_of l.stream contents >>= (λ image. mask_of l (image_of l.mask contents) x y
+    >>= (λ value. Some (lift (pixel image p.0 p.1) image.format l.transparency l.alpha value)))))
     (outside (source_pixel l.src l.flip l.turn l.dest) (along l.dest.x l.dest.w x) (along l.dest.y l.dest.h y) out)
 
 -- ---- texels from the bottom up
@@ -119,7 +120,12 @@ rect_is s t same =
     let abc = and_parts _ _ same in
     let ab = and_parts _ _ abc.0 in
     let a = and_parts _ _ ab.0 in
-    λ i. record { x = (Decides-int_eq s.x t.x).0 a.0 i; y = (Decides-int_eq s.y t.y).0 a.1 i; w = nat_is s.w t.w ab.1 i; h = nat_is s.h t.h abc.1 i }
+    λ i. record {
+      x = (Decides-int_eq s.x t.x).0 a.0 i;
+      y = (Decides-int_eq s.y t.y).0 a.1 i;
+      w = nat_is s.w t.w ab.1 i;
+      h = nat_is s.h t.h abc.1 i;
+    }
 
 transparency_is : (s t : Transparency) → same_transparency s t ≡ true → s ≡ t
 transparency_is s t same =
@@ -151,7 +157,11 @@ bitmap_is : (a b : Bitmap) → same_bitmap a b ≡ true → a ≡ b
 bitmap_is a b same =
     let t = and_parts _ _ same in
     let s = and_parts _ _ t.0 in
-    λ i. record { size = size_is a.size b.size s.0 i; format = format_is a.format b.format s.1 i; bytes = (bytes_eq-Decides a.bytes b.bytes).0 t.1 i }
+    λ i. record {
+      size = size_is a.size b.size s.0 i;
+      format = format_is a.format b.format s.1 i;
+      bytes = (bytes_eq-Decides a.bytes b.bytes).0 t.1 i;
+    }
 
 pub image_is : (a b : Option Bitmap) → same_image a b ≡ true → a ≡ b
 image_is None None same = refl
@@ -254,7 +264,8 @@ pub agreement : (old new : Scene) (before now : Images) (x y : ℕ) → x < new.
 agreement old new before now x y a b out = by (same_frame old new) refl out
   where
     by : (f : Bool) → same_frame old new ≡ f
-        → All (λ r. covers_at new r x y ≡ false) (if f then areas_between before now old.layers.items new.layers.items else whole_of new ∷ [])
+        → All (λ r. covers_at new r x y ≡ false)
+        (if f then areas_between before now old.layers.items new.layers.items else whole_of new ∷ [])
         → picture_pixel old before x y ≡ picture_pixel new now x y
     by true same out =
         let cd = and_parts _ _ same in

@@ -63,7 +63,8 @@ nothing_changed = refl
 another_background : areas_of (scene []) still (record (scene []) { background = grey 1 }) still ≡ rect (pos 0) (pos 0) 4 2 ∷ []
 another_background = refl
 
-one_layer_more : areas_of (scene (layer left false ∷ [])) still (scene (layer left false ∷ layer (rect (pos 1) (pos 0) 1 1) false ∷ [])) still
+one_layer_more : areas_of (scene (layer left false ∷ [])) still (scene (layer left false ∷ layer (rect (pos 1) (pos 0) 1 1) false ∷ []))
+    still
     ≡ rect (pos 1) (pos 0) 1 1 ∷ []
 one_layer_more = refl
 

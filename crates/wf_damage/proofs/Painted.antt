@@ -29,7 +29,8 @@ abbrev choice : Scene → Images → Bitmap → List Rect → ℕ → ℕ → Rg
 choice s c old rs x y = if list_any (λ r. covers_at s r x y) rs then picture_pixel s c x y else pixel old x y
 
 -- none yet
-pub over_none : (s : Scene) (c : Images) (old : Bitmap) → length old.bytes ≡ image_bytes old.size old.format → pixel_bytes old.format ≡ 4 → over_picture s c [] old ≡ old
+pub over_none : (s : Scene) (c : Images) (old : Bitmap) → length old.bytes ≡ image_bytes old.size old.format
+    → pixel_bytes old.format ≡ 4 → over_picture s c [] old ≡ old
 over_none s c old whole four = drawn_of old whole four
 
 any_more : (p : Rect → Bool) (rs : List Rect) (r : Rect) → list_any p (rs ++ r ∷ []) ≡ (list_any p rs || p r)
@@ -76,11 +77,13 @@ none_any p (r ∷ rs) none = none_more p rs r (p r) refl none (λ out. none_any 
 
 -- a kept picture, painted over where it may differ, is the picture
 pub over_all : (old new : Scene) (before now : Images) (first : Bitmap) (format : Format) → pixel_bytes format ≡ 4
-    → new.size ≡ old.size → first ≡ picture old before format → over_picture new now (areas_of old before new now) first ≡ picture new now format
+    → new.size ≡ old.size → first ≡ picture old before format
+    → over_picture new now (areas_of old before new now) first ≡ picture new now format
 unfolding drawn
 over_all old new before now first format four size first_is =
     let rs : List Rect = areas_of old before new now in
-    let f : ℕ → ℕ → Rgba = λ x y. if list_any (λ r. covers_at new r x y) rs then picture_pixel new now x y else pixel (picture old before format) x y in
+    let f : ℕ → ℕ → Rgba = λ x y.
+    if list_any (λ r. covers_at new r x y) rs then picture_pixel new now x y else pixel (picture old before format) x y in
     ap (λ (image : Bitmap). over_picture new now rs image) first_is
     ∙ ap (λ (s : Size). drawn s format f) (sym size)
     ∙ drawn_same new.size format f (picture_pixel new now)
@@ -121,7 +124,8 @@ pub part_format : (s : Scene) (c : Images) (r : Rect) (old : Bitmap) → (part_p
 unfolding drawn
 part_format s c r old = refl
 
-pub same_bytes : (s : Scene) (c : Images) (f g : Format) → pixel_bytes f ≡ 4 → pixel_bytes g ≡ 4 → (picture s c f).bytes ≡ (picture s c g).bytes
+pub same_bytes : (s : Scene) (c : Images) (f g : Format) → pixel_bytes f ≡ 4 → pixel_bytes g ≡ 4
+    → (picture s c f).bytes ≡ (picture s c g).bytes
 unfolding drawn
 same_bytes s c f g f_four g_four =
     pieces_same (λ y. drawn_row s.size.w f (λ x. picture_pixel s c x y)) (λ y. drawn_row s.size.w g (λ x. picture_pixel s c x y)) 0 s.size.h
@@ -138,7 +142,8 @@ copied_is s c format kept target kept_is four size target_four =
 
 -- ---- places
 -- a place that is used anew
-pub are_places : (old : List (Option Kept)) (i : ℕ) (place : Option Kept) → ArePlaces old → IfSome place IsKept → ArePlaces (slice_set old i place)
+pub are_places : (old : List (Option Kept)) (i : ℕ) (place : Option Kept) → ArePlaces old → IfSome place IsKept
+    → ArePlaces (slice_set old i place)
 are_places old i place are kept =
     record {
       count = length-set old i place ∙ are.count;
@@ -147,7 +152,8 @@ are_places old i place are kept =
 
 -- what is kept of a frame that was painted
 pub kept_is : (place : Option Kept) (kind : JobKind) (s : Scene) (c : Images) (target : Bitmap) (format : Format) → pixel_bytes format ≡ 4
-    → target ≡ picture s c format → IfSome place (λ k. k ≡ record { kind = kind; scene = s; contents = c; picture = target }) → IfSome place IsKept
+    → target ≡ picture s c format → IfSome place (λ k. k ≡ record { kind = kind; scene = s; contents = c; picture = target })
+    → IfSome place IsKept
 kept_is None kind s c target format four is kept = tt
 kept_is (Some k) kind s c target format four is kept =
     let same : target.format ≡ format = ap (λ (b : Bitmap). b.format) is ∙ picture_format s c format in
@@ -168,7 +174,8 @@ rise_more a b c m n one two =
     mod-add : (n k : ℕ) → (n + k % 2 ^ 64) % 2 ^ 64 ≡ (k + n) % 2 ^ 64
     mod-add n k = add-mod-mod n k (2 ^ 64) ∙ ap (λ (j : ℕ). j % 2 ^ 64) (omega arith)
 
-pub sum_more : (rs : List Rect) (i : ℕ) (d : Rect) → i < length rs → sum (map area (take (i + 1) rs)) ≡ sum (map area (take i rs)) + area (get_or rs i d)
+pub sum_more : (rs : List Rect) (i : ℕ) (d : Rect) → i < length rs
+    → sum (map area (take (i + 1) rs)) ≡ sum (map area (take i rs)) + area (get_or rs i d)
 sum_more rs i d low =
     ap (λ (ns : List ℕ). sum ns) (ap (map area) (take_more rs i d low) ∙ map-append area (take i rs) (get_or rs i d ∷ []))
     ∙ sum-last (map area (take i rs)) (area (get_or rs i d))

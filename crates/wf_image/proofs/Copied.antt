@@ -1,5 +1,6 @@
 -- Places that are copied over others, one by one.
-use Rattle.std.proofs.Common.{◌≡◌, ℕ, zero, suc, ◌+◌, ◌-◌, ◌<◌, ◌==◌, List, [], ◌∷◌, ◌++◌, length, take, drop, get_or, refl, sym, ap, ◌∙◌, arith}
+use Rattle.std.proofs.Common.{◌≡◌, ℕ, zero, suc, ◌+◌, ◌-◌, ◌<◌, ◌==◌, List, [], ◌∷◌, ◌++◌, length, take, drop, get_or, refl}
+use Rattle.std.proofs.Common.{sym, ap, ◌∙◌, arith}
 use Rattle.std.proofs.Common.{Bool, true, false, cond, subst, Some, None, length-take, slice_set, eq-eqb, append_assoc}
 use Rattle.std.specs.Prelude.{Option, find, option_map, replicate, All}
 use Rattle.std.proofs.lemmas.Bool.{eqb-true}

@@ -1,5 +1,6 @@
 -- Images that are drawn pixel by pixel: their pixels, and their bytes in every format of four bytes.
-use Rattle.std.proofs.Common.{◌≡◌, ℕ, zero, suc, ◌+◌, ◌-◌, ◌*◌, ◌/◌, ◌%◌, ◌<◌, ◌≤◌, List, [], ◌∷◌, ◌++◌, length, take, drop, get_or, refl, sym, ap}
+use Rattle.std.proofs.Common.{◌≡◌, ℕ, zero, suc, ◌+◌, ◌-◌, ◌*◌, ◌/◌, ◌%◌, ◌<◌, ◌≤◌, List, [], ◌∷◌, ◌++◌, length, take, drop}
+use Rattle.std.proofs.Common.{get_or, refl, sym, ap}
 use Rattle.std.proofs.Common.{◌∙◌, arith, zero-add, add-zero}
 use Rattle.std.specs.Prelude.{flat_map}
 use Rattle.std.specs.List.{range_with_len}
@@ -143,7 +144,8 @@ pixel_drawn size format f x y four x_low y_low =
     ∙ (λ i. f (rest w x y x_low i) (quotient w x y x_low i))
 
 -- an image is drawn of its pixels
-pub drawn_of : (image : Bitmap) → length image.bytes ≡ image_bytes image.size image.format → pixel_bytes image.format ≡ 4 → drawn image.size image.format (pixel image) ≡ image
+pub drawn_of : (image : Bitmap) → length image.bytes ≡ image_bytes image.size image.format → pixel_bytes image.format ≡ 4
+    → drawn image.size image.format (pixel image) ≡ image
 unfolding drawn
 drawn_of image whole four =
     let w : ℕ = image.size.w in

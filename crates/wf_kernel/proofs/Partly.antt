@@ -35,7 +35,8 @@ byte_before a k i old part low inside =
     let len : length (take a old) ≡ a = omega (arith, length-take a old) in
     get_or-append (take a old) (part ++ drop k (drop a old)) 0 i (omega arith) ∙ get_or-take a old i 0 low
 
-byte_in : (a k i j : ℕ) (old part : List ℕ) → i ≡ a + j → j < length part → a ≤ length old → get_or (put_mid a k old part) i 0 ≡ get_or part j 0
+byte_in : (a k i j : ℕ) (old part : List ℕ) → i ≡ a + j → j < length part → a ≤ length old
+    → get_or (put_mid a k old part) i 0 ≡ get_or part j 0
 byte_in a k i j old part at low inside =
     let len : length (take a old) ≡ a = omega (arith, length-take a old) in
     let back : i - length (take a old) ≡ j = omega arith in
@@ -43,7 +44,8 @@ byte_in a k i j old part at low inside =
     ∙ ap (λ (n : ℕ). get_or (part ++ drop k (drop a old)) n 0) back
     ∙ get_or-append part (drop k (drop a old)) 0 j low
 
-byte_behind : (a k i : ℕ) (old part : List ℕ) → a + k ≤ i → length part ≡ k → a ≤ length old → get_or (put_mid a k old part) i 0 ≡ get_or old i 0
+byte_behind : (a k i : ℕ) (old part : List ℕ) → a + k ≤ i → length part ≡ k → a ≤ length old
+    → get_or (put_mid a k old part) i 0 ≡ get_or old i 0
 byte_behind a k i old part high count inside =
     let len : length (take a old) ≡ a = omega (arith, length-take a old) in
     let j : ℕ = i - a in
@@ -56,7 +58,8 @@ byte_behind a k i old part high count inside =
     ∙ get_or-drop a old (k + (j - length part)) 0
     ∙ ap (λ (n : ℕ). get_or old n 0) all
 
-read_before : (a k i : ℕ) (old part : List ℕ) → i + 4 ≤ a → a ≤ length old → read_at Rgba8Pre (put_mid a k old part) i ≡ read_at Rgba8Pre old i
+read_before : (a k i : ℕ) (old part : List ℕ) → i + 4 ≤ a → a ≤ length old
+    → read_at Rgba8Pre (put_mid a k old part) i ≡ read_at Rgba8Pre old i
 read_before a k i old part low inside =
     λ j. record {
       r = byte_before a k i old part (omega arith) inside j;
@@ -133,7 +136,14 @@ part_more w h colour p y at k old mid new piece inside top low count at_is k_is 
     let area : w * h * 4 ≡ 4 * (h * w) = grind arith in
     let room : at + k ≤ length mid = omega arith in
     let len : length (put_mid at k mid piece) ≡ length mid =
-    omega (arith, length-append (take at mid) (piece ++ drop k (drop at mid)), length-append piece (drop k (drop at mid)), length-take at mid, length-drop k (drop at mid), length-drop at mid) in
+    omega (
+      arith,
+      length-append (take at mid) (piece ++ drop k (drop at mid)),
+      length-append piece (drop k (drop at mid)),
+      length-take at mid,
+      length-drop k (drop at mid),
+      length-drop at mid,
+    ) in
     let before_read : (i : ℕ) → i + 4 ≤ at → read_at Rgba8Pre new i ≡ read_at Rgba8Pre mid i =
     λ i less. ap (λ (l : List ℕ). read_at Rgba8Pre l i) new_is ∙ read_before at k i mid piece less (omega arith) in
     let behind_read : (i : ℕ) → at + k ≤ i → read_at Rgba8Pre new i ≡ read_at Rgba8Pre mid i =
@@ -264,7 +274,8 @@ part_is s contents a p image bytes size four count same partly =
     ∙ ap (λ (k : ℕ). read_at image.format image.bytes k) (omega arith ∙ ap (λ (k : ℕ). (y * w + x) * k) (sym four)) in
     ap (λ (k : ℕ). pixel_in k bytes x y) wide
     ∙ partly.pixels x y x_in y_in
-    ∙ ap (λ (b : Bool). if b then bound_colour (map (bound s contents) s.layers.items) s.background x y else pixel_in s.size.w image.bytes x y)
+    ∙ ap (λ (b : Bool).
+    if b then bound_colour (map (bound s contents) s.layers.items) s.background x y else pixel_in s.size.w image.bytes x y)
     (same x y x_in y_in)
     ∙ (λ i. if covers_at s a x y then bound_colour_is s contents x y x_in y_in i else old i)) in
     rw (all) (λ i. record { size = image.size; format = image.format; bytes = is i })

@@ -20,11 +20,13 @@ returns g c =
     let picture_is =
     c.paint_areas.ensures.picture
     ∙ ap (λ (rs : List Rect). over_picture s contents rs k.picture) list
-    ∙ over_all k.scene s k.contents contents k.picture k.picture.format c.requires.kept.four (sym c.requires.size) c.requires.kept.picture_is in
+    ∙ over_all k.scene s k.contents contents k.picture k.picture.format c.requires.kept.four (sym c.requires.size)
+    c.requires.kept.picture_is in
     record {
       kept = ap (λ (b : Bitmap). record { kind = k.kind; scene = k.scene; contents = k.contents; picture = b }) picture_is;
       compared = c.areas_by-list.ensures.compared;
       painted =
-          subst (λ (rs : List Rect). IsRise (g.B.Brush.count c.args.brush.now) (g.B.Brush.count c.paint_areas.new.brush) (sum (map area rs))) list
+          subst (λ (rs : List Rect).
+          IsRise (g.B.Brush.count c.args.brush.now) (g.B.Brush.count c.paint_areas.new.brush) (sum (map area rs))) list
           c.paint_areas.ensures.painted;
     }

@@ -38,4 +38,5 @@ returns-then-whole-clause-whole g c same =
     let format = sym c.format.ensures ∙ c.same_format.ensures same ∙ c.format-then-whole.ensures ∙ ap (λ (b : Bitmap). b.format) bytes in
     let picture_is : kept ≡ target = (λ i. record { size = size i; format = format i; bytes = kept.bytes }) ∙ sym bytes in
     c.if-whole.ensures.whole refl
-    ∙ ap (λ (b : Bitmap). record { kind = c.args.kind.now; scene = c.args.scene.now; contents = c.args.contents.now; picture = b }) picture_is
+    ∙ ap (λ (b : Bitmap). record { kind = c.args.kind.now; scene = c.args.scene.now; contents = c.args.contents.now; picture = b })
+    picture_is

@@ -8,7 +8,8 @@ loop-i-preserved c =
     let a = c.as_slice-a.result.now in
     let b = c.as_slice-b.result.now in
     record {
-      few = place_few before now a b c.loop-i.i c.loop-i.list.items c.add_place.new.list.items c.loop-i.invariant.few c.add_place.ensures.list;
+      few = place_few before now a b c.loop-i.i c.loop-i.list.items c.add_place.new.list.items c.loop-i.invariant.few
+          c.add_place.ensures.list;
       left =
           place_more before now a b c.loop-i.i c.loop-i.list.items c.add_place.new.list.items _ c.loop-i.invariant.left
           c.add_place.ensures.list;

@@ -9,9 +9,11 @@ copy_place-requires c =
     let within = c.loop-i-test.true in
     record {
       known =
-          known_as c.args.same.now (get_or c.loop-i.places i c.index-places-i.result) (get_or c.args.places.now i None) c.index-from-i.result
+          known_as c.args.same.now (get_or c.loop-i.places i c.index-places-i.result) (get_or c.args.places.now i None)
+          c.index-from-i.result
           (get_or c.args.from.now i None)
-          (place_left c.args.places.now c.args.from.now c.loop-i.places i c.index-places-i.result c.loop-i.invariant c.requires.count within)
+          (place_left c.args.places.now c.args.from.now c.loop-i.places i c.index-places-i.result c.loop-i.invariant c.requires.count
+          within)
           (c.index-from-i.is ∙ get_or_default c.args.from.now i c.index-from-i.result None within) (c.requires.known i within);
     }
 

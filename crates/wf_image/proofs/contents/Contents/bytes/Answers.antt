@@ -8,7 +8,8 @@ pub loop-place-preserved : goal.loop-place-preserved
 loop-place-preserved c =
     let before = c.loop-place.invariant.bytes in
     let most = c.loop-place.invariant.most in
-    let more = bytes_more c.as_slice-place-items.result.now c.loop-place.place-index c.place-item.result c.loop-place-test.true c.place-item.is in
+    let more = bytes_more c.as_slice-place-items.result.now c.loop-place.place-index c.place-item.result c.loop-place-test.true
+    c.place-item.is in
     elim c.match-place.branch [
       | in-Some w ↦
           let one : bytes_of (somes (c.place-item.result ∷ [])) ≡ length w.in-Some.image.bytes =
