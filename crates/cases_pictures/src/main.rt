@@ -1,6 +1,6 @@
-//! The program `cases_pictures`: paints scenes without a pattern, by the painter in one thread and in several, and by a plain
-//! painter that asks all layers at each pixel. It prints how many scenes and kinds of layers there were, and how many pixels
-//! differ.
+//! The program `cases_pictures`: paints scenes without a pattern, by the painter in one thread and in several, whole and in
+//! part, and by a plain painter that asks all layers at each pixel. It prints how many scenes and kinds of layers there were, and
+//! how many pixels differ.
 #![tactic(auto)]
 
 ghost use Rattle.std.specs.Prelude.{◌≡◌, ◌≢◌, ◌≤◌, IfOk, IsTrue};
@@ -10,6 +10,7 @@ ghost use Rattle.wf_model.specs.Picture.{Fits};
 mod dice;
 mod fitting;
 mod kinds;
+mod parts;
 mod plain;
 mod scenes;
 
@@ -21,8 +22,8 @@ use std::io;
 use std::process::ExitCode;
 use std::thread::Threads;
 use wf_image::{Contents, Image};
-use wf_kernel::{picture, picture_rows};
-use wf_pixel::{Format, MOST_SIDE, Size};
+use wf_kernel::{picture, picture_part, picture_rows};
+use wf_pixel::{Format, MOST_SIDE, Size, turned};
 use wf_scene::Scene;
 
 /// How many scenes are painted.
@@ -40,6 +41,8 @@ struct Found {
     /// Scenes that were painted in several threads too, and the pixels that differ there.
     by_rows: u64,
     wrong_by_rows: u64,
+    /// Pixels that differ where a part was painted.
+    wrong_in_parts: u64,
 }
 
 fn main(rt: HostRuntime) -> io::Result<ExitCode> {
@@ -52,12 +55,14 @@ fn main(rt: HostRuntime) -> io::Result<ExitCode> {
         wrong,
         by_rows,
         wrong_by_rows,
+        wrong_in_parts,
     } = found;
     let kinds = kinds::count(&seen);
     println!(rt; "{SCENES} scenes of {layers} layers of {kinds} kinds, {unfit} without a picture")?;
     println!(rt; "{pixels} pixels, {wrong} differ")?;
     println!(rt; "{by_rows} of the scenes by up to 16 workers, {wrong_by_rows} pixels differ")?;
-    Ok(if unfit == 0 && wrong == 0 && wrong_by_rows == 0 {
+    println!(rt; "{SCENES} parts, {wrong_in_parts} pixels differ")?;
+    Ok(if unfit == 0 && wrong == 0 && wrong_by_rows == 0 && wrong_in_parts == 0 {
         ExitCode::SUCCESS
     } else {
         ExitCode::FAILURE
@@ -75,7 +80,14 @@ fn paint_all<R: Threads + Sync + AllocGlobal>(
         let (scene, contents) = scenes::scene_of(rt.alloc(), &mut dice, most(number))?;
         kinds::mark(seen, &scene, &contents);
         if fits(&scene, &contents) {
-            compare(rt.alloc(), &mut dice, &scene, &contents, &mut found)?;
+            compare(
+                rt.alloc(),
+                &mut dice,
+                &mut other,
+                &scene,
+                &contents,
+                &mut found,
+            )?;
             if number % 7 == 0 || most(number) > 40 {
                 compare_rows(rt, &mut other, &scene, &contents, &mut found)?;
             }
@@ -100,10 +112,11 @@ fn most(number: u32) -> u32
     }
 }
 
-/// Paints a scene in one thread, and counts the pixels that differ from the plain painter's.
+/// Paints a scene in one thread, and a part of it over something else, and counts the pixels that differ from the plain painter's.
 fn compare(
     alloc: Global,
     dice: &mut Dice,
+    other: &mut Dice,
     scene: &Scene,
     contents: &Contents,
     found: &mut Found,
@@ -113,8 +126,14 @@ fn compare(
     let format = dice.format();
     let mut want = target(alloc, scene.size, format, 0)?;
     let mut got = target(alloc, scene.size, format, 77)?;
+    let mut part = target(alloc, scene.size, format, parts::BEFORE)?;
     plain::picture(scene, contents, &mut want);
     picture(scene, contents, &mut got);
+    let area = parts::area(other, turned(scene.turn, scene.size));
+    picture_part(scene, contents, area, &mut part);
+    found.wrong_in_parts = found
+        .wrong_in_parts
+        .wrapping_add(parts::differing(scene, area, want.bytes(), part.bytes()));
     let pixels = u64::from(scene.size.w) * u64::from(scene.size.h);
     found.layers = found.layers.wrapping_add(scene.layers.len() as u64);
     found.pixels = found.pixels.wrapping_add(pixels);

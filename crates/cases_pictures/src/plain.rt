@@ -34,7 +34,7 @@ fn put_pixel(bytes: &mut [u8], w: u32, x: u32, y: u32, color: Rgba) {
 }
 
 /// Where the four bytes of a pixel begin.
-fn first_byte(w: u32, x: u32, y: u32) -> Option<usize> {
+pub(crate) fn first_byte(w: u32, x: u32, y: u32) -> Option<usize> {
     (y as usize * w as usize + x as usize).checked_mul(4)
 }
 

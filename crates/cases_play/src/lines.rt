@@ -54,6 +54,10 @@ pub(crate) fn check_text<R: Threads + Wait + Sync + Print + AllocGlobal>(
         checked.wrong = checked.wrong.saturating_add(1);
         return println!(rt; "{name}: {:?}", played.status);
     }
+    if !plays.repainted {
+        checked.wrong = checked.wrong.saturating_add(1);
+        println!(rt; "{name}: another film with --repaint")?;
+    }
     let mut script = Script {
         text,
         plays,

@@ -2,7 +2,7 @@
 //! their lines say. Behind an event line stand the answers of its events, as `# Ok 3` or `# Ok 0, Ok 0`. A comment
 //! `port N: WHAT is ..` tells of the frame that port N showed at the last tick, `film: WHAT is ..` of the whole film, and
 //! `film 1: WHAT is ..` of the film in form 1. Where WHAT is `check`, with changes, it is what a check finds of the film so changed.
-//! A `:` ends what is wanted, and behind it stands what a person wants to know.
+//! A `:` ends what is wanted, and behind it stands what a person wants to know. Each film has to come with `--repaint` too.
 #![tactic(auto)]
 
 mod checks;

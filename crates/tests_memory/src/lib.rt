@@ -33,6 +33,8 @@ mod places;
 #[cfg(test)]
 mod plays;
 #[cfg(test)]
+mod repaints;
+#[cfg(test)]
 mod samples;
 #[cfg(test)]
 mod scenes;

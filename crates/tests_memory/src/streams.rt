@@ -16,7 +16,14 @@ fn calls_have_memory(rt: HostRuntime) -> Result<(), Fail> {
     let queued = store.queue(SIZE, Format::A8, 8);
     let minted = store.mint(Kind::Device, 5);
     assert_eq!(rt;
-        (stream.is_out(), queue.is_out(), screen, made, queued, minted),
+        (
+            stream.is_out(),
+            queue.is_out(),
+            screen,
+            made,
+            queued,
+            minted
+        ),
         (false, false, 1, Ok(1), Ok(2), Ok(3))
     );
     Ok(())

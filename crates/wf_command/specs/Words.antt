@@ -58,6 +58,10 @@ size_rule = record (new_rule (codes "size")) {
   defaults = codes "1" ∷ [];
 }
 
+-- the flag `--repaint`
+abbrev pub repaint_rule : Rule
+repaint_rule = record (new_rule (codes "repaint")) { long = Some (codes "repaint"); action = Some SetTrue }
+
 -- the words stand without the program's name, and none asks for help
 abbrev pub bare : App
 bare =
@@ -65,7 +69,9 @@ bare =
     record plain { top = record plain.top { no_binary_name = true; disable_help_flag = true } }
 
 abbrev pub command : App
-command = with_rule (with_rule (with_rule (with_rule (with_rule bare mode_rule) threads_rule) rows_rule) film_rule) size_rule
+command =
+    with_rule (with_rule (with_rule (with_rule (with_rule (with_rule bare mode_rule) threads_rule) rows_rule) film_rule) size_rule)
+    repaint_rule
 
 -- what the words ask for
 
@@ -105,6 +111,7 @@ pub record Texts : Type 0 where
   pub rows : Option Text
   pub film : Option Text
   pub size : Option Text
+  pub repaint : Option Text
 
 -- what matches hold of them
 abbrev pub texts_in : Found → Texts
@@ -115,6 +122,7 @@ texts_in found =
       rows = one_text found (codes "rows");
       film = one_text found (codes "film");
       size = one_text found (codes "size");
+      repaint = first_value found (codes "repaint");
     }
 
 -- what the words hold of them
@@ -127,6 +135,7 @@ texts_of words =
       rows = one_of (codes "rows") found;
       film = one_of (codes "film") found;
       size = one_of (codes "size") found;
+      repaint = first_of (codes "repaint") found;
     }
 
 -- the mode with its options that the texts of the arguments ask for
@@ -136,6 +145,7 @@ pub record IsMeant (t : Texts) (a : Asked) : Type 0 where
   pub rows_is : IsCount 16 t.rows a.rows
   pub form_is : IsForm t.film a.form
   pub size_is : IsCount 1000 t.size a.size
+  pub repaint_is : IsSet t.repaint a.repaint
 
 -- the words are a command, and this is its mode with its options
 pub record AskFor (a : Asked) (words : List (String Global)) : Type 0 where

@@ -27,6 +27,8 @@ pub struct Asked {
     pub form: FilmForm,
     /// How many rounds the script has that is made, 1 to 1000.
     pub size: u16,
+    /// A frame is painted over the last one of its port or context, where something changed.
+    pub repaint: bool,
 }
 
 /// Why nothing is asked for.

@@ -5,7 +5,7 @@ ghost use Rattle.std.specs.Option.{IfNone};
 ghost use Rattle.clap.specs.Words.{app_of, first_value, found_of, kind_of, one_text, rule_of, with_rule};
 ghost use Rattle.wf_command.specs.Words.{bare};
 ghost use Rattle.wf_command.specs.Words.{AreAccepted, AskFor, IsCount, IsForm, IsMeant, IsSet, command, film_rule, mode_rule, mode_word};
-ghost use Rattle.wf_command.specs.Words.{rows_rule, size_rule, texts_in, threads_rule};
+ghost use Rattle.wf_command.specs.Words.{repaint_rule, rows_rule, size_rule, texts_in, threads_rule};
 
 use crate::asked::{Asked, Mode, WordsStop};
 use clap::error::ErrorKind;
@@ -64,6 +64,16 @@ fn size_arg<'a>(alloc: Global) -> Arg<'a>
         .default_value("1")
 }
 
+/// Whether a frame is painted over the last one.
+fn repaint_arg<'a>(alloc: Global) -> Arg<'a>
+    ensures rule { rule_of result ≡ repaint_rule }
+    ensures own { result.global ≡ false }
+{
+    Arg::new(alloc, "repaint")
+        .long("repaint")
+        .action(ArgAction::SetTrue)
+}
+
 /// The command so far: a mode, and how a script is played.
 fn command_of_mode<'a>(alloc: Global) -> Result<Command<'a>, AllocError>
     ensures { IfOk result (λ c. app_of c ≡ with_rule (with_rule (with_rule bare mode_rule) threads_rule) rows_rule) }
@@ -82,7 +92,8 @@ fn command<'a>(alloc: Global) -> Result<Command<'a>, AllocError>
 {
     command_of_mode(alloc)?
         .arg(film_arg(alloc))?
-        .arg(size_arg(alloc))
+        .arg(size_arg(alloc))?
+        .arg(repaint_arg(alloc))
 }
 
 /// The mode that a word names.
@@ -109,11 +120,11 @@ fn form_in(matches: &ArgMatches) -> FilmForm
     }
 }
 
-/// Whether `--threads` stands among the words.
-fn threads_in(matches: &ArgMatches) -> bool
-    ensures { IsSet (first_value (found_of matches.now) (codes "threads")) result }
+/// Whether the flag `name` stands among the words.
+fn flag_in(matches: &ArgMatches, name: &str) -> bool
+    ensures { IsSet (first_value (found_of matches.now) name.now) result }
 {
-    match matches.get_str("threads") {
+    match matches.get_str(name) {
         Some(word) => word == "true",
         None => false,
     }
@@ -144,8 +155,9 @@ fn asked_in(matches: &ArgMatches) -> Option<Asked>
     ensures asked { IfSome result (IsMeant (texts_in (found_of matches.now))) }
     ensures none { IfNone result ((a : Asked) → ¬ (IsMeant (texts_in (found_of matches.now)) a)) }
 {
-    let (threads, rows) = (threads_in(matches), rows_in(matches));
+    let (threads, rows) = (flag_in(matches, "threads"), rows_in(matches));
     let (form, size) = (form_in(matches), size_in(matches));
+    let repaint = flag_in(matches, "repaint");
     match matches.get_str("mode") {
         Some(word) => match mode_named(word) {
             Some(mode) => Some(Asked {
@@ -154,6 +166,7 @@ fn asked_in(matches: &ArgMatches) -> Option<Asked>
                 rows,
                 form,
                 size,
+                repaint,
             }),
             None => None,
         },

@@ -1,9 +1,7 @@
 -- Numbers of contents that stay apart where one more image is put, and where the last one is taken out.
 use Rattle.std.proofs.Common.{◌≡◌, ◌∙◌, ℕ, ◌==◌, Bool, true, false, List, [], ◌∷◌, ◌++◌, Option, Some, None, refl, sym, ap, cond, subst}
 use Rattle.std.specs.Prelude.{find, option_map, option_to_list}
-use Rattle.std.specs.Option.{option_or}
 use Rattle.std.proofs.lemmas.Bool.{eq-eqb, eqb-true, false_from_ne_true}
-use Rattle.std.proofs.lemmas.List.Folds.{find-append}
 use Rattle.wf_image.specs.Bitmap.{Bitmap}
 use Rattle.wf_image.specs.Contents.{AreApart, ArePlaces, AreSomes, image_of, somes}
 use Rattle.wf_image.proofs.Places.{somes_out, somes_put}

@@ -6,3 +6,9 @@ pub mod Bitmap
 pub mod Paints
 pub mod Contents
 pub mod Lending
+-- What callers prove with: words and facts that other crates use.
+pub mod Pieces
+pub mod Drawn
+pub mod Listed
+-- What is kept inside.
+pub mod Copies

@@ -1,10 +1,11 @@
 //! The images of a frame by the numbers of their streams.
 
-ghost use Rattle.std.specs.Prelude.{◌≡◌, ◌++◌, ◌∷◌, [], ◌<◌, ◌≤◌, length, None, Some, IfSome, IfNone, option_to_list};
-ghost use Rattle.wf_image.specs.Contents.{AreApart, image_of, somes};
+ghost use Rattle.std.specs.Prelude.{◌≡◌, ◌++◌, ◌∷◌, [], ◌<◌, ◌≤◌, All, length, None, Some, IfSome, IfNone, OnOk, OnErr, option_to_list};
+ghost use Rattle.wf_image.specs.Contents.{AreApart, bytes_of, image_of, somes};
 
-use crate::MOST_CONTENTS;
+use crate::copying::{copy_places, set_len};
 use crate::image::Image;
+use crate::{MOST_CONTENTS, NoMemory};
 use arrayvec::ArrayVec;
 use std::marker::Model;
 
@@ -52,6 +53,36 @@ impl Contents {
         ensures none { IfNone result (image_of stream self.now ≡ None) }
     {
         find_in(self.pairs.as_slice(), stream)
+    }
+
+    /// Makes these the images of `other`, by the same streams. The images of the streams that `same` names are left as they are:
+    /// they are equal in both already, or missing in both. It takes memory for an image where none of its size and format stands in its
+    /// place. Where that is refused, no image is left.
+    pub fn copy_from(&mut self, other: &Contents, same: &[u32]) -> Result<(), NoMemory>
+        requires same { All (λ stream. image_of stream self.old ≡ image_of stream other.now) same.now }
+        ensures same { OnOk result (self.new ≡ other.now) }
+        ensures refused { OnErr result (self.new ≡ []) }
+    {
+        let from = other.pairs.as_slice();
+        set_len(&mut self.pairs, from.len());
+        let copied = copy_places(self.pairs.as_mut_slice(), from, same);
+        if copied.is_err() {
+            self.pairs.clear();
+        }
+        copied
+    }
+
+    /// Returns the number of bytes of all images.
+    pub fn bytes(&self) -> usize
+        ensures { result ≡ bytes_of self.now }
+    {
+        let mut bytes = 0;
+        for place in self.pairs.as_slice() {
+            if let Some((_, image)) = place {
+                bytes += image.len();
+            }
+        }
+        bytes
     }
 
     /// Returns the number of images.

@@ -1,6 +1,6 @@
 //! An image: its size, its format and its bytes.
 
-ghost use Rattle.std.specs.Prelude.{◌≡◌, length, IfOk, IsTrue};
+ghost use Rattle.std.specs.Prelude.{◌≡◌, ◌*◌, ◌≤◌, length, IfOk, OnOk, OnErr, IsTrue};
 ghost use Rattle.std.specs.Borrow.{sem};
 ghost use Rattle.wf_pixel.specs.Choice.{has_sides};
 ghost use Rattle.wf_image.specs.Bitmap.{blank, image_bytes, pixel_bytes};
@@ -9,7 +9,7 @@ ghost use Rattle.wf_image.specs.Lending.{LendsBytes};
 use crate::NoMemory;
 use std::alloc::Global;
 use std::marker::Model;
-use wf_pixel::{Format, Size};
+use wf_pixel::{Format, MOST_SIDE, Size};
 
 /// A size, a format and the bytes of the pixels: rows from the top, without padding, 4 bytes a pixel
 /// in the order R, G, B, A, or 1 byte a pixel in the format A8.
@@ -45,6 +45,31 @@ impl Image {
         })
     }
 
+    /// Copies this image into one of its own.
+    pub fn copy(&self) -> Result<Image, NoMemory>
+        ensures { IfOk result (λ image. image ≡ self.now) }
+    {
+        Ok(Image {
+            size: self.size,
+            format: self.format,
+            bytes: self.bytes.clone()?,
+        })
+    }
+
+    /// Makes this image the same as `other`. It takes memory only where size or format differ, and stays as it is where that is
+    /// refused.
+    pub fn copy_from(&mut self, other: &Image) -> Result<(), NoMemory>
+        ensures same { OnOk result (self.new ≡ other.now) }
+        ensures refused { OnErr result (self.new ≡ self.old) }
+    {
+        if self.size == other.size && self.format == other.format {
+            self.bytes.as_mut_slice().copy_from_slice(&other.bytes);
+        } else {
+            *self = other.copy()?;
+        }
+        Ok(())
+    }
+
     /// Returns width and height in pixels.
     pub fn size(&self) -> Size
         ensures size { result ≡ self.now.size }
@@ -66,6 +91,14 @@ impl Image {
         ensures len { length result.now ≡ image_bytes self.now.size self.now.format }
     {
         &self.bytes
+    }
+
+    /// Returns the number of bytes of all pixels.
+    pub(crate) fn len(&self) -> usize
+        ensures value { result ≡ length self.now.bytes }
+        ensures most { result ≤ 4 * (MOST_SIDE * MOST_SIDE) }
+    {
+        self.bytes.len()
     }
 
     /// Returns the bytes of all pixels, to write.

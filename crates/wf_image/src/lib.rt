@@ -5,6 +5,7 @@ pub use wf_words::NoMemory;
 
 mod canvas;
 mod contents;
+mod copying;
 mod image;
 mod paint;
 mod painting;

@@ -10,6 +10,7 @@ mod lines;
 mod masks;
 mod painter;
 mod painting;
+mod parts;
 mod placing;
 mod runs;
 mod spans;
@@ -19,8 +20,9 @@ mod strips;
 mod tables;
 
 pub use bands::picture_rows;
-pub use painter::{Painter, Plain};
+pub use painter::{Painter, Plain, Rows};
 pub use painting::picture;
+pub use parts::picture_part;
 use wf_pixel::{MOST_COORDINATE, MOST_SIDE, SIDE_LEN};
 
 /// The farthest that a rectangle on a target may begin from 0, to either side, however the target is turned.

@@ -124,7 +124,7 @@ pub(crate) fn paint(
 }
 
 /// Whether each layer shows the pixels of its source as they stand there.
-fn are_forward(layers: &[BoundLayer]) -> bool {
+pub(crate) fn are_forward(layers: &[BoundLayer]) -> bool {
     for layer in layers {
         if layer.walk != Walk::Forward {
             return false;
@@ -255,7 +255,7 @@ fn paint_row(
 }
 
 /// Writes a piece of row `y`.
-fn paint_strip(
+pub(crate) fn paint_strip(
     row: &mut [u8],
     width: u32,
     layers: &[BoundLayer],

@@ -35,7 +35,7 @@ const FILM_OF_TWO: [u8; 74] = *b"WFF2\
     E";
 
 const USAGE: &str =
-    "usage: wfplay <film|check|print|big> [--threads] [--rows N] [--size N] [--film N]\n";
+    "usage: wfplay <film|check|print|big> [--threads] [--rows N] [--size N] [--film N] [--repaint]\n";
 
 /// A play: its words, its script with so many spaces and a film behind it, and which calls of the source and of the film's sink fail, 0 for
 /// none. And what is wanted: the status with its exit, how many bytes of the film or of the text are put, how many turns are

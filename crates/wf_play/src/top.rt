@@ -23,15 +23,20 @@ use std::sync::Wait;
 use std::thread::Threads;
 use wf_calls::Order;
 use wf_command::{Asked, Mode, WordsStop, asked_by};
+use wf_damage::{Bench, Parts};
 use wf_io::{ReadStop, Sink, Source, read_all};
+use wf_kernel::{Painter, Plain, Rows};
 use wf_script::{Script, ScriptFault, parse, print};
-use wf_show::{Gate, threaded};
-use wf_turn::{PlayStop, serial};
+use wf_show::{Gate, threaded_by};
+use wf_turn::{PlayStop, serial_by};
 
 /// The longest script, in bytes.
 pub(crate) const SCRIPT_LIMIT: usize = 1_048_576;
 
-/// Plays a script, with its clients on threads or line by line, and writes its film.
+/// The most bytes of images and picture that are kept of one port's or context's frame.
+const ROOM: usize = 8_388_608;
+
+/// Plays `script`, with its clients on threads or line by line, and writes its film, whose frames are painted as is `asked`.
 fn play_script<R: Threads + Wait + Sync, O: Sink, G: Gate>(
     rt: &R,
     alloc: Global,
@@ -48,10 +53,47 @@ fn play_script<R: Threads + Wait + Sync, O: Sink, G: Gate>(
     ensures others { asked.threads ≡ true → OthersThrough script.now result }
     ensures caused { IsCausedPlay (O.faults film.old) (O.faults film.new) result }
 {
-    if asked.threads {
-        threaded(rt, alloc, script, asked.form, film, gate, asked.rows.into())
+    if asked.repaint {
+        let Ok(mut bench) = Bench::new(alloc, ROOM, Parts::new()) else {
+            return Err(PlayStop::NoMemory);
+        };
+        play_by(rt, alloc, asked, script, film, gate, &mut bench)
+    } else if asked.threads {
+        play_by(
+            rt,
+            alloc,
+            asked,
+            script,
+            film,
+            gate,
+            &mut Rows::new(rt, asked.rows.into()),
+        )
     } else {
-        serial(alloc, script, asked.form, film)
+        play_by(rt, alloc, asked, script, film, gate, &mut Plain)
+    }
+}
+
+/// The same, by a `painter`.
+fn play_by<R: Threads + Wait + Sync, O: Sink, G: Gate, P: Painter>(
+    rt: &R,
+    alloc: Global,
+    asked: Asked,
+    script: &Script,
+    film: &mut O,
+    gate: &G,
+    painter: &mut P,
+) -> Result<Order, PlayStop>
+    requires ready { P.ready }
+    ensures plays { PlaysFilm O.took film.old film.new asked.form script.now result }
+    ensures checked { IsFoundSame asked.form script.now result }
+    ensures order { asked.threads ≡ false → IsInFileOrder script.now result }
+    ensures others { asked.threads ≡ true → OthersThrough script.now result }
+    ensures caused { IsCausedPlay (O.faults film.old) (O.faults film.new) result }
+{
+    if asked.threads {
+        threaded_by(rt, alloc, script, asked.form, film, gate, painter)
+    } else {
+        serial_by(alloc, script, asked.form, film, painter)
     }
 }
 

@@ -58,10 +58,6 @@ pub record Advances (desk : TableId) (a b : Player) (painted : Bool) : Type 0 wh
   pub advanced : Advanced a b painted
   pub setting : SetsUp a b
 
--- a frame is painted in so many bands of rows at most
-abbrev pub AreBands : ℕ → Type 0
-AreBands rows = (1 ≤ rows) × (rows ≤ 16)
-
 module _ {K : Type 0} (took : K → List ℕ → Type 0) (old new : K) (form : FilmForm) (was written : ℕ) where
   -- calls one after another, whose frames were put
   pub record Shows (a b : Player) : Type 0 where

@@ -8,28 +8,28 @@ ghost use Rattle.wf_io.specs.Causes.{HasCause};
 ghost use Rattle.wf_machine.specs.Object.{IsPaintable};
 ghost use Rattle.wf_turn.specs.Playing.{job_frames};
 ghost use Rattle.wf_turn.specs.Program.{in_setup, place_of};
-ghost use Rattle.wf_show.specs.Clocks.{Advances, AreBands, Cuts, IsClock, SetsUp, Shows, start};
+ghost use Rattle.wf_show.specs.Clocks.{Advances, Cuts, IsClock, SetsUp, Shows, start};
 ghost use Rattle.wf_show.specs.Together.{IsSettingUp};
 
 use crate::client::ask;
-use crate::painting::paint_rows;
 use crate::player::Player;
 use std::sync::Wait;
 use std::thread::Threads;
 use wf_desk::Desk;
 use wf_film::{FRAME_BYTES, Writer};
 use wf_io::{Sink, WriteStop};
+use wf_kernel::Painter;
 use wf_machine::Machine;
 use wf_turn::{Program, put_job};
 
 /// Makes the next call of the clock's program, and paints a Job that comes. It answers whether one came.
-fn advance<R: Threads + Wait + Sync>(
+fn advance<R: Threads + Wait + Sync, P: Painter>(
     rt: &R,
     desk: &Desk<Machine>,
     clock: &mut Player,
-    rows: u32,
+    painter: &mut P,
 ) -> bool
-    requires rows { AreBands rows }
+    requires ready { P.ready }
     requires clock { IsClock desk.now.id clock.old }
     requires more { IsSome (place_of clock.old.program) }
     ensures { Advances desk.now.id clock.old clock.new result }
@@ -39,7 +39,7 @@ fn advance<R: Threads + Wait + Sync>(
     };
     let reply = ask(rt, desk, &mut clock.pass, wanted);
     clock.program.took(reply);
-    paint_rows(rt, rows, &mut clock.program)
+    clock.program.paint(painter)
 }
 
 /// Puts the frame of the painted Job that a program holds, if it is a port's, as begun by the event of a place.
@@ -66,15 +66,15 @@ fn put_frame<K: Sink>(
 }
 
 /// Makes the next call, and puts the frame that it shows. Where the sink fails, the frame ends.
-fn step<R: Threads + Wait + Sync, K: Sink>(
+fn step<R: Threads + Wait + Sync, K: Sink, P: Painter>(
     rt: &R,
     desk: &Desk<Machine>,
     clock: &mut Player,
-    rows: u32,
+    painter: &mut P,
     k: &mut K,
     writer: &mut Writer,
 ) -> Result<(), WriteStop>
-    requires rows { AreBands rows }
+    requires ready { P.ready }
     requires clock { IsClock desk.now.id clock.old }
     requires more { IsSome (place_of clock.old.program) }
     requires few { writer.old.written + clock.old.pass.left * FRAME_BYTES < 2 ^ 62 }
@@ -87,10 +87,10 @@ fn step<R: Threads + Wait + Sync, K: Sink>(
     ensures part { IfErr result (λ stop. Cuts K.took k.old k.new writer.old.form writer.old.written stop.written clock.old clock.new) }
     ensures cause { HasCause (K.faults k.old) (K.faults k.new) result }
 {
-    if advance(rt, desk, clock, rows) {
+    if advance(rt, desk, clock, painter) {
         let begin = clock.pass.place();
         if let Err(stop) = put_frame(&clock.program, begin, k, writer) {
-            advance(rt, desk, clock, rows);
+            advance(rt, desk, clock, painter);
             return Err(stop);
         }
     }
@@ -98,15 +98,15 @@ fn step<R: Threads + Wait + Sync, K: Sink>(
 }
 
 /// Plays the clock's program to its end, and puts its frames. Where the sink fails, the frame ends, and nothing more is played.
-pub(crate) fn go_on<R: Threads + Wait + Sync, K: Sink>(
+pub(crate) fn go_on<R: Threads + Wait + Sync, K: Sink, P: Painter>(
     rt: &R,
     desk: &Desk<Machine>,
     clock: &mut Player,
-    rows: u32,
+    painter: &mut P,
     k: &mut K,
     writer: &mut Writer,
 ) -> Result<(), WriteStop>
-    requires rows { AreBands rows }
+    requires ready { P.ready }
     requires clock { IsClock desk.now.id clock.old }
     requires few { writer.old.written + clock.old.pass.left * FRAME_BYTES < 2 ^ 62 }
     ensures clock { IsClock desk.now.id clock.new }
@@ -117,7 +117,7 @@ pub(crate) fn go_on<R: Threads + Wait + Sync, K: Sink>(
     ensures cause { HasCause (K.faults k.old) (K.faults k.new) result }
 {
     while clock.program.place().is_some() {
-        if let Err(stop) = step(rt, desk, clock, rows, k, writer) {
+        if let Err(stop) = step(rt, desk, clock, painter, k, writer) {
             return Err(stop);
         }
     }
@@ -125,15 +125,15 @@ pub(crate) fn go_on<R: Threads + Wait + Sync, K: Sink>(
 }
 
 /// Plays the setup. Where the sink fails, the frame ends, and nothing more is played.
-pub(crate) fn set_up<R: Threads + Wait + Sync, K: Sink>(
+pub(crate) fn set_up<R: Threads + Wait + Sync, K: Sink, P: Painter>(
     rt: &R,
     desk: &Desk<Machine>,
     clock: &mut Player,
-    rows: u32,
+    painter: &mut P,
     k: &mut K,
     writer: &mut Writer,
 ) -> Result<(), WriteStop>
-    requires rows { AreBands rows }
+    requires ready { P.ready }
     requires clock { IsClock desk.now.id clock.old }
     requires few { writer.old.written + clock.old.pass.left * FRAME_BYTES < 2 ^ 62 }
     ensures clock { IsClock desk.now.id clock.new }
@@ -146,7 +146,7 @@ pub(crate) fn set_up<R: Threads + Wait + Sync, K: Sink>(
     ensures cause { HasCause (K.faults k.old) (K.faults k.new) result }
 {
     while clock.program.in_setup() {
-        if let Err(stop) = step(rt, desk, clock, rows, k, writer) {
+        if let Err(stop) = step(rt, desk, clock, painter, k, writer) {
             return Err(stop);
         }
     }

@@ -6,7 +6,7 @@ ghost use Rattle.wf_io.specs.Causes.{HasCause};
 ghost use Rattle.wf_turn.specs.Films.{IsCaused, PlaysFilm};
 ghost use Rattle.wf_turn.specs.Play.{plain_film};
 ghost use Rattle.wf_turn.specs.Program.{place_of};
-ghost use Rattle.wf_show.specs.Clocks.{AreBands, IsClock, start};
+ghost use Rattle.wf_show.specs.Clocks.{IsClock, start};
 ghost use Rattle.wf_show.specs.Ends.{AllPlay, AreEnded, IsCut, IsFilmed, OthersThrough};
 ghost use Rattle.wf_show.specs.Players.{AreFresh, IsFresh};
 ghost use Rattle.wf_show.specs.Together.{IsSettingUp};
@@ -25,6 +25,7 @@ use wf_calls::Order;
 use wf_desk::Desk;
 use wf_film::{FilmForm, Writer};
 use wf_io::{Sink, WriteStop};
+use wf_kernel::{Painter, Rows};
 use wf_machine::Machine;
 use wf_script::Script;
 use wf_turn::PlayStop;
@@ -50,17 +51,17 @@ fn play_others<R: Threads + Wait + Sync, G: Gate>(
 }
 
 /// Plays all programs, and puts the magic and the frames. Where the sink fails, the frame ends, and the clock plays no further line.
-fn play_all<R: Threads + Wait + Sync, K: Sink, G: Gate>(
+fn play_all<R: Threads + Wait + Sync, K: Sink, G: Gate, P: Painter>(
     rt: &R,
     desk: &Desk<Machine>,
     gate: &G,
     form: FilmForm,
     clock: &mut Player,
-    rows: u32,
+    painter: &mut P,
     k: &mut K,
     others: &mut [Player],
 ) -> Result<Writer, WriteStop>
-    requires rows { AreBands rows }
+    requires ready { P.ready }
     requires clock { IsFresh desk.now.id clock.old.program.script 0 clock.old }
     requires others { AreFresh desk.now.id clock.old.program.script 1 others.old }
     ensures many { length others.new ≡ length others.old }
@@ -80,24 +81,19 @@ fn play_all<R: Threads + Wait + Sync, K: Sink, G: Gate>(
             return Err(stop);
         }
     };
-    if let Err(stop) = set_up(rt, desk, clock, rows, k, &mut writer) {
+    if let Err(stop) = set_up(rt, desk, clock, painter, k, &mut writer) {
         play_others(rt, desk, gate, clock, others);
         return Err(stop);
     }
     teach(desk, clock, others);
-    if let Err(stop) = play_together(rt, desk, gate, clock, rows, k, &mut writer, others) {
+    if let Err(stop) = play_together(rt, desk, gate, clock, painter, k, &mut writer, others) {
         return Err(stop);
     }
     Ok(writer)
 }
 
-/// Plays a script with its clients on threads, and writes in a form the film of the order that came about, which the order tells.
-/// Client 0 plays its setup first. Then each of the clients 1 to 7 plays on a thread of its own where one can be had, and else they play
-/// one after another; the calling thread plays the rest of client 0, paints its frames in bands for up to `rows` workers, 1 to 16, and
-/// alone writes. All memory but that of the script's own creations is taken before the first byte is put. Where the sink fails at a
-/// frame, that frame ends, client 0 plays no further line, and the others go through theirs. It may wait. What it moves is off the stack
-/// when it returns.
-#[inline(never)]
+/// Plays `script` with its clients on threads as [`threaded_by`] does, and paints client 0's frames in bands for up to `rows` workers, from
+/// 1 to 16.
 pub fn threaded<R: Threads + Wait + Sync, K: Sink, G: Gate>(
     rt: &R,
     alloc: Global,
@@ -114,6 +110,31 @@ pub fn threaded<R: Threads + Wait + Sync, K: Sink, G: Gate>(
     ensures others { OthersThrough script.now result }
     ensures caused { IsCaused (K.faults k.old) (K.faults k.new) result }
 {
+    threaded_by(rt, alloc, script, form, k, gate, &mut Rows::new(rt, rows))
+}
+
+/// Plays `script` with its clients on threads, and puts into `k`, in a `form`, the film of the order that came about, which the order
+/// tells. Client 0 plays its setup first. Then each of the clients 1 to 7 plays on a thread of its own where one can be had, and else they
+/// play one after another; the calling thread plays the rest of client 0, paints its frames by `painter`, and alone writes. Each client
+/// enters `gate` before it plays. All memory but that of the script's own creations, and of the painter's copies, is taken before the first
+/// byte is put. Where the sink fails at a frame, that frame ends, client 0 plays no further line, and the others go through theirs. It may
+/// wait. What it moves is off the stack when it returns.
+#[inline(never)]
+pub fn threaded_by<R: Threads + Wait + Sync, K: Sink, G: Gate, P: Painter>(
+    rt: &R,
+    alloc: Global,
+    script: &Script,
+    form: FilmForm,
+    k: &mut K,
+    gate: &G,
+    painter: &mut P,
+) -> Result<Order, PlayStop>
+    requires ready { P.ready }
+    ensures plays { PlaysFilm K.took k.old k.new form script.now result }
+    ensures stands { IfOk result (λ order. IsFilm (as_read (plain_film form script.now order))) }
+    ensures others { OthersThrough script.now result }
+    ensures caused { IsCaused (K.faults k.old) (K.faults k.new) result }
+{
     let opened = match Players::open(alloc, script) {
         Ok(opened) => opened,
         Err(_) => return Err(PlayStop::NoMemory),
@@ -124,7 +145,7 @@ pub fn threaded<R: Threads + Wait + Sync, K: Sink, G: Gate>(
         mut others,
         ended,
     } = opened;
-    let played = play_all(rt, &desk, gate, form, &mut clock, rows, k, &mut others);
+    let played = play_all(rt, &desk, gate, form, &mut clock, painter, k, &mut others);
     let order = close(desk, clock, others, ended);
     match played {
         Ok(writer) => match writer.finish(k, &order) {

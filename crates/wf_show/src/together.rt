@@ -3,7 +3,7 @@
 ghost use Rattle.std.specs.Prelude.{◌≡◌, ◌+◌, ◌*◌, ◌<◌, ◌^◌, All, None, IfErr, OnOk};
 ghost use Rattle.wf_io.specs.Causes.{HasCause};
 ghost use Rattle.wf_turn.specs.Program.{place_of};
-ghost use Rattle.wf_show.specs.Clocks.{AreBands, Cuts, IsClock, Shows};
+ghost use Rattle.wf_show.specs.Clocks.{Cuts, IsClock, Shows};
 ghost use Rattle.wf_show.specs.Players.{AllWorked, IsWaiting};
 
 use crate::clock::go_on;
@@ -14,20 +14,21 @@ use std::thread::{Threads, join_mut};
 use wf_desk::Desk;
 use wf_film::{FRAME_BYTES, Writer};
 use wf_io::{Sink, WriteStop};
+use wf_kernel::Painter;
 use wf_machine::Machine;
 
 /// Plays the clock's program to its end, and puts its frames, while the others play theirs on threads.
-pub(crate) fn play_together<R: Threads + Wait + Sync, K: Sink, G: Gate>(
+pub(crate) fn play_together<R: Threads + Wait + Sync, K: Sink, G: Gate, P: Painter>(
     rt: &R,
     desk: &Desk<Machine>,
     gate: &G,
     clock: &mut Player,
-    rows: u32,
+    painter: &mut P,
     k: &mut K,
     writer: &mut Writer,
     others: &mut [Player],
 ) -> Result<(), WriteStop>
-    requires rows { AreBands rows }
+    requires ready { P.ready }
     requires clock { IsClock desk.now.id clock.old }
     requires few { writer.old.written + clock.old.pass.left * FRAME_BYTES < 2 ^ 62 }
     requires others { All (IsWaiting desk.now.id) others.old }
@@ -47,8 +48,8 @@ pub(crate) fn play_together<R: Threads + Wait + Sync, K: Sink, G: Gate>(
         { run_all(rt, desk, gate, others) },
         &mut ||
             requires { IsClock desk.now.id clock.now × (writer.now.written + clock.now.pass.left * FRAME_BYTES < 2 ^ 62)
-                × AreBands rows }
-        { go_on(rt, desk, clock, rows, k, writer) },
+                × P.ready }
+        { go_on(rt, desk, clock, painter, k, writer) },
     );
     played
 }

@@ -164,6 +164,7 @@ impl<'a> Cast<'a> {
         place: &mut Asked,
         painter: &mut P,
     ) -> Option<(Turn, bool)>
+        requires ready { P.ready }
         requires within { client < 8 }
         requires fit { IsSomeAnd (slice_get self.old client) IsFit }
         ensures { MatchOption result (IsStuckAt client machine.old self.old)

@@ -70,6 +70,7 @@ pub fn serial_by<K: Sink, P: Painter>(
     k: &mut K,
     painter: &mut P,
 ) -> Result<Order, PlayStop>
+    requires ready { P.ready }
     ensures plays { PlaysFilm K.took k.old k.new form script.now result }
     ensures file_order { IsInFileOrder script.now result }
     ensures stands { IfOk result (λ order. IsFilm (as_read (plain_film form script.now order))) }
@@ -95,6 +96,7 @@ fn write_opened<K: Sink, P: Painter>(
     k: &mut K,
     painter: &mut P,
 ) -> Result<Order, PlayStop>
+    requires ready { P.ready }
     requires opened { IfOk opened.old (λ show. show ≡ opening_show script.now) }
     requires cast { IfOk opened.old IsCast }
     ensures plays { PlaysFilm K.took k.old k.new form script.now result }
@@ -120,6 +122,7 @@ fn write_film<K: Sink, P: Painter>(
     painter: &mut P,
     mut played: Vec<Turn>,
 ) -> Result<Order, PlayStop>
+    requires ready { P.ready }
     requires opened { show.old ≡ opening_show (script_of show.old) }
     requires cast { IsCast show.old }
     requires few { length (script_of show.old).lines ≤ MOST_LINES }
@@ -162,6 +165,7 @@ fn play_turns<K: Sink, P: Painter>(
     writer: &mut Writer,
     played: &mut Vec<Turn>,
 ) -> Result<(), WriteStop>
+    requires ready { P.ready }
     requires cast { IsCast show.old }
     requires alone { EndsNext show.old }
     requires none { played.old.items ≡ [] }
@@ -195,6 +199,7 @@ fn play_turn<K: Sink, P: Painter>(
     writer: &mut Writer,
     played: &mut Vec<Turn>,
 ) -> Result<(), WriteStop>
+    requires ready { P.ready }
     requires cast { IsCast show.old }
     requires alone { EndsNext show.old }
     requires first { IsFirst show.old.programs client }
@@ -229,6 +234,7 @@ fn play_turn<K: Sink, P: Painter>(
 
 /// Takes the next turn, of the client of the first line that is not through. Returns the entry, and whether a Job was painted.
 fn next_turn<P: Painter>(show: &mut Show, client: usize, painter: &mut P) -> (Turn, bool)
+    requires ready { P.ready }
     requires cast { IsCast show.old }
     requires alone { EndsNext show.old }
     requires first { IsFirst show.old.programs client }

@@ -64,7 +64,8 @@ pub fn replay_by<K: Sink, P: Painter>(
     k: &mut K,
     painter: &mut P,
 ) -> Result<(), ReplayStop>
-    requires { length order.now < 2 ^ 32 }
+    requires ready { P.ready }
+    requires few { length order.now < 2 ^ 32 }
     ensures plays { PlaysAgain K.took k.old k.new form script.now order.now result }
     ensures caused { IsReplayCaused (K.faults k.old) (K.faults k.new) result }
 {
@@ -88,6 +89,7 @@ fn write_opened<K: Sink, P: Painter>(
     k: &mut K,
     painter: &mut P,
 ) -> Result<(), ReplayStop>
+    requires ready { P.ready }
     requires opened { IfOk opened.old (λ show. show ≡ opening_show script.now) }
     requires cast { IfOk opened.old IsCast }
     requires few { length order.now < 2 ^ 32 }
@@ -121,6 +123,7 @@ fn write_again<K: Sink, P: Painter>(
     k: &mut K,
     painter: &mut P,
 ) -> Result<(), ReplayStop>
+    requires ready { P.ready }
     requires opened { show.old ≡ opening_show (script_of show.old) }
     requires cast { IsCast show.old }
     requires few { length order.now < 2 ^ 32 }
@@ -153,6 +156,7 @@ fn play_entries<K: Sink, P: Painter>(
     writer: &mut Writer,
     painter: &mut P,
 ) -> Result<(), ReplayStop>
+    requires ready { P.ready }
     requires cast { IsCast show.old }
     requires fresh { show.old.turns ≡ 0 }
     requires few { length entries.now < 2 ^ 32 }
@@ -192,6 +196,7 @@ fn play_entry<K: Sink, P: Painter>(
     writer: &mut Writer,
     painter: &mut P,
 ) -> Entered
+    requires ready { P.ready }
     requires cast { IsCast show.old }
     requires early { show.old.turns < 2 ^ 32 - 1 }
     requires few { writer.old.written < 2 ^ 62 }

@@ -108,6 +108,7 @@ impl<'a> Show<'a> {
         memory_refused: bool,
         painter: &mut P,
     ) -> Option<(Turn, bool)>
+        requires ready { P.ready }
         requires cast { IsCast self.old }
         requires early { self.old.turns < 2 ^ 32 - 1 }
         ensures { MatchOption result (HasNoTurn self.old client)

@@ -171,7 +171,8 @@ impl<'a> Program<'a> {
 
     /// Lets a painter paint the Job that is held and not painted yet, and answers whether there was one.
     pub fn paint<P: Painter>(&mut self, painter: &mut P) -> bool
-        requires { IsWork self.old }
+        requires ready { P.ready }
+        requires work { IsWork self.old }
         ensures painted { self.new ≡ worked self.old }
         ensures was { result ≡ is_work self.old }
     {

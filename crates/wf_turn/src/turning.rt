@@ -31,7 +31,8 @@ pub(crate) fn take_turn<P: Painter>(
     place: &mut Asked,
     painter: &mut P,
 ) -> Option<(Turn, bool)>
-    requires { IsFit program.old }
+    requires ready { P.ready }
+    requires fit { IsFit program.old }
     ensures { MatchOption result (wanted_now machine.old program.old ≡ None)
         (λ x. Takes (memory_refused || is_marked x.0) client machine.old machine.new program.old program.new x.0 x.1) }
 {

@@ -30,7 +30,8 @@ stream_context-requires-clause-names c = c.screened-context.ensures.ours.fit
 
 pub stream_context-requires-clause-room : goal.stream_context-requires-clause-room
 stream_context-requires-clause-room c =
-    ours_room (core_names c.screened-context.new.core) c.screened-context.new.store c.screened-context.ensures.ours c.prove_few_names.ensures
+    ours_room (core_names c.screened-context.new.core) c.screened-context.new.store c.screened-context.ensures.ours
+    c.prove_few_names.ensures
 
 pub source_new-requires-clause-names : goal.source_new-requires-clause-names
 source_new-requires-clause-names c = (with_element (goal.at.source_new-requires-clause-names c).After-element_new).fit

@@ -9,8 +9,8 @@ use Rattle.wf_show.proofs.client.run_client.Goals as goal
 pub loop-wanted-init : goal.loop-wanted-init
 loop-wanted-init g c = starts c.args.program.now c.args.pass.now c.requires.none c.requires.fit c.requires.left c.left-quota.ensures.own
 
-pub paint-requires : goal.paint-requires
-paint-requires g c =
+pub paint-requires-clause-work : goal.paint-requires-clause-work
+paint-requires-clause-work g c =
     let l = c.loop-wanted in
     let w = c.in-Some.wanted in
     let reply = c.ask-reply.result in

@@ -5,8 +5,8 @@ use Rattle.wf_turn.specs.Ready.{IsWork}
 use Rattle.wf_show.proofs.CallOfTheClock.{advances, gone_is}
 use Rattle.wf_show.proofs.clock.advance.Goals as goal
 
-pub paint_rows-requires-clause-work : goal.paint_rows-requires-clause-work
-paint_rows-requires-clause-work g c κs within =
+pub paint-requires-clause-work : goal.paint-requires-clause-work
+paint-requires-clause-work g c =
     let a = c.args.clock.now in
     let w = c.in-Some.wanted in
     let reply = c.ask-reply.result in
@@ -31,6 +31,6 @@ returns g c =
     c.ask-reply.ensures.made c.ask-reply.ensures.own in
     let now : c.took.new.self ≡ took a.program reply =
     c.took.ensures ∙ ap (λ q. took q reply) c.next.ensures.issued ∙ goes.took_is in
-    advances c.args.desk.now.id a c.ask-reply.new.pass c.paint_rows.new.program w reply c.paint_rows.result c.requires.clock asks
-    c.in-Some.ensures.waits goes_on c.ask-reply.ensures.made c.ask-reply.ensures.own (c.paint_rows.ensures.painted ∙ ap worked now)
-    (c.paint_rows.ensures.was ∙ ap is_work now)
+    advances c.args.desk.now.id a c.ask-reply.new.pass c.paint.new.self w reply c.paint.result c.requires.clock asks
+    c.in-Some.ensures.waits goes_on c.ask-reply.ensures.made c.ask-reply.ensures.own (c.paint.ensures.painted ∙ ap worked now)
+    (c.paint.ensures.was ∙ ap is_work now)

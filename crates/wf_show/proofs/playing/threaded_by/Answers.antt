@@ -1,7 +1,7 @@
 use Rattle.std.proofs.Common.{inl}
 use Rattle.wf_show.proofs.AnswerOfThreads.{IsOver, ends_in_head, ends_in_tail, ends_others, ends_well, few_turns_in_all, is_over}
 use Rattle.wf_show.proofs.AnswerOfThreads.{stands_well}
-use Rattle.wf_show.proofs.playing.threaded.Goals as goal
+use Rattle.wf_show.proofs.playing.threaded_by.Goals as goal
 
 pub finish-requires-clause-turns : goal.finish-requires-clause-turns
 finish-requires-clause-turns g c =

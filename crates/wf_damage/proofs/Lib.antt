@@ -1,0 +1,4 @@
+pub mod Agreement
+pub mod Places
+pub mod Painted
+mod AreaRows
