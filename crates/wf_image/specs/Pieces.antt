@@ -7,7 +7,7 @@ use Rattle.std.proofs.Math.Seq.{drop-append_seam}
 use Rattle.std.proofs.Math.Nat.{zero-add, add-zero, suc-add}
 use Rattle.std.proofs.lemmas.List.{append-nil, drop-drop}
 
--- one more piece behind the others
+-- one more piece after the others
 pub pieces-more : (f : ℕ → List ℕ) (from n at : ℕ) → at ≡ from + n
     → flat_map f (range_with_len from (n + 1)) ≡ flat_map f (range_with_len from n) ++ f at
 pieces-more f from zero at e = append-nil (f from) ∙ ap f (sym (e ∙ add-zero from))

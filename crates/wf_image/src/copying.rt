@@ -7,7 +7,7 @@ use crate::image::Image;
 use crate::{MOST_CONTENTS, NoMemory};
 use arrayvec::ArrayVec;
 
-/// Leaves `n` places, of which those behind the last one are empty.
+/// Leaves `n` of these `places`: the first ones, and empty ones where there are fewer.
 pub(crate) fn set_len(places: &mut ArrayVec<Option<(u32, Image)>, MOST_CONTENTS>, n: usize)
     requires { n ≤ MOST_CONTENTS }
     ensures { places.new.items ≡ take n places.old.items ++ replicate (n - length places.old.items) None }

@@ -22,7 +22,7 @@ use wf_image::{Contents, Image};
 use wf_pixel::{MOST_SIDE, Rect, Rgba, Rotation, SIDE_LEN, turned};
 use wf_scene::{MOST_INSERTED, Scene};
 
-/// Columns and rows of a target, each from the first one to the one behind the last.
+/// Columns and rows of a target, each from the first one to the one after the last.
 #[derive(Clone, Copy, Debug, PartialEq, Eq)]
 pub(crate) struct Part {
     pub(crate) left: u32,
@@ -31,8 +31,9 @@ pub(crate) struct Part {
     pub(crate) bottom: u32,
 }
 
-/// Writes the picture of a scene at each pixel whose place in the space where the scene is composed is inside a rectangle of that
-/// space, and leaves the others. It takes no memory and refuses nothing; its conditions are those of `picture`.
+/// Writes into `target` the picture of `scene`, with the images of `contents` by stream, at each pixel whose place in the space where the
+/// scene is composed is inside `area`, and leaves the others. An area may reach beyond that space. It cannot lack memory and refuses
+/// nothing; its conditions are those of `picture`.
 pub fn picture_part(scene: &Scene, contents: &Contents, area: Rect, target: &mut Image)
     requires size { target.old.size ≡ scene.now.size }
     requires pixels { pixel_bytes target.old.format ≡ 4 }
@@ -45,7 +46,7 @@ pub fn picture_part(scene: &Scene, contents: &Contents, area: Rect, target: &mut
     part_of_scene(target.bytes_mut(), scene, contents, part);
 }
 
-/// The columns and rows of the target that come from a rectangle of the space.
+/// Returns the columns and rows of the target that come from `area` of the space of `scene`.
 fn part_of(scene: &Scene, area: Rect) -> Part
     ensures part { IsPart scene.now.size.w scene.now.size.h result }
     ensures holds { (x y : ℕ) → x < scene.now.size.w → y < scene.now.size.h → holds result x y ≡ covers_at scene.now area x y }
@@ -81,7 +82,7 @@ fn part_of(scene: &Scene, area: Rect) -> Part
     }
 }
 
-/// Where a side of `w` pixels from `x` on begins within `n` pixels, and the place behind its end there.
+/// Returns where a side of `w` pixels from `x` on begins within `n` pixels, and the place after its end there.
 fn side_in(x: i32, w: u32, n: u32) -> (u32, u32)
     ensures order { result.0 ≤ result.1 }
     ensures within { result.1 ≤ n }
@@ -95,7 +96,7 @@ fn side_in(x: i32, w: u32, n: u32) -> (u32, u32)
     }
 }
 
-/// Writes a part of the rows of a scene.
+/// Writes `part` of the rows of `scene`.
 fn part_of_scene(bytes: &mut [u8], scene: &Scene, contents: &Contents, part: Part)
     requires count { length bytes.old ≡ scene.now.size.w * scene.now.size.h * 4 }
     requires fits { Fits scene.now contents.now }
@@ -197,7 +198,7 @@ fn part_of_layers<const N: usize>(
     }
 }
 
-/// Writes a part for which pixels of sources are kept.
+/// Writes `part`, for which pixels of sources are kept.
 #[inline(never)]
 fn part_by_lines(
     bytes: &mut [u8],
@@ -220,7 +221,7 @@ fn part_by_lines(
     );
 }
 
-/// Writes a part by what is kept.
+/// Writes `part` by what is kept.
 fn paint_part(
     bytes: &mut [u8],
     width: u32,
