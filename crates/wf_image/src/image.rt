@@ -63,7 +63,7 @@ impl Image {
         ensures refused { OnErr result (self.new ≡ self.old) }
     {
         if self.size == other.size && self.format == other.format {
-            self.bytes.as_mut_slice().copy_from_slice(&other.bytes);
+            self.bytes_mut().copy_from_slice(&other.bytes);
         } else {
             *self = other.copy()?;
         }
