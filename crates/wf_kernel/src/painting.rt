@@ -1,6 +1,6 @@
 //! Writes the picture of a scene, row by row from the top.
 
-ghost use Rattle.std.specs.Prelude.{◌≡◌, ◌+◌, ◌*◌, ◌/◌, ◌%◌, ◌<◌, ◌≤◌, ◌++◌, All, length, take, drop};
+ghost use Rattle.std.specs.Prelude.{◌≡◌, ◌+◌, ◌-◌, ◌*◌, ◌/◌, ◌%◌, ◌<◌, ◌≤◌, ◌++◌, All, length, take, drop};
 ghost use Rattle.wf_image.specs.Bitmap.{pixel_bytes, drawn_row, stored};
 ghost use Rattle.wf_model.specs.Picture.{picture, Fits};
 ghost use Rattle.wf_kernel.specs.Bound.{bound_colour, bound_picture, bound_row, bound_rows};
@@ -242,20 +242,45 @@ fn paint_row(
     ensures strips { All (IsStrip layers.now width) strips.new }
     ensures kept { All (AreKept layers.now) kept.new }
 {
-    let mut first = 0;
+    paint_piece(row, 0, width, layers, background, strips, kept, spare, y);
+}
+
+/// Writes the pixels of row `y` from column `left` to the one before `right`.
+pub(crate) fn paint_piece(
+    row: &mut [u8],
+    left: u32,
+    right: u32,
+    layers: &[BoundLayer],
+    background: Rgba,
+    strips: &mut [Strip],
+    kept: &mut [Kept],
+    spare: &mut [[u8; ROW_BYTES]],
+    y: u32,
+)
+    requires few { right ≤ MOST_SIDE }
+    requires order { left ≤ right }
+    requires y { y < MOST_SIDE }
+    requires count { length row.old ≡ 4 * (right - left) }
+    requires strips { All (IsStrip layers.now right) strips.old }
+    requires kept { All (AreKept layers.now) kept.old }
+    ensures row { row.new ≡ drawn_row (right - left) Format.Rgba8Pre (λ x. bound_colour layers.now background (left + x) y) }
+    ensures strips { All (IsStrip layers.now right) strips.new }
+    ensures kept { All (AreKept layers.now) kept.new }
+{
+    let mut first = left;
     let mut k = 0usize;
-    while first < width {
-        let strip = strip_for(strips, k, layers, width, first, y);
-        let at = 4 * first as usize;
+    while first < right {
+        let strip = strip_for(strips, k, layers, right, first, y);
+        let at = 4 * (first - left) as usize;
         let piece = &mut row[at..at + 4 * strip.width as usize];
-        paint_strip(piece, width, layers, background, strip, kept, spare, y);
+        paint_strip(piece, right, layers, background, strip, kept, spare, y);
         first += strip.width;
         k += 1;
     }
 }
 
 /// Writes a piece of row `y`.
-pub(crate) fn paint_strip(
+fn paint_strip(
     row: &mut [u8],
     width: u32,
     layers: &[BoundLayer],

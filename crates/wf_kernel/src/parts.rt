@@ -15,8 +15,8 @@ ghost use Rattle.wf_kernel.specs.Strips.{IsStrip};
 use crate::ROW_BYTES;
 use crate::bound::{BoundLayer, bind_layers, no_layers};
 use crate::keeping::{Kept, nothing_kept};
-use crate::painting::{are_forward, paint_strip};
-use crate::strips::{Strip, no_strip, strip_for};
+use crate::painting::{are_forward, paint_piece};
+use crate::strips::no_strip;
 use crate::tables::{count_tables, fill_tables};
 use wf_image::{Contents, Image};
 use wf_pixel::{MOST_SIDE, Rect, Rgba, Rotation, SIDE_LEN, turned};
@@ -254,39 +254,5 @@ fn paint_part(
             spare,
             y,
         );
-    }
-}
-
-/// Writes the pixels of row `y` from column `left` to the one before `right`.
-fn paint_piece(
-    row: &mut [u8],
-    left: u32,
-    right: u32,
-    layers: &[BoundLayer],
-    background: Rgba,
-    strips: &mut [Strip],
-    kept: &mut [Kept],
-    spare: &mut [[u8; ROW_BYTES]],
-    y: u32,
-)
-    requires few { right ≤ MOST_SIDE }
-    requires order { left ≤ right }
-    requires y { y < MOST_SIDE }
-    requires count { length row.old ≡ 4 * (right - left) }
-    requires strips { All (IsStrip layers.now right) strips.old }
-    requires kept { All (AreKept layers.now) kept.old }
-    ensures row { row.new ≡ drawn_row (right - left) Rgba8Pre (λ x. bound_colour layers.now background (left + x) y) }
-    ensures strips { All (IsStrip layers.now right) strips.new }
-    ensures kept { All (AreKept layers.now) kept.new }
-{
-    let mut first = left;
-    let mut k = 0usize;
-    while first < right {
-        let strip = strip_for(strips, k, layers, right, first, y);
-        let at = 4 * (first - left) as usize;
-        let piece = &mut row[at..at + 4 * strip.width as usize];
-        paint_strip(piece, right, layers, background, strip, kept, spare, y);
-        first += strip.width;
-        k += 1;
     }
 }

@@ -4,7 +4,7 @@ use Rattle.wf_pixel.specs.declared.Format.TheVariants.{Rgba8Pre}
 use Rattle.wf_image.specs.Bitmap.{drawn_row}
 use Rattle.wf_kernel.specs.Bound.{bound_colour}
 use Rattle.wf_kernel.proofs.Stacks.{strip_more}
-use Rattle.wf_kernel.proofs.parts.paint_piece.Goals as goal
+use Rattle.wf_kernel.proofs.painting.paint_piece.Goals as goal
 
 pub loop-first-init : goal.loop-first-init
 loop-first-init c =
