@@ -9,7 +9,8 @@ TABLE = TOP / "crates/calls.table"
 PARTS = ("streams", "buffers", "composition", "display", "begin", "end")
 WAITS = ("never", "canvas", "frame", "job")
 # What a row may say below it, by what it is; the first ones have to stand there.
-SAYS = {"kind": [], "attribute": ["says"], "call": ["does", "line", "model", "method", "denial", "sees"], "line": ["says"]}
+SAYS = {"kind": [], "attribute": ["says"], "call": ["does", "line", "model", "method", "denial", "sees"], "line": ["says"], "paint": []}
+RANGE = re.compile(r"(-?\w+)\.\.(\w+)")
 
 
 class Wrong(Exception):
@@ -18,15 +19,27 @@ class Wrong(Exception):
 
 @dataclass
 class Kind:
-    """A kind of arguments: its type in the code, and the words of what it may be as an argument of a message."""
+    """A kind of arguments: its type in the code, the words of what it may be as an argument of a message, and the names of these words."""
 
     name: str
     type: str
     words: list
+    names: list = field(default_factory=list)
 
     @property
     def is_attribute(self):
         return self.words == ["attributes"]
+
+    @property
+    def variant(self):
+        """Returns its name as a variant of the enum of kinds."""
+        return self.name.capitalize()
+
+    @property
+    def range(self):
+        """Returns the ends of its range as words, or none where it is no range."""
+        found = RANGE.fullmatch(self.words[0])
+        return found.groups() if found else None
 
 
 @dataclass
@@ -83,6 +96,12 @@ class Table:
     attributes: list
     calls: list
     lines: list
+    paints: list
+
+    @property
+    def messages(self):
+        """Returns the calls and the paints that are messages, by their numbers."""
+        return sorted((call for call in self.calls + self.paints if call.number is not None), key=lambda call: call.number)
 
     def attributes_of(self, name):
         """Returns the attributes of an object."""
@@ -120,6 +139,12 @@ def logical(text):
     return rows
 
 
+def kind_of(name, of, *words):
+    """Returns the kind of a row."""
+    split = [word.partition("/") for word in words]
+    return Kind(name, of, [word for word, _, _ in split], [own or word.capitalize() for word, _, own in split])
+
+
 def call_of(words, texts):
     """Returns the call of a row."""
     word, makes = words[0], words[1] == "="
@@ -131,21 +156,23 @@ def call_of(words, texts):
 
 def read(text):
     """Returns the table of a text, or refuses it."""
-    table = Table({}, [], [], [])
+    table = Table({}, [], [], [], [])
     for place, (what, *words), texts in logical(text):
         need(what in SAYS, f"line {place}: `{what}` is no row")
         need(set(texts) <= set(SAYS[what]), f"line {place}: below it stands {sorted(set(texts) - set(SAYS[what]))}")
         need(set(SAYS[what][:1]) <= set(texts), f"line {place}: {SAYS[what][:1]} is missing below it")
         try:
             if what == "kind":
-                table.kinds[words[0]] = Kind(words[0], words[1], words[2:])
+                table.kinds[words[0]] = kind_of(*words)
             elif what == "attribute":
                 table.attributes.append(Attribute(*words[:4], int(words[4]), texts["says"]))
             elif what == "call":
                 table.calls.append(call_of(words, texts))
+            elif what == "paint":
+                table.paints.append(Call("", words[0], pairs(words[1:-1]), number=int(words[-1])))
             else:
                 table.lines.append(Call(words[0], "", pairs(words[1:]), texts={"line": texts["says"]}))
-        except (ValueError, IndexError):
+        except (TypeError, ValueError, IndexError):
             raise Wrong(f"line {place}: a word is missing or more than the row's") from None
     judge(table)
     return table
@@ -159,7 +186,10 @@ def twice(names):
 
 def judge(table):
     """Refuses a table in which something has no meaning, or one that it shares with another."""
-    for call in table.calls + table.lines:
+    for kind in table.kinds.values():
+        is_told = len(kind.words) > 1 or kind.words and (kind.words[0] in ("any", "attributes", "none") or kind.range)
+        need(is_told, f"{kind.name}: what it may be is missing, or no range")
+    for call in table.calls + table.lines + table.paints:
         at = call.name or call.word
         need(all(len(pair) == 2 and pair[1] in table.kinds for pair in call.arguments), f"{at}: an argument is of no kind")
         need(twice([name for name, _ in call.arguments]) is None, f"{at}: two arguments have one name")
@@ -175,10 +205,12 @@ def judge(table):
         need(attribute.value.isdigit() or attribute.value in table.kinds, f"{attribute.object} {attribute.word}: a value of no kind")
     for what, names in (
         ("the word", [call.word for call in table.calls + table.lines]),
-        ("the name", [call.name for call in table.calls]),
-        ("the number", [call.number for call in table.calls]),
+        ("the name", [call.name for call in table.calls + table.paints]),
+        ("the number", [call.number for call in table.calls + table.paints]),
     ):
         need(twice(names) is None, f"{what} {twice(names)} stands twice")
+    numbers = [call.number for call in table.messages]
+    need(numbers == list(range(1, len(numbers) + 1)), "the messages are not numbered from 1 on")
     for kind in (kind for kind in table.kinds.values() if kind.is_attribute):
         own = table.attributes_of(kind.name)
         need(sorted(attribute.number for attribute in own) == list(range(len(own))), f"{kind.name}: its attributes are not numbered from 0")

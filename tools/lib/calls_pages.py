@@ -1,11 +1,15 @@
 """What tools/calls writes of the tools and of the documents."""
 
+from lib import limits
 from lib.calls_lower import WHOLE
+from lib.calls_wire import ends_of, kinds, worded
 
 # The letter of an argument in a line, where it is not the first of its name.
 LETTERS = {"width": "W", "height": "H", "format": "F", "buffers": "B", "depth": "D", "source": "x", "pipe": "l", "index": "N", "on": "N",
            "attr": "ATTRIBUTE", "value": "v ..", "transition": "T", "paint": "P"}
 OBJECTS = {"pipe": "pipeline"}
+# The constants that ends of ranges are, as the documents tell them.
+ENDS = {"MOST_SIDE": limits.MOST_SIDE, "MOST_COORDINATE": limits.MOST_PLACE}
 LINE = "\n"
 
 
@@ -77,3 +81,30 @@ def attributes_md(table):
         rows.setdefault((attribute.object, attribute.says), []).append(f"`{attribute.word}`")
     told = "".join(f"| {OBJECTS.get(name, name)} | {', '.join(words)} | {says} |\n" for (name, says), words in rows.items())
     return "\n| Of | Attribute | What it is set to |\n|---|---|---|\n" + told + "\n"
+
+
+def messages_md(table):
+    """Returns the table of messages of docs/formats.md."""
+    rows = ""
+    for message in table.messages:
+        own = [f"`{name}` {'four numbers' if kind == 'values' else kind}" for name, kind in message.arguments if kind != "canvas"]
+        rows += f"| {message.number} | {message.name} | {', '.join(own)}{' ' * bool(own)}|\n"
+    return "\n| Number | Message | Arguments |\n|---|---|---|\n" + rows + "\n"
+
+
+def end_md(end):
+    """Returns an end of a range as a number."""
+    amount = end.lstrip("-")
+    return f"{'-' if end[0] == '-' else ''}{ENDS.get(amount) or int(amount):,}"
+
+
+def kinds_md(table):
+    """Returns the table of the kinds of arguments of docs/formats.md."""
+    words = {kind.name: [own.word for own in sorted(table.attributes_of(kind.name), key=lambda own: own.number)] or kind.words
+             for kind, _ in worded(table)}
+    rows = ""
+    for kind in kinds(table):
+        ends = ends_of(kind, table)
+        told = ", ".join(f"{place} `{word}`" for place, word in enumerate(words.get(kind.name, [])))
+        rows += f"| {kind.name} | {told or (f'{end_md(ends[0])} to {end_md(ends[1])}' if ends else 'any')} |\n"
+    return "\n| Kind | What it may be |\n|---|---|\n" + rows + "\n"

@@ -18,6 +18,8 @@ MOST_PORTS = 4
 MOST_MODES = 4
 MOST_PIPES = 8
 MOST_CLIENT = 7
+# The entries of the queue of a log, which are as many where no number is given.
+MOST_ENTRIES = 64
 # The greatest number, the lines of a script, and the bytes of a script and of a film that is checked.
 MOST_NUMBER = 2**32 - 1
 MOST_LINES = 16_384

@@ -475,18 +475,24 @@ class Machine:
                 pipe.current = pipe.current if transition == "vsync" else stream
                 pipe.request = None
 
-    def commit_device(self, *_):
-        self.commit_of(self.ports, self.pipes, lambda pipe: True)
+    def taken_by(self, verb, words):
+        """Answers the pipelines that the commit `verb` of the display with `words` takes, by rising number."""
+        if verb == "commit_port":
+            return [pipe for pipe in self.pipes if words[0] in (pipe.cached["port"], pipe.committed["port"])]
+        return [pipe for number, pipe in enumerate(self.pipes, 1) if verb == "commit_device" or number == words[0]]
+
+    def commit_device(self, words, _):
+        self.commit_of(self.ports, self.taken_by("commit_device", words), lambda pipe: True)
 
     def commit_port(self, words, _):
         port = self.numbered(self.ports, words[0])
-        pipes = [pipe for pipe in self.pipes if words[0] in (pipe.cached["port"], pipe.committed["port"])]
         may = (0, words[0])
-        self.commit_of([port], pipes, lambda pipe: pipe.cached["port"] in may and pipe.committed["port"] in may)
+        self.commit_of([port], self.taken_by("commit_port", words),
+                       lambda pipe: pipe.cached["port"] in may and pipe.committed["port"] in may)
 
     def commit_pipe(self, words, _):
-        pipe = self.numbered(self.pipes, words[0])
-        self.commit_of([], [pipe], lambda pipe: pipe.cached["port"] == pipe.committed["port"])
+        self.numbered(self.pipes, words[0])
+        self.commit_of([], self.taken_by("commit_pipe", words), lambda pipe: pipe.cached["port"] == pipe.committed["port"])
 
     def derror(self, *_):
         told, self.register = self.register, 0

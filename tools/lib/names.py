@@ -24,6 +24,9 @@ class Counted(Machine):
         self.streams_made = 0
         self.begun = 0
         self.frame = None
+        # What the frame that began last shows, and the image of the next post or End, which a caller that paints puts here.
+        self.shown = None
+        self.image = "an image"
         for stream in self.streams:
             self.number(stream)
         self.settle()
@@ -79,18 +82,19 @@ class Counted(Machine):
         return stream
 
     def post(self, words, _):
-        add(self.canvas(words), "an image")
+        add(self.canvas(words), self.image)
 
     def discard(self, words, _):
         self.canvas(words)
 
-    # Frames, which run until they are ended. What they are painted with is no matter.
+    # Frames, which run until they are ended.
 
     def run(self, context, port, begun):
         """A frame of a context or of a port runs from now on."""
         scene, images = begun
         shown = {stream.number: stream for layer in scene.layers for stream in (layer.stream, layer.mask) if stream is not None}
         self.begun += 1
+        self.shown = begun
         self.frame = Frame(self.begun, context, port, [stream for stream in shown.values() if id(stream) in images])
 
     def begin_next(self, words, _):
@@ -121,7 +125,7 @@ class Counted(Machine):
         need(self.frame is not None and tuple(words) == job_of(self.frame), "BadHandle")
         context, self.frame = self.frame.context, None
         if context:
-            super().end(context, "an image")
+            super().end(context, self.image)
 
 
 def job_of(frame):

@@ -25,23 +25,74 @@ class Shown(NamedTuple):
     pixels: bytes
 
 
+def declared(lines):
+    """Answers the ports with their modes, and how many pipelines there are, of a script's `lines` as words."""
+    ports = [[tuple(map(int, mode.split("x"))) for mode in words[1:]] for words in lines if words[:1] == ["port"]]
+    return ports, sum(int(words[1]) for words in lines if words[:1] == ["pipes"])
+
+
+class Names:
+    """Keeps the handles that names stand for: those of the setup, which all clients see, and each client's own."""
+
+    def __init__(self):
+        self.of_setup = {}
+        self.values = {client: {} for client in range(8)}
+
+    def bind(self, client, name, handle, in_setup):
+        """Lets a `name` of a `client` stand for a `handle`, for all clients where its line is `in_setup`."""
+        (self.of_setup if in_setup else self.values[client])[name] = handle
+
+    def read(self, client, verb, words):
+        """Answers the `words` behind a `verb` of a `client` as a call has them: numbers, handles by their names, and flags by their
+        words."""
+        form = (CREATIONS | VERBS)[verb]
+        read = []
+        kinds = list(form[:-1]) + [form[-1]] if form else []
+        for place, word in enumerate(words):
+            kind = kinds[place] if place < len(kinds) else "rest"
+            name = words[len(kinds) - 1] if len(kinds) <= place else None
+            if kind == "rest":
+                of = kinds[-1].partition(" ")[2]
+                kind = ATTRIBUTES[of][name] if kinds[-1].startswith("set") else "number"
+            if kind == "handle":
+                read.append(0 if word == "none" else self.values[client].get(word, self.of_setup.get(word, 0)))
+            elif kind == "filter":
+                read.append(FILTERS[word])
+            elif kind == "transparency":
+                read.append(sum(FLAGS[flag] for flag in word.split("+")))
+            else:
+                read.append(int(word) if is_number(word) else word)
+        return read
+
+
+# Pictures that were painted, by all that they show.
+PAINTED = {}
+
+
+def painted(scene, images):
+    """Answers the picture of a `scene` with `images`, which is painted once where it comes again."""
+    layers = tuple((tuple(sorted((key, value) for key, value in vars(layer).items() if key not in ("stream", "mask", "kind"))),
+                    layer.stream.w, layer.stream.form, images.get(id(layer.stream)), images.get(id(layer.mask)))
+                   for layer in scene.layers)
+    key = (scene.w, scene.h, scene.turn, scene.background, layers)
+    if key not in PAINTED:
+        PAINTED[key] = picture(scene, images)
+    return PAINTED[key]
+
+
 class Show:
     """A serial play. `denied` are the places of the order at which a creation gets no memory."""
 
     def __init__(self, text, denied=()):
         lines = [line.partition("#")[0].split() for line in text.split("\n")]
         lines = [words for words in lines if words]
-        ports = [[tuple(map(int, mode.split("x"))) for mode in words[1:]] for words in lines if words[0] == "port"]
-        pipes = [int(words[1]) for words in lines if words[0] == "pipes"]
-        self.machine = Machine(ports, sum(pipes))
+        self.machine = Machine(*declared(lines))
         self.denied = set(denied)
         self.turns = []
         self.frames = []
         self.ticks = 0
         self.held = {}
-        self.painted = {}
-        self.of_setup = {}
-        self.values = {client: {} for client in range(8)}
+        self.names = Names()
         self.in_setup = True
         for words in lines:
             if words[0] in tuple("01234567"):
@@ -65,9 +116,9 @@ class Show:
         if verb == "tick":
             self.tick()
         elif verb in ("compose", "trycompose"):
-            self.compose(client, self.read(client, verb, words))
+            self.compose(client, self.names.read(client, verb, words))
         elif verb in ("acquire", "frame"):
-            self.acquire(client, self.read(client, verb, words[:1]), words[1:], verb == "frame")
+            self.acquire(client, self.names.read(client, verb, words[:1]), words[1:], verb == "frame")
         elif verb == "paint":
             if client in self.held:
                 self.held[client].paint(words)
@@ -75,30 +126,9 @@ class Show:
             if client in self.held:
                 self.give_back(client, verb == "post")
         else:
-            came = self.call(client, verb, self.read(client, verb, words))
+            came = self.call(client, verb, self.names.read(client, verb, words))
             if name is not None:
-                (self.of_setup if self.in_setup else self.values[client])[name] = self.turns[-1][2] if came else 0
-
-    def read(self, client, verb, words):
-        """The words of a line as a call has them: numbers, handles by their names, and flags by their words."""
-        form = (CREATIONS | VERBS)[verb]
-        read = []
-        kinds = list(form[:-1]) + [form[-1]] if form else []
-        for place, word in enumerate(words):
-            kind = kinds[place] if place < len(kinds) else "rest"
-            name = words[len(kinds) - 1] if len(kinds) <= place else None
-            if kind == "rest":
-                of = kinds[-1].partition(" ")[2]
-                kind = ATTRIBUTES[of][name] if kinds[-1].startswith("set") else "number"
-            if kind == "handle":
-                read.append(0 if word == "none" else self.values[client].get(word, self.of_setup.get(word, 0)))
-            elif kind == "filter":
-                read.append(FILTERS[word])
-            elif kind == "transparency":
-                read.append(sum(FLAGS[flag] for flag in word.split("+")))
-            else:
-                read.append(int(word) if is_number(word) else word)
-        return read
+                self.names.bind(client, name, self.turns[-1][2] if came else 0, self.in_setup)
 
     def acquire(self, client, words, paint, is_frame):
         """Takes a canvas, unless the client holds one, and for a frame paints and posts it."""
@@ -118,16 +148,6 @@ class Show:
         self.machine.settle()
         self.event(client, 0, 0)
 
-    def picture(self, scene, images):
-        """The picture of a scene, which is painted once where it comes again."""
-        layers = tuple((tuple(sorted((key, value) for key, value in vars(layer).items() if key not in ("stream", "mask", "kind"))),
-                        layer.stream.w, layer.stream.form, images.get(id(layer.stream)), images.get(id(layer.mask)))
-                       for layer in scene.layers)
-        key = (scene.w, scene.h, scene.turn, scene.background, layers)
-        if key not in PAINTED:
-            PAINTED[key] = picture(scene, images)
-        return PAINTED[key]
-
     def compose(self, client, words):
         """Composes a frame of a context that a client names."""
         device = self.machine.live.get(words[0])
@@ -140,7 +160,7 @@ class Show:
                 device.register = refusal.code
             return
         self.event(client, 0, context.handle)
-        self.machine.end(context, self.picture(scene, images))
+        self.machine.end(context, painted(scene, images))
         self.event(client, 0, 0)
 
     def tick(self):
@@ -159,7 +179,7 @@ class Show:
                 self.event(0, refusal.code, refusal.value)
                 continue
             self.event(0, 0, after)
-            self.machine.end(context, self.picture(scene, images))
+            self.machine.end(context, painted(scene, images))
             self.event(0, 0, 0)
         for number in range(1, len(self.machine.ports) + 1):
             begun = self.machine.begin_port(number)
@@ -167,13 +187,9 @@ class Show:
                 self.event(0, 0, 0)
                 continue
             scene, images = begun
-            self.frames.append(Shown(number, self.ticks, len(self.turns), scene.w, scene.h, self.picture(scene, images)))
+            self.frames.append(Shown(number, self.ticks, len(self.turns), scene.w, scene.h, painted(scene, images)))
             self.event(0, 0, number)
             self.event(0, 0, 0)
-
-
-# Pictures that were painted, by all that they show.
-PAINTED = {}
 
 
 class Piece(NamedTuple):

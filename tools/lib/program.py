@@ -1,5 +1,6 @@
 """The built program, as the tools play it: the one that WFPLAY names, or that of this checkout. The same of cases_machine, which plays cases."""
 
+import functools
 import os
 import subprocess
 from pathlib import Path
@@ -27,6 +28,24 @@ def checked(text, film):
     given = text.encode("utf-8") + film
     ran = subprocess.run([str(PROGRAM), "check"], input=given, capture_output=True, timeout=SECONDS, check=False)
     return ran.returncode, ran.stderr.decode("utf-8", "replace")
+
+
+@functools.cache
+def has_events():
+    """Answers whether the program has the mode `events`: another one takes its word for no command."""
+    return subprocess.run([str(PROGRAM), "events"], input=b"", capture_output=True, timeout=SECONDS, check=False).returncode != 2
+
+
+def logged(text, film, depth):
+    """Answers the exit status, the log and the notes of a `film` behind the script `text`, by a queue of `depth` entries."""
+    return logged_bytes(text.encode("utf-8") + film, depth)
+
+
+def logged_bytes(data, depth):
+    """Answers the same of `data`, a script and a film that may be any bytes."""
+    words = [str(PROGRAM), "events", "--depth", str(depth)]
+    ran = subprocess.run(words, input=data, capture_output=True, timeout=SECONDS, check=False)
+    return ran.returncode, ran.stdout, ran.stderr.decode("utf-8", "replace")
 
 
 def printed(text):

@@ -99,6 +99,12 @@ def ports_of(lines):
     return sum(line.client is None and line.verb == "port" for line in lines)
 
 
+def setup_of(lines):
+    """Answers the numbers of the `lines` before any client but 0 speaks."""
+    first = lines[0].number
+    return range(first, min((line.number for line in lines if line.client), default=first + len(lines)))
+
+
 def program(lines, ports):
     """A client's program over its lines: gives the step of each event, and is sent whether it came to something: an Ok for
     an acquire, a post and the like, a frame for a Begin; and the answer's value."""
@@ -146,23 +152,38 @@ def reply(step, entry):
     return came, entry.value
 
 
+class Programs:
+    """Has the clients' programs over the `lines` of a script: of each client the step of its next event, or none where it is through."""
+
+    def __init__(self, lines):
+        ports = ports_of(lines)
+        self.setup = setup_of(lines)
+        self.running = {client: program([line for line in lines if line.client == client], ports) for client in range(len(CLIENTS))}
+        self.wanted = {client: next(running, None) for client, running in self.running.items()}
+
+    def is_setup_through(self):
+        """Answers whether client 0 has no further event before another client speaks."""
+        return self.wanted[0] is None or self.wanted[0].line.number not in self.setup
+
+    def answer(self, entry):
+        """Goes on behind the step of a client that is answered by `entry`."""
+        try:
+            self.wanted[entry.client] = self.running[entry.client].send(reply(self.wanted[entry.client], entry))
+        except StopIteration:
+            self.wanted[entry.client] = None
+
+
 def steps(lines, entries):
     """The step of each entry, one after the other. Raises Misfit where the entries are not those of the clients' lines."""
-    ports = ports_of(lines)
-    programs, wanted = {}, {}
-    for client in range(len(CLIENTS)):
-        programs[client] = program([line for line in lines if line.client == client], ports)
-        wanted[client] = next(programs[client], None)
+    programs = Programs(lines)
     for place, entry in enumerate(entries):
-        step = wanted[entry.client]
-        if step is None:
+        if entry.client and not programs.is_setup_through():
+            raise Misfit(place, f"client {entry.client} has no turn before the setup is through")
+        if programs.wanted[entry.client] is None:
             raise Misfit(place, f"client {entry.client} has no line that makes it")
-        yield step
-        try:
-            wanted[entry.client] = programs[entry.client].send(reply(step, entry))
-        except StopIteration:
-            wanted[entry.client] = None
-    for step in wanted.values():
+        yield programs.wanted[entry.client]
+        programs.answer(entry)
+    for step in programs.wanted.values():
         if step:
             raise Misfit(len(entries), f"the journal ends, and line {step.line.number} is not through")
 

@@ -1,8 +1,8 @@
-//! What a check finds of a film that is changed.
+//! What a check finds of a film that is changed, and its log.
 
 ghost use Rattle.std.specs.Prelude.{◌<◌};
 
-use crate::plays::check_film;
+use crate::plays::{check_film, log_film};
 use std::alloc::{AllocError, Global};
 use std::io;
 use std::sync::Wait;
@@ -54,18 +54,33 @@ fn changed(
     Ok(changed)
 }
 
-/// What a check finds of the film of a script, changed by the words, of which each change has three.
+/// A film changed by the words, of which each change has three.
+fn changed_by(alloc: Global, film: &[u8], words: &[&str]) -> Result<Vec<u8>, AllocError> {
+    let mut bytes = Vec::from_slice(alloc, film)?;
+    for change in words.chunks(3) {
+        let at = word(change, 1).parse::<usize>().unwrap_or(0);
+        bytes = changed(alloc, &bytes, word(change, 0), at, word(change, 2))?;
+    }
+    Ok(bytes)
+}
+
+/// What a check finds of the film of a script, changed by the words.
 pub(crate) fn told_check<R: Threads + Wait + Sync + AllocGlobal>(
     rt: &R,
     text: &str,
     film: &[u8],
     words: &[&str],
 ) -> io::Result<String> {
-    let alloc = rt.alloc();
-    let mut bytes = Vec::from_slice(alloc, film)?;
-    for change in words.chunks(3) {
-        let at = word(change, 1).parse::<usize>().unwrap_or(0);
-        bytes = changed(alloc, &bytes, word(change, 0), at, word(change, 2))?;
-    }
-    check_film(rt, text, &bytes)
+    check_film(rt, text, &changed_by(rt.alloc(), film, words)?)
+}
+
+/// The log of the film of a script, changed by the words after the first one, which is the depth of the queue.
+pub(crate) fn told_log<R: Threads + Wait + Sync + AllocGlobal>(
+    rt: &R,
+    text: &str,
+    film: &[u8],
+    words: &[&str],
+) -> io::Result<String> {
+    let (depth, changes) = words.split_first().unwrap_or((&"", &[]));
+    log_film(rt, text, &changed_by(rt.alloc(), film, changes)?, depth)
 }

@@ -1,6 +1,6 @@
 //! The lines of a script with what their comments say.
 
-use crate::checks::told_check;
+use crate::checks::{told_check, told_log};
 use crate::events::{Journal, is_code};
 use crate::films::{frame_of, told_film, told_frame};
 use crate::plays::{OF_ONE, Plays};
@@ -135,6 +135,7 @@ impl<'a> Script<'a> {
         let words = words_of(alloc, what)?;
         let came = match words.split_first() {
             Some((&"check", changes)) => told_check(rt, self.text, film, changes)?,
+            Some((&"log", words)) => told_log(rt, self.text, film, words)?,
             _ => told_film(alloc, film, played.order.turns().len(), what)?,
         };
         let said = before_colon(said);

@@ -1,10 +1,11 @@
 //! A script's play by the top call.
 
+use std::alloc::{AllocError, Global};
 use std::io;
 use std::sync::Wait;
 use std::thread::Threads;
-use wf_play::Open;
-use wf_plays::{Played, check, play_by};
+use wf_play::{Open, Status};
+use wf_plays::{Played, check, log, play_by};
 
 /// What a comment begins with that tells of the film in form 1.
 pub(crate) const OF_ONE: &str = "film 1:";
@@ -45,14 +46,9 @@ pub(crate) fn play_text<R: Threads + Wait + Sync + AllocGlobal>(
     })
 }
 
-/// What a check of a film behind a text puts into the notes, with `,` for `:`.
-pub(crate) fn check_film<R: Threads + Wait + Sync + AllocGlobal>(
-    rt: &R,
-    text: &str,
-    film: &[u8],
-) -> io::Result<String> {
-    let told = check(rt, text, film)?;
-    let mut note = String::new(rt.alloc());
+/// The notes of a play, with `,` for `:`.
+fn noted(alloc: Global, told: &Played) -> Result<String, AllocError> {
+    let mut note = String::new(alloc);
     for byte in told.notes.bytes() {
         note.push(match *byte {
             b':' => ',',
@@ -60,4 +56,47 @@ pub(crate) fn check_film<R: Threads + Wait + Sync + AllocGlobal>(
         })?;
     }
     Ok(note)
+}
+
+/// What a check of `film` after `text` puts into the notes, with `,` for `:`.
+pub(crate) fn check_film<R: Threads + Wait + Sync + AllocGlobal>(
+    rt: &R,
+    text: &str,
+    film: &[u8],
+) -> io::Result<String> {
+    let told = check(rt, text, film)?;
+    Ok(noted(rt.alloc(), &told)?)
+}
+
+/// The lines of a log, with `, ` between them, or `nothing`.
+fn logged(alloc: Global, told: &Played) -> Result<String, AllocError> {
+    let mut lines = String::new(alloc);
+    let mut ended = false;
+    for byte in told.film.bytes() {
+        if ended {
+            lines.push_str(", ")?;
+        }
+        ended = *byte == b'\n';
+        if !ended {
+            lines.push(char::from(*byte))?;
+        }
+    }
+    if lines.is_empty() {
+        lines.push_str("nothing")?;
+    }
+    Ok(lines)
+}
+
+/// The log of `film` after `text`, by a queue of `depth` happenings, or the note that comes in its place.
+pub(crate) fn log_film<R: Threads + Wait + Sync + AllocGlobal>(
+    rt: &R,
+    text: &str,
+    film: &[u8],
+    depth: &str,
+) -> io::Result<String> {
+    let told = log(rt, text, film, depth)?;
+    if told.status == Status::Done {
+        return Ok(logged(rt.alloc(), &told)?);
+    }
+    Ok(noted(rt.alloc(), &told)?)
 }

@@ -17,6 +17,7 @@ fn words_have_memory(rt: HostRuntime) -> Result<(), Fail> {
         rows: 3,
         form: FilmForm::Two,
         size: asked.size,
+        depth: 64,
         repaint: false,
     };
     assert_eq!(rt; asked, want);

@@ -20,14 +20,20 @@ pub fn check(alloc: Global, script: &Script, film: &[u8]) -> Result<Verdict, NoM
     ensures { IfOk result (Says script.now film.now) }
 {
     match read(alloc, film) {
-        Ok(read) => compare(alloc, script, film, &read),
+        Ok(read) => check_film(alloc, script, film, &read),
         Err(FilmStop::Fault { at, rule }) => Ok(Verdict::BadFilm { at, rule }),
         Err(FilmStop::NoMemory) => Err(NoMemory),
     }
 }
 
-/// Plays the journal of a film that was read, and compares the frames with the film's bytes as they are made.
-fn compare(alloc: Global, script: &Script, bytes: &[u8], film: &Film) -> Result<Verdict, NoMemory>
+/// Checks `bytes` as `check` does, of which `film` was read: so whoever wants the journal of a film reads it once. The journal is
+/// played, and the bytes are compared with its film as that is made.
+pub fn check_film(
+    alloc: Global,
+    script: &Script,
+    bytes: &[u8],
+    film: &Film,
+) -> Result<Verdict, NoMemory>
     requires { (plain : PlainFilm) × Stands bytes.now plain × (film.now ≡ outline plain) }
     ensures { IfOk result (Says script.now bytes.now) }
 {

@@ -6,7 +6,7 @@ mod comparing;
 mod laws;
 mod verdict;
 
-pub use checking::check;
+pub use checking::{check, check_film};
 pub use laws::one_verdict_at_most;
 pub use verdict::Verdict;
 pub use wf_words::NoMemory;

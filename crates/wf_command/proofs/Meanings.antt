@@ -34,8 +34,9 @@ module _ (app : App) (words : List (String Global)) (m : ArgMatches) (is : app �
       ap (λ (x : Option Text). record t { mode = x }) (first (codes "mode"))
       ∙ ap (λ (x : Option Text). record t { mode = u.mode; threads = x }) (first (codes "threads"))
       ∙ ap (λ (x : Option Text). record t { mode = u.mode; threads = u.threads; rows = x }) (one (codes "rows"))
-      ∙ ap (λ (x : Option Text). record u { film = x; size = t.size; repaint = t.repaint }) (one (codes "film"))
-      ∙ ap (λ (x : Option Text). record u { size = x; repaint = t.repaint }) (one (codes "size"))
+      ∙ ap (λ (x : Option Text). record u { film = x; size = t.size; depth = t.depth; repaint = t.repaint }) (one (codes "film"))
+      ∙ ap (λ (x : Option Text). record u { size = x; depth = t.depth; repaint = t.repaint }) (one (codes "size"))
+      ∙ ap (λ (x : Option Text). record u { depth = x; repaint = t.repaint }) (one (codes "depth"))
       ∙ ap (λ (x : Option Text). record u { repaint = x }) (first (codes "repaint"))
 
   pub meant : (a : Asked) → fault_of app (texts words) ≡ [] → IsMeant (texts_in (found_of m)) a → AskFor a words

@@ -23,6 +23,7 @@ mode_word mode.Film = codes "film"
 mode_word mode.Check = codes "check"
 mode_word mode.Print = codes "print"
 mode_word mode.Big = codes "big"
+mode_word mode.Events = codes "events"
 
 -- the command
 
@@ -58,6 +59,14 @@ size_rule = record (new_rule (codes "size")) {
   defaults = codes "1" ∷ [];
 }
 
+-- `--depth N`, N from 1 to 64, by default 64
+abbrev pub depth_rule : Rule
+depth_rule = record (new_rule (codes "depth")) {
+  long = Some (codes "depth");
+  parser = Some (parser.Signed (pos 1) (pos 64));
+  defaults = codes "64" ∷ [];
+}
+
 -- the flag `--repaint`
 abbrev pub repaint_rule : Rule
 repaint_rule = record (new_rule (codes "repaint")) { long = Some (codes "repaint"); action = Some SetTrue }
@@ -70,8 +79,9 @@ bare =
 
 abbrev pub command : App
 command =
-    with_rule (with_rule (with_rule (with_rule (with_rule (with_rule bare mode_rule) threads_rule) rows_rule) film_rule) size_rule)
-    repaint_rule
+    with_rule
+    (with_rule (with_rule (with_rule (with_rule (with_rule (with_rule bare mode_rule) threads_rule) rows_rule) film_rule) size_rule)
+    depth_rule) repaint_rule
 
 -- what the words ask for
 
@@ -99,10 +109,11 @@ pub record IsUpTo (last n : ℕ) : Type 0 where
   pub some : 1 ≤ n
   pub most : n ≤ last
 
--- the number, from 1 to another, that the text of an option asks for; 1 without one
-abbrev pub IsCount : ℕ → Option Text → ℕ → Type 0
-IsCount last None n = n ≡ 1
-IsCount last (Some text) n = (IsUpTo last n × Writes text n) ⊎ ((n ≡ 1) × ((k : ℕ) → IsUpTo last k → ¬ (Writes text k)))
+-- the number, from 1 to a last one, that the text of an option asks for, or else its default
+abbrev pub IsCount : (last default : ℕ) → Option Text → ℕ → Type 0
+IsCount last default None n = n ≡ default
+IsCount last default (Some text) n =
+    (IsUpTo last n × Writes text n) ⊎ ((n ≡ default) × ((k : ℕ) → IsUpTo last k → ¬ (Writes text k)))
 
 -- the texts of the arguments
 pub record Texts : Type 0 where
@@ -111,6 +122,7 @@ pub record Texts : Type 0 where
   pub rows : Option Text
   pub film : Option Text
   pub size : Option Text
+  pub depth : Option Text
   pub repaint : Option Text
 
 -- what matches hold of them
@@ -122,6 +134,7 @@ texts_in found =
       rows = one_text found (codes "rows");
       film = one_text found (codes "film");
       size = one_text found (codes "size");
+      depth = one_text found (codes "depth");
       repaint = first_value found (codes "repaint");
     }
 
@@ -135,6 +148,7 @@ texts_of words =
       rows = one_of (codes "rows") found;
       film = one_of (codes "film") found;
       size = one_of (codes "size") found;
+      depth = one_of (codes "depth") found;
       repaint = first_of (codes "repaint") found;
     }
 
@@ -142,9 +156,10 @@ texts_of words =
 pub record IsMeant (t : Texts) (a : Asked) : Type 0 where
   pub mode_is : t.mode ≡ Some (mode_word a.mode)
   pub threads_is : IsSet t.threads a.threads
-  pub rows_is : IsCount 16 t.rows a.rows
+  pub rows_is : IsCount 16 1 t.rows a.rows
   pub form_is : IsForm t.film a.form
-  pub size_is : IsCount 1000 t.size a.size
+  pub size_is : IsCount 1000 1 t.size a.size
+  pub depth_is : IsCount 64 64 t.depth a.depth
   pub repaint_is : IsSet t.repaint a.repaint
 
 -- the words are a command, and this is its mode with its options

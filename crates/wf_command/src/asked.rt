@@ -13,6 +13,8 @@ pub enum Mode {
     Print,
     /// The film of a script that is made, in two numbers.
     Big,
+    /// The log of what happens at the display in a film.
+    Events,
 }
 
 /// A mode with its options.
@@ -27,6 +29,8 @@ pub struct Asked {
     pub form: FilmForm,
     /// How many rounds the script has that is made, 1 to 1000.
     pub size: u16,
+    /// For how many happenings of a stretch the log has room, 1 to 64.
+    pub depth: u8,
     /// A frame is painted over the last one of its port or context, where something changed.
     pub repaint: bool,
 }

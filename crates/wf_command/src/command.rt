@@ -4,8 +4,8 @@ ghost use Rattle.std.specs.Prelude.{◌≡◌, ◌≢◌, IfErr, IfOk, IfSome, c
 ghost use Rattle.std.specs.Option.{IfNone};
 ghost use Rattle.clap.specs.Words.{app_of, first_value, found_of, kind_of, one_text, rule_of, with_rule};
 ghost use Rattle.wf_command.specs.Words.{bare};
-ghost use Rattle.wf_command.specs.Words.{AreAccepted, AskFor, IsCount, IsForm, IsMeant, IsSet, command, film_rule, mode_rule, mode_word};
-ghost use Rattle.wf_command.specs.Words.{repaint_rule, rows_rule, size_rule, texts_in, threads_rule};
+ghost use Rattle.wf_command.specs.Words.{AreAccepted, AskFor, IsCount, IsForm, IsMeant, IsSet, command, depth_rule, film_rule, mode_rule};
+ghost use Rattle.wf_command.specs.Words.{mode_word, repaint_rule, rows_rule, size_rule, texts_in, threads_rule};
 
 use crate::asked::{Asked, Mode, WordsStop};
 use clap::error::ErrorKind;
@@ -64,6 +64,17 @@ fn size_arg<'a>(alloc: Global) -> Arg<'a>
         .default_value("1")
 }
 
+/// For how many happenings of a stretch the log has room.
+fn depth_arg<'a>(alloc: Global) -> Arg<'a>
+    ensures rule { rule_of result ≡ depth_rule }
+    ensures own { result.global ≡ false }
+{
+    Arg::new(alloc, "depth")
+        .long("depth")
+        .value_parser(value_parser!(u8).range(1..=64))
+        .default_value("64")
+}
+
 /// Whether a frame is painted over the last one.
 fn repaint_arg<'a>(alloc: Global) -> Arg<'a>
     ensures rule { rule_of result ≡ repaint_rule }
@@ -93,6 +104,7 @@ fn command<'a>(alloc: Global) -> Result<Command<'a>, AllocError>
     command_of_mode(alloc)?
         .arg(film_arg(alloc))?
         .arg(size_arg(alloc))?
+        .arg(depth_arg(alloc))?
         .arg(repaint_arg(alloc))
 }
 
@@ -106,6 +118,7 @@ fn mode_named(word: &str) -> Option<Mode>
         "check" => Some(Mode::Check),
         "print" => Some(Mode::Print),
         "big" => Some(Mode::Big),
+        "events" => Some(Mode::Events),
         _ => None,
     }
 }
@@ -132,7 +145,7 @@ fn flag_in(matches: &ArgMatches, name: &str) -> bool
 
 /// How many bands a frame is painted in at most, by `--rows`.
 fn rows_in(matches: &ArgMatches) -> u8
-    ensures { IsCount 16 (one_text (found_of matches.now) (codes "rows")) result }
+    ensures { IsCount 16 1 (one_text (found_of matches.now) (codes "rows")) result }
 {
     match matches.get_one::<u8>("rows") {
         Some(rows) if 1 <= rows && rows <= 16 => rows,
@@ -142,11 +155,21 @@ fn rows_in(matches: &ArgMatches) -> u8
 
 /// How many rounds a made script has, by `--size`.
 fn size_in(matches: &ArgMatches) -> u16
-    ensures { IsCount 1000 (one_text (found_of matches.now) (codes "size")) result }
+    ensures { IsCount 1000 1 (one_text (found_of matches.now) (codes "size")) result }
 {
     match matches.get_one::<u16>("size") {
         Some(size) if 1 <= size && size <= 1000 => size,
         _ => 1,
+    }
+}
+
+/// For how many happenings of a stretch the log has room, by `--depth`.
+fn depth_in(matches: &ArgMatches) -> u8
+    ensures { IsCount 64 64 (one_text (found_of matches.now) (codes "depth")) result }
+{
+    match matches.get_one::<u8>("depth") {
+        Some(depth) if 1 <= depth && depth <= 64 => depth,
+        _ => 64,
     }
 }
 
@@ -157,7 +180,7 @@ fn asked_in(matches: &ArgMatches) -> Option<Asked>
 {
     let (threads, rows) = (flag_in(matches, "threads"), rows_in(matches));
     let (form, size) = (form_in(matches), size_in(matches));
-    let repaint = flag_in(matches, "repaint");
+    let (depth, repaint) = (depth_in(matches), flag_in(matches, "repaint"));
     match matches.get_str("mode") {
         Some(word) => match mode_named(word) {
             Some(mode) => Some(Asked {
@@ -166,6 +189,7 @@ fn asked_in(matches: &ArgMatches) -> Option<Asked>
                 rows,
                 form,
                 size,
+                depth,
                 repaint,
             }),
             None => None,

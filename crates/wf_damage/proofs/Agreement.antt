@@ -18,6 +18,7 @@ use Rattle.wf_pixel.specs.declared.Size.{Size}
 use Rattle.wf_pixel.specs.declared.Transparency.{Transparency}
 use Rattle.wf_pixel.specs.Along.{along}
 use Rattle.wf_pixel.specs.Choice.{same_size, same_format}
+use Rattle.wf_pixel.specs.Equal.{format_is, size_is}
 use Rattle.wf_pixel.specs.Place.{source_pixel, turned, turned_back}
 use Rattle.wf_pixel.specs.Arithmetic.{lift}
 use Rattle.wf_image.specs.Bitmap.{Bitmap, pixel}
@@ -48,24 +49,6 @@ turn_is R180 R270 same = absurd cc
 turn_is R270 R0 same = absurd cc
 turn_is R270 R90 same = absurd cc
 turn_is R270 R180 same = absurd cc
-
-format_is : (f g : Format) → same_format f g ≡ true → f ≡ g
-format_is Rgba8 Rgba8 same = refl
-format_is Rgba8Pre Rgba8Pre same = refl
-format_is Rgbx8 Rgbx8 same = refl
-format_is A8 A8 same = refl
-format_is Rgba8 Rgba8Pre same = absurd cc
-format_is Rgba8 Rgbx8 same = absurd cc
-format_is Rgba8 A8 same = absurd cc
-format_is Rgba8Pre Rgba8 same = absurd cc
-format_is Rgba8Pre Rgbx8 same = absurd cc
-format_is Rgba8Pre A8 same = absurd cc
-format_is Rgbx8 Rgba8 same = absurd cc
-format_is Rgbx8 Rgba8Pre same = absurd cc
-format_is Rgbx8 A8 same = absurd cc
-format_is A8 Rgba8 same = absurd cc
-format_is A8 Rgba8Pre same = absurd cc
-format_is A8 Rgbx8 same = absurd cc
 
 bool_is : (a b : Bool) → same_bool a b ≡ true → a ≡ b
 bool_is true b same = sym same
@@ -103,11 +86,6 @@ stacked_aux [] us c = refl
 stacked_aux (t ∷ ts) us c = stacked_aux ts (t ∷ us) c
 
 -- ---- equal layers
-size_is : (s t : Size) → same_size s t ≡ true → s ≡ t
-size_is s t same =
-    let parts = and_parts _ _ same in
-    λ i. record { w = nat_is s.w t.w parts.0 i; h = nat_is s.h t.h parts.1 i }
-
 colour_is : (s t : Rgba) → same_colour s t ≡ true → s ≡ t
 colour_is s t same =
     let abc = and_parts _ _ same in

@@ -1,13 +1,13 @@
 //! The objects of the display.
 
-ghost use Rattle.std.specs.Prelude.{◌≡◌, ◌<◌, ℕ, IfSome, IfNone, None, length, map};
+ghost use Rattle.std.specs.Prelude.{◌≡◌, ◌<◌, ◌≤◌, ℕ, IfSome, IfNone, None, length, map};
 ghost use Rattle.wf_words.specs.Keyed.{nth};
 ghost use Rattle.wf_model.specs.Display.{begun_display};
 ghost use Rattle.wf_display.specs.Display.{IsDisplay};
 ghost use Rattle.wf_display.specs.Fits.{Fits};
 
 use std::marker::Model;
-use wf_calls::Code;
+use wf_calls::{Code, MOST_PIPELINES};
 use wf_model::{DisplaySource, Pipeline, Port};
 use wf_stream::Store;
 
@@ -31,4 +31,22 @@ impl Model for Display {
     ghost view = { display_of };
 
     ghost invariant = { IsSound };
+}
+
+impl Display {
+    /// Returns the ports, by rising number from 1.
+    pub fn ports(&self) -> &[Port]
+        ensures ports { result.now ≡ self.now.ports }
+        ensures few { length result.now ≤ 4 }
+    {
+        &self.ports
+    }
+
+    /// Returns the pipelines, by rising number from 1.
+    pub fn pipelines(&self) -> &[Pipeline]
+        ensures pipelines { result.now ≡ self.now.pipelines }
+        ensures few { length result.now ≤ MOST_PIPELINES }
+    {
+        &self.pipelines
+    }
 }

@@ -19,8 +19,9 @@ use Rattle.wf_image.specs.Contents.{image_of}
 use Rattle.wf_scene.specs.declared.Layer.{Layer}
 use Rattle.wf_scene.specs.declared.Scene.{Scene}
 use Rattle.wf_model.specs.Picture.{Images, mask_of, texel_of, stacked, picture_pixel}
-use Rattle.wf_kernel.specs.Bound.{Bound, bound, point_of, bound_texel, bound_colour}
+use Rattle.wf_kernel.specs.Bound.{Bound, bound, point_of, texel_in, bound_texel, bound_colour}
 use Rattle.wf_kernel.specs.Prepared.{IsTable, AreTables, needs_table, tables_before, table_count}
+use Rattle.wf_kernel.proofs.Reaches.{cut_in}
 
 -- a map before or after a reversal
 reverse_aux-map : {X Y : Type 0} (f : X → Y) (xs ys : List X) → reverse_aux (map f xs) (map f ys) ≡ map f (reverse_aux xs ys)
@@ -39,13 +40,16 @@ point_is R180 size x y a b = λ i. (less size.w x a i, less size.h y b i)
 point_is R270 size x y a b = λ i. (less size.h y b i, pos x)
 
 -- ---- the colour of all layers
-pub bound_colour_is : (scene : Scene) (contents : Images) (x y : ℕ) → x < scene.size.w → y < scene.size.h
-    → bound_colour (map (bound scene contents) scene.layers.items) scene.background x y ≡ picture_pixel scene contents x y
-bound_colour_is scene contents x y a b =
+pub bound_colour_is : (scene : Scene) (contents : Images) (left right x y : ℕ) → left ≤ x → x < right → x < scene.size.w
+    → y < scene.size.h
+    → bound_colour (map (bound scene contents left right) scene.layers.items) scene.background x y ≡ picture_pixel scene contents x y
+bound_colour_is scene contents left right x y low high a b =
     let shown : Bound → Option Rgba = λ b. bound_texel b x y in
-    ap (λ (layers : List Bound). stacked (map shown layers) scene.background) (reverse_aux-map (bound scene contents) scene.layers.items [])
-    ∙ ap (λ (texels : List (Option Rgba)). stacked texels scene.background)
-    (map-map shown (bound scene contents) (reverse scene.layers.items))
+    let one : Layer → Bound = bound scene contents left right in
+    ap (λ (layers : List Bound). stacked (map shown layers) scene.background) (reverse_aux-map one scene.layers.items [])
+    ∙ ap (λ (texels : List (Option Rgba)). stacked texels scene.background) (map-map shown one (reverse scene.layers.items))
+    ∙ (λ i. stacked (map (λ l. cut_in left right x (texel_in (one l) (point_of (one l).turn (one l).space x y)) low high i)
+    (reverse scene.layers.items)) scene.background)
     ∙ ap (λ (p : ℤ × ℤ). stacked (map (λ l. texel_of l (image_of l.stream contents) (mask_of l (image_of l.mask contents) p.0 p.1) p.0 p.1)
     (reverse scene.layers.items)) scene.background)
     (point_is scene.turn scene.size x y a b)
@@ -112,44 +116,44 @@ table_room scene layers i d place n layers_are low place_is room needs =
     low needs
 
 -- the table of a layer
-pub table_for : (scene : Scene) (tables : List (List ℕ)) (layers : List Layer) (i place : ℕ) (d : Layer) (table : List ℕ)
-    → AreTables scene tables → layers ≡ scene.layers.items → i < length layers → place ≡ tables_before scene i
+pub table_for : (scene : Scene) (left right : ℕ) (tables : List (List ℕ)) (layers : List Layer) (i place : ℕ) (d : Layer)
+    (table : List ℕ) → AreTables scene left right tables → layers ≡ scene.layers.items → i < length layers → place ≡ tables_before scene i
     → (place < length tables → (e : List ℕ) → table ≡ get_or tables place e) → needs_table scene.turn (get_or layers i d) ≡ true
-    → IsTable scene.turn (turned scene.turn scene.size) (get_or layers i d) table
-table_for scene tables layers i place d table are layers_are low place_is table_is needs =
+    → IsTable scene.turn (turned scene.turn scene.size) left right (get_or layers i d) table
+table_for scene left right tables layers i place d table are layers_are low place_is table_is needs =
     let Has : List Layer → Type 0 = λ ls. i < length ls → needs_table scene.turn (get_or ls i d) ≡ true
-    → IsTable scene.turn (turned scene.turn scene.size) (get_or ls i d) table in
+    → IsTable scene.turn (turned scene.turn scene.size) left right (get_or ls i d) table in
     let At : ℕ → Type 0 = λ n. n < length tables → (e : List ℕ) → table ≡ get_or tables n e in
     let there : At (tables_before scene i) = subst At place_is table_is in
     let none : List ℕ = [] in
     subst Has (sym layers_are)
     (λ inside need.
     let found = are i d none inside need in
-    subst (λ (t : List ℕ). IsTable scene.turn (turned scene.turn scene.size) (get_or scene.layers.items i d) t)
+    subst (λ (t : List ℕ). IsTable scene.turn (turned scene.turn scene.size) left right (get_or scene.layers.items i d) t)
     (sym (there found.0 none)) found.1)
     low needs
 
 -- no table is needed
-pub no_tables : (scene : Scene) → table_count scene ≡ 0 → AreTables scene []
-no_tables scene none i d e low needs = absurd (let before = before_less scene i d low needs in omega (arith, before, none))
+pub no_tables : (scene : Scene) (left right : ℕ) → table_count scene ≡ 0 → AreTables scene left right []
+no_tables scene left right none i d e low needs = absurd (let before = before_less scene i d low needs in omega (arith, before, none))
 
 -- the tables of the layers so far
-abbrev pub AreFilled : Scene → List Layer → ℕ → ℕ → List (List ℕ) → Type 0
-AreFilled scene layers i place tables =
+abbrev pub AreFilled : Scene → ℕ → ℕ → List Layer → ℕ → ℕ → List (List ℕ) → Type 0
+AreFilled scene left right layers i place tables =
     (k : ℕ) (d : Layer) (e : List ℕ) → k < i → needs_table scene.turn (get_or layers k d) ≡ true
     → (tables_before scene k < place)
-    × IsTable scene.turn (turned scene.turn scene.size) (get_or layers k d) (get_or tables (tables_before scene k) e)
+    × IsTable scene.turn (turned scene.turn scene.size) left right (get_or layers k d) (get_or tables (tables_before scene k) e)
 
 -- one more table
-pub filled_more : (scene : Scene) (layers : List Layer) (i place next : ℕ) (d : Layer) (space : Size) (old new : List (List ℕ))
-    → i < length layers → place ≡ tables_before scene i → next ≡ tables_before scene (i + 1) → place ≤ next
+pub filled_more : (scene : Scene) (left right : ℕ) (layers : List Layer) (i place next : ℕ) (d : Layer) (space : Size)
+    (old new : List (List ℕ)) → i < length layers → place ≡ tables_before scene i → next ≡ tables_before scene (i + 1) → place ≤ next
     → (needs_table scene.turn (get_or layers i d) ≡ true → next ≡ place + 1)
     → ((k : ℕ) (e : List ℕ) → k < place → get_or new k e ≡ get_or old k e) → space ≡ turned scene.turn scene.size
     → (needs_table scene.turn (get_or layers i d) ≡ true → (e : List ℕ)
-    → IsTable scene.turn space (get_or layers i d) (get_or new place e))
-    → AreFilled scene layers i place old → AreFilled scene layers (i + 1) next new
-filled_more scene layers i place next d space old new low place_is next_is up taken same space_is table filled k c e behind needs =
-    let Is : Size → Layer → List ℕ → Type 0 = λ s l t. IsTable scene.turn s l t in
+    → IsTable scene.turn space left right (get_or layers i d) (get_or new place e))
+    → AreFilled scene left right layers i place old → AreFilled scene left right layers (i + 1) next new
+filled_more scene left right layers i place next d space old new low place_is next_is up taken same whole table filled k c e behind needs =
+    let Is : Size → Layer → List ℕ → Type 0 = λ s l t. IsTable scene.turn s left right l t in
     let full : Size = turned scene.turn scene.size in
     ⊎_elim
     (λ (under : k < i).
@@ -167,19 +171,19 @@ filled_more scene layers i place next d space old new low place_is next_is up ta
       omega (arith, one, place_is),
       subst (λ (n : ℕ). Is full (get_or layers i c) (get_or new n e)) place_is
           (subst (λ (l : Layer). Is full l (get_or new place e)) (sym layer)
-          (subst (λ (s : Size). Is s (get_or layers i d) (get_or new place e)) space_is (table need' e))),
+          (subst (λ (s : Size). Is s (get_or layers i d) (get_or new place e)) whole (table need' e))),
     ))
     needs)
     (cases_lt k i)
 
 -- all of them
-pub filled_all : (scene : Scene) (layers : List Layer) (i place : ℕ) (tables : List (List ℕ)) → layers ≡ scene.layers.items
-    → length layers ≤ i → place ≡ tables_before scene i → place ≤ length tables → AreFilled scene layers i place tables
-    → AreTables scene tables
-filled_all scene layers i place tables layers_are end place_is room filled k d e low needs =
+pub filled_all : (scene : Scene) (left right : ℕ) (layers : List Layer) (i place : ℕ) (tables : List (List ℕ))
+    → layers ≡ scene.layers.items → length layers ≤ i → place ≡ tables_before scene i → place ≤ length tables
+    → AreFilled scene left right layers i place tables → AreTables scene left right tables
+filled_all scene left right layers i place tables layers_are end place_is room filled k d e low needs =
     let Has : List Layer → Type 0 = λ ls. k < length ls → needs_table scene.turn (get_or ls k d) ≡ true
     → (tables_before scene k < length tables)
-    × IsTable scene.turn (turned scene.turn scene.size) (get_or ls k d) (get_or tables (tables_before scene k) e) in
+    × IsTable scene.turn (turned scene.turn scene.size) left right (get_or ls k d) (get_or tables (tables_before scene k) e) in
     subst Has layers_are
     (λ inside need.
     let found = filled k d e (omega (arith, inside, end)) need in

@@ -11,7 +11,7 @@ use Rattle.wf_model.specs.Picture.{on_top}
 use Rattle.wf_kernel.specs.declared.spans.Span.{Span}
 use Rattle.wf_kernel.specs.declared.strips.Strip.{Strip}
 use Rattle.wf_kernel.specs.Bound.{Bound, bound_texel, bound_colour, layer_at, no_bound}
-use Rattle.wf_kernel.specs.Placed.{placed}
+use Rattle.wf_kernel.specs.Placed.{placed, column_of, row_of}
 use Rattle.wf_kernel.specs.Spans.{IsReach}
 use Rattle.wf_kernel.specs.Hiding.{IsCover, IsBeside}
 use Rattle.wf_kernel.specs.Strips.{IsStrip, IsCut}
@@ -20,19 +20,19 @@ use Rattle.wf_kernel.proofs.Shown.{bound_beside, bound_above}
 use Rattle.wf_kernel.proofs.Stacks.{colour_more}
 
 -- ---- pieces that a layer does not reach
-pub beside_left : (b : Bound) (columns : Span) (first w y : ℕ) → IsReach (placed b).x (placed b).w columns → first + w ≤ columns.start
+pub beside_left : (b : Bound) (columns : Span) (first w y : ℕ) → IsReach (column_of b) (placed b).w columns → first + w ≤ columns.start
     → IsBeside b first w y
 beside_left b columns first w y reach low x within = bound_beside b (first + x) y (reach.before (first + x) (omega arith))
 
-pub beside_right : (b : Bound) (columns : Span) (first w y : ℕ) → IsReach (placed b).x (placed b).w columns
+pub beside_right : (b : Bound) (columns : Span) (first w y : ℕ) → IsReach (column_of b) (placed b).w columns
     → columns.start + columns.len ≤ first → IsBeside b first w y
 beside_right b columns first w y reach high x within = bound_beside b (first + x) y (reach.behind (first + x) (omega arith))
 
-pub beside_above : (b : Bound) (rows : Span) (first w y : ℕ) → IsReach (placed b).y (placed b).h rows → y < rows.start
+pub beside_above : (b : Bound) (rows : Span) (first w y : ℕ) → IsReach (row_of b) (placed b).h rows → y < rows.start
     → IsBeside b first w y
 beside_above b rows first w y reach low x within = bound_above b (first + x) y (reach.before y low)
 
-pub beside_below : (b : Bound) (rows : Span) (first w y : ℕ) → IsReach (placed b).y (placed b).h rows → rows.start + rows.len ≤ y
+pub beside_below : (b : Bound) (rows : Span) (first w y : ℕ) → IsReach (row_of b) (placed b).h rows → rows.start + rows.len ≤ y
     → IsBeside b first w y
 beside_below b rows first w y reach high x within = bound_above b (first + x) y (reach.behind y high)
 

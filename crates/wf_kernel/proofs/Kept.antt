@@ -148,11 +148,11 @@ block_part b image tag block i s other at count is crossed part other_is at_is c
     ∙ crossed_colour b image (s.across + j) s.down (across b.turn b.layer (s.across + j)) crossed refl)
 
 -- the part of a layer's table at the columns of a stretch
-pub places_are : (b : Bound) (table : List ℕ) (s : Stretch) (count : ℕ) → IsTable b.turn b.space b.layer table → IsStretch b s
-    → count ≡ s.len → (i : ℕ) → i < s.len → get_or (chunk s.x count table) i 0 ≡ across b.turn b.layer (s.across + i)
+pub places_are : (b : Bound) (table : List ℕ) (s : Stretch) (count : ℕ) → IsTable b.turn b.space b.left b.right b.layer table
+    → IsStretch b s → count ≡ s.len → (i : ℕ) → i < s.len → get_or (chunk s.x count table) i 0 ≡ across b.turn b.layer (s.across + i)
 places_are b table s count is stretch count_is i low =
     let high = stretch.high in
-    get_or-chunk s.x count table i 0 (omega arith) ∙ is.holds (s.x + i) (s.across + i) (omega arith) (stretch.columns i low)
+    get_or-chunk s.x count table i 0 (omega arith) ∙ is.holds (s.x + i) (s.across + i) (stretch.columns i low)
 
 -- a line that was filled
 pub line_kept : (b : Bound) (image : Bitmap) (n a d : ℕ) (bytes part rest : List ℕ)

@@ -25,7 +25,7 @@ use Rattle.wf_kernel.specs.declared.strips.Strip.{Strip}
 use Rattle.wf_kernel.specs.Bound.{Bound, IsShowable, bound_colour, bound_row, bound_rows, bound_texel, layer_at, no_bound}
 use Rattle.wf_kernel.specs.Hiding.{IsCover}
 use Rattle.wf_kernel.specs.Laid.{IsStretch, IsStretchIn, laid, lifted_pixel}
-use Rattle.wf_kernel.specs.Placed.{placed, across, down, from_left, from_top, is_crossed, is_quarter, source_colour}
+use Rattle.wf_kernel.specs.Placed.{placed, row_of, across, down, from_left, from_top, is_crossed, is_quarter, source_colour}
 use Rattle.wf_kernel.specs.Level.{IsLevel}
 use Rattle.wf_kernel.specs.Strips.{IsStrip}
 use Rattle.wf_kernel.proofs.Blended.{blended_drawn}
@@ -253,7 +253,7 @@ level_laid b image w n y s src part showable source level is wide within src_len
       below = low;
       columns = λ i less. stretch.columns i (omega arith);
       row = along_next (placed b).y (placed b).h y s.down k
-          (ap (λ (j : ℕ). along (placed b).y (placed b).h (pos j)) (sym y_is) ∙ stretch.row) low;
+          (ap (row_of b) (sym y_is) ∙ stretch.row) low;
     } in
     copied_laid b image at (chunk (k * (4 * w)) (4 * w) src) old level.copied line count
     ∙ stretch_shown b image at old showable source there

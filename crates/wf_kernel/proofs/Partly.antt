@@ -1,7 +1,7 @@
 -- Pixels of a part are written row by row, and the others stay.
 use Rattle.std.proofs.Common.{◌≡◌, ℕ, ◌+◌, ◌-◌, ◌*◌, ◌<◌, ◌≤◌, List, ◌++◌, length, take, drop, get_or, refl, sym, ap, ◌∙◌, arith}
 use Rattle.std.proofs.Common.{Bool, true, false, ℤ, pos, negsuc, inl, inr, ◌≢◌, length-append, length-take, length-drop}
-use Rattle.std.specs.Prelude.{flat_map, nat_le, nat_lt, ◌&&◌, is_some, if◌then◌else◌, map}
+use Rattle.std.specs.Prelude.{flat_map, nat_le, nat_lt, ◌&&◌, is_some, if◌then◌else◌}
 use Rattle.std.specs.List.{range_with_len}
 use Rattle.std.proofs.Math.Seq.{get_or-append_right}
 use Rattle.std.proofs.Math.ListN.{get_or-append}
@@ -12,14 +12,16 @@ use Rattle.std.proofs.lemmas.Int.{ints}
 use borrow.Rule.Slice.PartMut.{put_mid}
 use Rattle.wf_pixel.specs.declared.Rgba.{Rgba}
 use Rattle.wf_pixel.specs.declared.Rect.{Rect}
+use Rattle.wf_pixel.specs.declared.Rotation.{Rotation}
+use Rattle.wf_pixel.specs.declared.Rotation.TheVariants.{R0, R90, R180, R270}
 use Rattle.wf_pixel.specs.declared.Size.{Size}
+use Rattle.wf_pixel.specs.Place.{turned, turned_back}
 use Rattle.wf_pixel.specs.declared.Format.TheVariants.{Rgba8Pre}
 use Rattle.wf_pixel.specs.Along.{along}
 use Rattle.wf_image.specs.Bitmap.{Bitmap, stored, read_at, drawn_row, drawn, pixel, pixel_bytes}
 use Rattle.wf_kernel.specs.declared.parts.Part.{Part}
 use Rattle.wf_kernel.specs.Parts.{covers, covers_at, part_picture}
-use Rattle.wf_kernel.specs.PartOfTarget.{holds, IsPart, IsPartly}
-use Rattle.wf_kernel.specs.Bound.{bound, bound_colour}
+use Rattle.wf_kernel.specs.PartOfTarget.{holds, part_colour, turned_part, IsPart, IsPartly}
 use Rattle.wf_kernel.proofs.Bindings.{bound_colour_is}
 use Rattle.wf_image.specs.Bitmap.{image_bytes}
 use Rattle.wf_image.specs.Lending.{with_bytes}
@@ -228,29 +230,53 @@ far_side : (x : ℤ) (w n start end j : ℕ) → start ≤ end → end ≤ n →
     → (nat_le (n - end) j && nat_lt j (n - start)) ≡ is_some (along x w (pos (n - 1 - j)))
 far_side x w n start end j order within low side = mirror n start end j order within low ∙ side (n - 1 - j) (omega arith)
 
-pub part_90 : (a : Rect) (w h l r t b x y : ℕ) → t ≤ b → b ≤ h → side_holds a.x a.w w l r → side_holds a.y a.h h t b → x < h → y < w
-    → ((nat_le (h - b) x && nat_lt x (h - t)) && (nat_le l y && nat_lt y r)) ≡ covers a (pos y) (pos (h - 1 - x))
-part_90 a w h l r t b x y order within columns rows x_low y_low =
-    and_turned (nat_le (h - b) x && nat_lt x (h - t)) (nat_le l y && nat_lt y r)
-    ∙ (λ i. columns y y_low i && far_side a.y a.h h t b x order within x_low rows i)
+-- an area of the space, turned into the target, lies in it
+pub turned_is : (turn : Rotation) (size : Size) (p : Part) → IsPart (turned turn size).w (turned turn size).h p
+    → IsPart size.w size.h (turned_part turn (turned turn size) p)
+turned_is R0 size p is = is
+turned_is R90 size p is =
+    let rows = is.rows in
+    record { columns = omega arith; right = omega arith; rows = is.columns; bottom = is.right }
+turned_is R180 size p is =
+    let columns = is.columns in let rows = is.rows in
+    record { columns = omega arith; right = omega arith; rows = omega arith; bottom = omega arith }
+turned_is R270 size p is =
+    let columns = is.columns in
+    record { columns = is.rows; right = is.bottom; rows = omega arith; bottom = omega arith }
 
-pub part_180 : (a : Rect) (w h l r t b x y : ℕ) → l ≤ r → r ≤ w → t ≤ b → b ≤ h → side_holds a.x a.w w l r → side_holds a.y a.h h t b
-    → x < w → y < h
-    → ((nat_le (w - r) x && nat_lt x (w - l)) && (nat_le (h - b) y && nat_lt y (h - t))) ≡ covers a (pos (w - 1 - x)) (pos (h - 1 - y))
-part_180 a w h l r t b x y l_r r_w t_b b_h columns rows x_low y_low =
-    λ i. far_side a.x a.w w l r x l_r r_w x_low columns i && far_side a.y a.h h t b y t_b b_h y_low rows i
-
-pub part_270 : (a : Rect) (w h l r t b x y : ℕ) → l ≤ r → r ≤ w → side_holds a.x a.w w l r → side_holds a.y a.h h t b → x < h → y < w
-    → ((nat_le t x && nat_lt x b) && (nat_le (w - r) y && nat_lt y (w - l))) ≡ covers a (pos (w - 1 - y)) (pos x)
-part_270 a w h l r t b x y order within columns rows x_low y_low =
-    and_turned (nat_le t x && nat_lt x b) (nat_le (w - r) y && nat_lt y (w - l))
-    ∙ (λ i. far_side a.x a.w w l r y order within y_low columns i && rows x x_low i)
+-- and holds the pixels that come from the area
+pub turned_holds : (turn : Rotation) (size : Size) (a : Rect) (p : Part) (x y : ℕ) → IsPart (turned turn size).w (turned turn size).h p
+    → side_holds a.x a.w (turned turn size).w p.left p.right → side_holds a.y a.h (turned turn size).h p.top p.bottom
+    → x < size.w → y < size.h → let q : ℕ × ℕ = turned_back turn (turned turn size) x y in
+    holds (turned_part turn (turned turn size) p) x y ≡ covers a (pos q.0) (pos q.1)
+turned_holds R0 size a p x y is columns rows x_low y_low = λ i. columns x x_low i && rows y y_low i
+turned_holds R90 size a p x y is columns rows x_low y_low =
+    and_turned (nat_le (size.w - p.bottom) x && nat_lt x (size.w - p.top)) (nat_le p.left y && nat_lt y p.right)
+    ∙ (λ i. columns y y_low i && far_side a.y a.h size.w p.top p.bottom x is.rows is.bottom x_low rows i)
+turned_holds R180 size a p x y is columns rows x_low y_low =
+    λ i. far_side a.x a.w size.w p.left p.right x is.columns is.right x_low columns i
+    && far_side a.y a.h size.h p.top p.bottom y is.rows is.bottom y_low rows i
+turned_holds R270 size a p x y is columns rows x_low y_low =
+    and_turned (nat_le p.top x && nat_lt x p.bottom) (nat_le (size.h - p.right) y && nat_lt y (size.h - p.left))
+    ∙ (λ i. far_side a.x a.w size.h p.left p.right y is.columns is.right y_low columns i && rows x x_low i)
 
 -- ---- an image whose bytes hold the part
+-- the colours of a part at the pixels that it holds
+held_columns : (p : Part) (x y : ℕ) → holds p x y ≡ true → (p.left ≤ x) × (x < p.right)
+held_columns p x y e = (grind (arith, nat_tests), grind (arith, nat_tests))
+
+colour_held : (s : Scene) (contents : Images) (p : Part) (x y : ℕ) (old : Rgba) (held : Bool) → holds p x y ≡ held → x < s.size.w
+    → y < s.size.h
+    → (if held then part_colour s contents p x y else old) ≡ (if held then picture_pixel s contents x y else old)
+colour_held s contents p x y old true is x_low y_low =
+    let columns = held_columns p x y is in
+    bound_colour_is s contents p.left p.right x y columns.0 columns.1 x_low y_low
+colour_held s contents p x y old false is x_low y_low = refl
+
 pub part_is : (s : Scene) (contents : Images) (a : Rect) (p : Part) (image : Bitmap) (bytes : List ℕ) → image.size ≡ s.size
     → pixel_bytes image.format ≡ 4 → length image.bytes ≡ image_bytes image.size image.format
     → ((x y : ℕ) → x < s.size.w → y < s.size.h → holds p x y ≡ covers_at s a x y)
-    → IsPartly s.size.w s.size.h (bound_colour (map (bound s contents) s.layers.items) s.background) p image.bytes bytes
+    → IsPartly s.size.w s.size.h (part_colour s contents p) p image.bytes bytes
     → with_bytes image bytes ≡ part_picture s contents a image
 unfolding drawn
 part_is s contents a p image bytes size four count same partly =
@@ -274,8 +300,6 @@ part_is s contents a p image bytes size four count same partly =
     ∙ ap (λ (k : ℕ). read_at image.format image.bytes k) (omega arith ∙ ap (λ (k : ℕ). (y * w + x) * k) (sym four)) in
     ap (λ (k : ℕ). pixel_in k bytes x y) wide
     ∙ partly.pixels x y x_in y_in
-    ∙ ap (λ (b : Bool).
-    if b then bound_colour (map (bound s contents) s.layers.items) s.background x y else pixel_in s.size.w image.bytes x y)
-    (same x y x_in y_in)
-    ∙ (λ i. if covers_at s a x y then bound_colour_is s contents x y x_in y_in i else old i)) in
+    ∙ colour_held s contents p x y (pixel_in s.size.w image.bytes x y) (holds p x y) refl x_in y_in
+    ∙ (λ i. if same x y x_in y_in i then picture_pixel s contents x y else old i)) in
     rw (all) (λ i. record { size = image.size; format = image.format; bytes = is i })

@@ -35,12 +35,13 @@ picture_bytes : (scene : Scene) (contents : Images) (format : Format) → pixel_
     → bound_picture scene contents ≡ (picture scene contents format).bytes
 unfolding drawn
 picture_bytes scene contents format four =
-    let layers = map (bound scene contents) scene.layers.items in
+    let layers = map (bound scene contents 0 scene.size.w) scene.layers.items in
     pieces_same (λ y. bound_row scene.size.w layers scene.background y)
     (λ y. drawn_row scene.size.w format (λ x. picture_pixel scene contents x y)) 0 scene.size.h
     (λ y from below. pieces_same (λ x. stored Rgba8Pre (bound_colour layers scene.background x y))
     (λ x. stored format (picture_pixel scene contents x y)) 0 scene.size.w
-    (λ x start within. ap (stored Rgba8Pre) (bound_colour_is scene contents x y (omega arith) (omega arith))
+    (λ x start within. ap (stored Rgba8Pre)
+    (bound_colour_is scene contents 0 scene.size.w x y (omega arith) (omega arith) (omega arith) (omega arith))
     ∙ stored_four format (picture_pixel scene contents x y) four))
 
 -- an image that gets these bytes is the picture
@@ -51,7 +52,8 @@ unfolding drawn
 picture_is scene contents image bytes size_is four count bytes_are =
     let count_is : length image.bytes ≡ scene.size.w * scene.size.h * 4 = count ∙ rw (size_is, four) refl in
     let len : length bytes ≡ length image.bytes =
-    ap length bytes_are ∙ length-bound_rows scene.size.w (map (bound scene contents) scene.layers.items) scene.background 0 scene.size.h
+    ap length bytes_are
+    ∙ length-bound_rows scene.size.w (map (bound scene contents 0 scene.size.w) scene.layers.items) scene.background 0 scene.size.h
     ∙ omega (arith, count_is) in
     let all : take (length image.bytes) (bytes ++ drop (length bytes) image.bytes) ≡ bytes =
     take_at bytes (drop (length bytes) image.bytes) (length image.bytes) len in

@@ -43,26 +43,27 @@ pub down_is : {a b : Bound} {r : ℕ} (d : ℕ) → a ≡ b → r ≡ down a.tur
 down_is d same is = is ∙ ap (λ (b : Bound). down b.turn b.layer d) same
 
 -- ---- the pixel of the source by the distances on the target
-pub place_is : (t u : Rotation) (l : Layer) (source mask : _) (s : Size) (a d : ℕ)
+pub place_is : (t u : Rotation) (l : Layer) (source mask : _) (s : Size) (left right a d : ℕ)
     → let q : ℕ × ℕ = turned_back t (size_of l.dest) a d in
     source_pixel l.src l.flip u l.dest q.0 q.1
-    ≡ source_place (record { layer = record l { turn = u }; source = source; mask = mask; turn = t; space = s }) a d
-place_is R0 R0 l source mask s a d = refl
-place_is R0 R90 l source mask s a d = refl
-place_is R0 R180 l source mask s a d = refl
-place_is R0 R270 l source mask s a d = refl
-place_is R90 R0 l source mask s a d = refl
-place_is R90 R90 l source mask s a d = refl
-place_is R90 R180 l source mask s a d = refl
-place_is R90 R270 l source mask s a d = refl
-place_is R180 R0 l source mask s a d = refl
-place_is R180 R90 l source mask s a d = refl
-place_is R180 R180 l source mask s a d = refl
-place_is R180 R270 l source mask s a d = refl
-place_is R270 R0 l source mask s a d = refl
-place_is R270 R90 l source mask s a d = refl
-place_is R270 R180 l source mask s a d = refl
-place_is R270 R270 l source mask s a d = refl
+    ≡ source_place
+    (record { layer = record l { turn = u }; source = source; mask = mask; turn = t; space = s; left = left; right = right }) a d
+place_is R0 R0 l source mask s left right a d = refl
+place_is R0 R90 l source mask s left right a d = refl
+place_is R0 R180 l source mask s left right a d = refl
+place_is R0 R270 l source mask s left right a d = refl
+place_is R90 R0 l source mask s left right a d = refl
+place_is R90 R90 l source mask s left right a d = refl
+place_is R90 R180 l source mask s left right a d = refl
+place_is R90 R270 l source mask s left right a d = refl
+place_is R180 R0 l source mask s left right a d = refl
+place_is R180 R90 l source mask s left right a d = refl
+place_is R180 R180 l source mask s left right a d = refl
+place_is R180 R270 l source mask s left right a d = refl
+place_is R270 R0 l source mask s left right a d = refl
+place_is R270 R90 l source mask s left right a d = refl
+place_is R270 R180 l source mask s left right a d = refl
+place_is R270 R270 l source mask s left right a d = refl
 
 -- ---- a side counted from the other end
 along_sum : (x : ℤ) (w : ℕ) (z : ℤ) (a : ℕ) → along x w z ≡ Some a → z ≡ x +ℤ pos a

@@ -12,11 +12,12 @@ use Rattle.wf_image.specs.Bitmap.{Bitmap, pixel}
 use Rattle.wf_scene.specs.declared.Layer.{Layer}
 use Rattle.wf_scene.specs.Layers.{holds_rect}
 use Rattle.wf_model.specs.Picture.{mask_of, texel_of}
-use Rattle.wf_kernel.specs.Bound.{Bound, IsShowable, point_of, bound_texel}
-use Rattle.wf_kernel.specs.Placed.{placed, source_place, mask_value}
+use Rattle.wf_kernel.specs.Bound.{Bound, IsShowable, point_of, texel_in, bound_texel}
+use Rattle.wf_kernel.specs.Placed.{placed, column_of, row_of, source_place, mask_value}
 use Rattle.wf_kernel.specs.Laid.{mode_of, fade_of, lifted_pixel, lifted_texel, placed_texel}
 use Rattle.wf_kernel.proofs.Placed.{IsOutside, beside, above, place_is, placed_along, back_low, source_low, holds_x, holds_y, beside_target}
 use Rattle.wf_kernel.proofs.Placed.{above_target}
+use Rattle.wf_kernel.proofs.Reaches.{cut_in, cut_none, cut_some}
 
 -- the texel by the distances from the destination's corner, where the mask has this value
 abbrev pub texel_by : Layer → Bitmap → Option ℕ → Option ℕ → Option ℕ → Option Rgba
@@ -50,24 +51,29 @@ outside l (Some image) value p (above e) =
     none_above l image value None = refl
     none_above l image value (Some d) = refl
 
-pub bound_beside : (b : Bound) (x y : ℕ) → along (placed b).x (placed b).w (pos x) ≡ None → bound_texel b x y ≡ None
+pub bound_beside : (b : Bound) (x y : ℕ) → column_of b x ≡ None → bound_texel b x y ≡ None
 bound_beside b x y e =
     let p : ℤ × ℤ = point_of b.turn b.space x y in
-    outside b.layer b.source (mask_of b.layer b.mask p.0 p.1) p (beside_target b.turn b.space b.layer.dest x y e)
+    cut_none b.left b.right x (texel_in b p)
+    (λ low high. outside b.layer b.source (mask_of b.layer b.mask p.0 p.1) p
+    (beside_target b.turn b.space b.layer.dest x y
+    (sym (cut_in b.left b.right x (along (placed b).x (placed b).w (pos x)) low high) ∙ e)))
 
-pub bound_above : (b : Bound) (x y : ℕ) → along (placed b).y (placed b).h (pos y) ≡ None → bound_texel b x y ≡ None
+pub bound_above : (b : Bound) (x y : ℕ) → row_of b y ≡ None → bound_texel b x y ≡ None
 bound_above b x y e =
     let p : ℤ × ℤ = point_of b.turn b.space x y in
-    outside b.layer b.source (mask_of b.layer b.mask p.0 p.1) p (above_target b.turn b.space b.layer.dest x y e)
+    cut_none b.left b.right x (texel_in b p)
+    (λ low high. outside b.layer b.source (mask_of b.layer b.mask p.0 p.1) p (above_target b.turn b.space b.layer.dest x y e))
 
 -- nor without an image
 pub bound_nothing : (b : Bound) (x y : ℕ) → b.source ≡ None → bound_texel b x y ≡ None
 bound_nothing b x y none =
     let p : ℤ × ℤ = point_of b.turn b.space x y in
-    ap (λ (s : Option Bitmap). texel_of b.layer s (mask_of b.layer b.mask p.0 p.1) p.0 p.1) none
+    cut_none b.left b.right x (texel_in b p)
+    (λ low high. ap (λ (s : Option Bitmap). texel_of b.layer s (mask_of b.layer b.mask p.0 p.1) p.0 p.1) none
     ∙ no_image
     (option_and_then (λ d. option_map (source_pixel b.layer.src b.layer.flip b.layer.turn b.layer.dest d)
-    (along b.layer.dest.y b.layer.dest.h p.1)) (along b.layer.dest.x b.layer.dest.w p.0))
+    (along b.layer.dest.y b.layer.dest.h p.1)) (along b.layer.dest.x b.layer.dest.w p.0)))
   where
     no_image : (place : Option (ℕ × ℕ)) → (place >>= (λ p. let empty : Option Rgba = None in empty)) ≡ None
     no_image None = refl
@@ -138,16 +144,24 @@ texel_at_place b true image (Some m) p dx dy colours ex ey =
     ∙ ap Some (lift_masked (pixel image place.0 place.1) image.format l.transparency.alpha l.transparency.source l.alpha (pixel m dx dy).a
     colours)
 
+-- a column that is asked for
+pub column_shown : (b : Bound) (x y a : ℕ) → column_of b x ≡ Some a
+    → (bound_texel b x y ≡ texel_in b (point_of b.turn b.space x y)) × (along (placed b).x (placed b).w (pos x) ≡ Some a)
+column_shown b x y a e =
+    let there = cut_some b.left b.right x (along (placed b).x (placed b).w (pos x)) a e in
+    (cut_in b.left b.right x (texel_in b (point_of b.turn b.space x y)) there.0 there.1.0, there.1.1)
+
 -- by the distances on the target
 pub texel_is : (b : Bound) (image : Bitmap) (x y a d : ℕ) → b.source ≡ Some image → image.format ≢ A8
-    → along (placed b).x (placed b).w (pos x) ≡ Some a → along (placed b).y (placed b).h (pos y) ≡ Some d
-    → bound_texel b x y ≡ placed_texel b image a d
+    → column_of b x ≡ Some a → row_of b y ≡ Some d → bound_texel b x y ≡ placed_texel b image a d
 texel_is b image x y a d source colours ex ey =
     let p : ℤ × ℤ = point_of b.turn b.space x y in
     let q : ℕ × ℕ = turned_back b.turn (size_of b.layer.dest) a d in
-    let both = placed_along b.turn b.space b.layer.dest x y a d ex ey in
+    let column = column_shown b x y a ex in
+    let both = placed_along b.turn b.space b.layer.dest x y a d column.1 ey in
     let l : Layer = b.layer in
-    ap (λ (s : Option Bitmap). texel_of l s (mask_of l b.mask p.0 p.1) p.0 p.1) source
+    column.0
+    ∙ ap (λ (s : Option Bitmap). texel_of l s (mask_of l b.mask p.0 p.1) p.0 p.1) source
     ∙ texel_at_place b l.transparency.mask image b.mask p q.0 q.1 colours both.0 both.1
     ∙ ap (λ (place : ℕ × ℕ). if l.transparency.mask then b.mask >>=
     (λ m. Some
@@ -155,7 +169,7 @@ texel_is b image x y a d source colours ex ey =
     (pixel image place.0 place.1)) (mask_value b m a d)))
     else Some (lifted_pixel (mode_of image.format l.transparency.source) (fade_of l.transparency.alpha l.alpha)
     (pixel image place.0 place.1)))
-    (place_is b.turn l.turn l b.source b.mask b.space a d)
+    (place_is b.turn l.turn l b.source b.mask b.space b.left b.right a d)
 
 -- ---- the pixel lies in the image
 abbrev Holds : Layer → Option Bitmap → Type 0
@@ -179,7 +193,7 @@ place_low b image a d showable source low high =
     let held = subst (Holds l) source showable.has_source in
     let x = holds_x image.size l.src held.1 showable.src_x in
     let y = holds_y image.size l.src held.1 showable.src_y in
-    let at = place_is b.turn l.turn l b.source b.mask b.space a d in
+    let at = place_is b.turn l.turn l b.source b.mask b.space b.left b.right a d in
     let first : (source_place b a d).0 ≡ (source_pixel l.src l.flip l.turn l.dest q.0 q.1).0 = ap (λ (p : ℕ × ℕ). p.0) (sym at) in
     let second : (source_place b a d).1 ≡ (source_pixel l.src l.flip l.turn l.dest q.0 q.1).1 = ap (λ (p : ℕ × ℕ). p.1) (sym at) in
     let u = in_source.0 in

@@ -1,12 +1,11 @@
 -- Layers that hide what is below them.
-use Rattle.std.specs.Prelude.{◌≡◌, ℕ, ◌+◌, ◌<◌, ◌==◌, ◌&&◌, Bool, true, false, if◌then◌else◌, pos, Option, None, Some}
+use Rattle.std.specs.Prelude.{◌≡◌, ℕ, ◌+◌, ◌<◌, ◌==◌, ◌&&◌, Bool, true, false, if◌then◌else◌, Option, None, Some}
 use Rattle.wf_pixel.specs.declared.Rgba.{Rgba}
 use Rattle.wf_pixel.specs.declared.Format.{Format}
 use Rattle.wf_pixel.specs.declared.Format.TheVariants.{Rgbx8}
-use Rattle.wf_pixel.specs.Along.{along}
 use Rattle.wf_scene.specs.declared.Layer.{Layer}
 use Rattle.wf_kernel.specs.Bound.{Bound, bound_texel}
-use Rattle.wf_kernel.specs.Placed.{placed}
+use Rattle.wf_kernel.specs.Placed.{column_of, row_of}
 
 -- a texel of alpha 255
 pub record IsOpaque (texel : Option Rgba) : Type 0 where
@@ -25,8 +24,7 @@ IsBeside b first w y = (x : ℕ) → x < w → bound_texel b (first + x) y ≡ N
 -- the layer shows an opaque texel at each point of its destination
 abbrev pub HidesBelow : Bound → Type 0
 HidesBelow b =
-    (x a y d : ℕ) → along (placed b).x (placed b).w (pos x) ≡ Some a → along (placed b).y (placed b).h (pos y) ≡ Some d
-    → IsOpaque (bound_texel b x y)
+    (x a y d : ℕ) → column_of b x ≡ Some a → row_of b y ≡ Some d → IsOpaque (bound_texel b x y)
 
 -- alpha is read as 255
 abbrev pub is_rgbx : Format → Bool

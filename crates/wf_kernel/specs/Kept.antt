@@ -21,7 +21,6 @@ IsBlock b image tag block =
 
 -- what is kept is what its tags say
 pub record AreKept (layers : List Bound) (k : Kept) : Type 0 where
-  pub width : k.width ≤ MOST_SIDE
   pub line_len : k.line_of.len ≤ MOST_SIDE
   pub line : (image : Bitmap) → (layer_at layers k.line_of.layer).source ≡ Some image
       → IsLine (layer_at layers k.line_of.layer) image k.line_of k.line

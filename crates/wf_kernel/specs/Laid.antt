@@ -1,10 +1,9 @@
 -- A row of pixels with a layer laid over it.
-use Rattle.std.specs.Prelude.{◌≡◌, ℕ, ◌+◌, ◌*◌, ◌<◌, ◌≤◌, List, Option, None, Some, Bool, true, false, pos, if◌then◌else◌}
+use Rattle.std.specs.Prelude.{◌≡◌, ℕ, ◌+◌, ◌*◌, ◌<◌, ◌≤◌, List, Option, None, Some, Bool, true, false, if◌then◌else◌}
 use Rattle.wf_words.specs.Options.{◌>>=◌}
 use Rattle.wf_pixel.specs.declared.Rgba.{Rgba}
 use Rattle.wf_pixel.specs.declared.Format.{Format}
 use Rattle.wf_pixel.specs.declared.Format.TheVariants.{Rgba8, Rgba8Pre}
-use Rattle.wf_pixel.specs.Along.{along}
 use Rattle.wf_pixel.specs.Arithmetic.{mul, scaled, opaque}
 use Rattle.wf_row.specs.declared.AlphaMode.{AlphaMode}
 use Rattle.wf_row.specs.declared.AlphaMode.TheVariants.{Premultiplied, Straight, Opaque}
@@ -12,7 +11,7 @@ use Rattle.wf_image.specs.Bitmap.{Bitmap, read_at, drawn_row}
 use Rattle.wf_model.specs.Picture.{on_top}
 use Rattle.wf_kernel.specs.declared.stretch.Stretch.{Stretch}
 use Rattle.wf_kernel.specs.Bound.{Bound, bound_texel}
-use Rattle.wf_kernel.specs.Placed.{placed, source_colour, mask_value}
+use Rattle.wf_kernel.specs.Placed.{placed, column_of, row_of, source_colour, mask_value}
 use Rattle.wf_pixel.specs.declared.TheConstants.{MOST_SIDE}
 
 -- w pixels of a row, each with the texel at its place over it where there is one
@@ -25,8 +24,8 @@ pub record IsStretch (b : Bound) (s : Stretch) : Type 0 where
   pub high : s.x + s.len ≤ MOST_SIDE
   pub inside : s.across + s.len ≤ (placed b).w
   pub below : s.down < (placed b).h
-  pub columns : (i : ℕ) → i < s.len → along (placed b).x (placed b).w (pos (s.x + i)) ≡ Some (s.across + i)
-  pub row : along (placed b).y (placed b).h (pos s.y) ≡ Some s.down
+  pub columns : (i : ℕ) → i < s.len → column_of b (s.x + i) ≡ Some (s.across + i)
+  pub row : row_of b s.y ≡ Some s.down
 
 -- the pixels of a piece of row y that a layer covers, of which the piece has `width` from column `first` on
 pub record IsStretchIn (b : Bound) (first width y : ℕ) (s : Stretch) : Type 0 where

@@ -1,15 +1,16 @@
 -- Where a layer lies on the target, and which pixel of its source shows at a distance from there.
-use Rattle.std.specs.Prelude.{ℕ, ◌+◌, ◌-◌, ℤ, ◌+ℤ◌, ◌-ℤ◌, pos, nat_abs, Bool, true, false, if◌then◌else◌}
+use Rattle.std.specs.Prelude.{ℕ, ◌+◌, ◌-◌, ℤ, ◌+ℤ◌, ◌-ℤ◌, pos, nat_abs, Bool, true, false, if◌then◌else◌, Option}
 use Rattle.wf_pixel.specs.declared.Rgba.{Rgba}
 use Rattle.wf_pixel.specs.declared.Rect.{Rect}
 use Rattle.wf_pixel.specs.declared.Rotation.{Rotation}
 use Rattle.wf_pixel.specs.declared.Rotation.TheVariants.{R0, R90, R180, R270}
 use Rattle.wf_pixel.specs.declared.Size.{Size}
+use Rattle.wf_pixel.specs.Along.{along}
 use Rattle.wf_pixel.specs.Arithmetic.{samp}
 use Rattle.wf_pixel.specs.Place.{turned, turned_back, size_of}
 use Rattle.wf_image.specs.Bitmap.{Bitmap, pixel}
 use Rattle.wf_scene.specs.declared.Layer.{Layer}
-use Rattle.wf_kernel.specs.Bound.{Bound}
+use Rattle.wf_kernel.specs.Bound.{Bound, cut_to}
 
 -- where a side of w pixels from x on begins, counted from the other end of n pixels
 abbrev pub mirrored : ℕ → ℤ → ℕ → ℤ
@@ -36,6 +37,14 @@ turned_rect turn s r =
 -- the destination on the target
 abbrev pub placed : Bound → Rect
 placed b = turned_rect b.turn b.space b.layer.dest
+
+-- how far a column that is asked for lies behind the left side of the destination on the target, where it shows there
+abbrev pub column_of : Bound → ℕ → Option ℕ
+column_of b x = cut_to b.left b.right x (along (placed b).x (placed b).w (pos x))
+
+-- how far a row lies below its top
+abbrev pub row_of : Bound → ℕ → Option ℕ
+row_of b y = along (placed b).y (placed b).h (pos y)
 
 -- a row of a source of h rows, which may be flipped
 abbrev pub flipped : Bool → ℕ → ℕ → ℕ

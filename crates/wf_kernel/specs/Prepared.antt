@@ -1,5 +1,5 @@
 -- What is worked out of a layer once for all rows of its target.
-use Rattle.std.specs.Prelude.{◌≡◌, ℕ, ◌+◌, ◌-◌, ◌<◌, ◌==◌, Bool, true, false, if◌then◌else◌, pos, Some, List, length, slice_index}
+use Rattle.std.specs.Prelude.{◌≡◌, ℕ, ◌+◌, ◌-◌, ◌<◌, ◌≤◌, ◌==◌, Bool, true, false, if◌then◌else◌, pos, Some, List, length, slice_index}
 use Rattle.std.specs.Prelude.{slice_index_or, nat_abs, IsTrue, take}
 use Rattle.std.specs.List.{count_by}
 use Rattle.std.proofs.Common.{subst}
@@ -13,8 +13,8 @@ use Rattle.wf_scene.specs.declared.Scene.{Scene}
 use Rattle.wf_kernel.specs.declared.spans.Span.{Span}
 use Rattle.wf_kernel.specs.declared.placing.Walk.{Walk}
 use Rattle.wf_kernel.specs.declared.placing.Walk.TheVariants.{Forward, Backward, Table}
-use Rattle.wf_kernel.specs.Bound.{Bound, IsShowable}
-use Rattle.wf_kernel.specs.Placed.{placed, left_on, across, is_crossed}
+use Rattle.wf_kernel.specs.Bound.{Bound, IsShowable, cut_to}
+use Rattle.wf_kernel.specs.Placed.{placed, column_of, row_of, left_on, across, is_crossed}
 use Rattle.wf_kernel.specs.Spans.{IsReach}
 use Rattle.wf_kernel.specs.Hiding.{HidesBelow}
 use Rattle.wf_pixel.specs.declared.TheConstants.{MOST_SIDE}
@@ -36,10 +36,10 @@ abbrev pub needs_table : Rotation → Layer → Bool
 needs_table turn l =
     if is_crossed turn l then true else (if l.src.w == (turned turn (size_of l.dest)).w then false else true)
 
--- the coordinates of the source by the column of the target
-pub record IsTable (turn : Rotation) (space : Size) (l : Layer) (table : List ℕ) : Type 0 where
+-- the coordinates of the source by the column of the target, in the columns from `left` to the one before `right`
+pub record IsTable (turn : Rotation) (space : Size) (left right : ℕ) (l : Layer) (table : List ℕ) : Type 0 where
   pub long : length table ≡ MOST_SIDE
-  pub holds : (x a : ℕ) → x < MOST_SIDE → along (left_on turn space l.dest) (turned turn (size_of l.dest)).w (pos x) ≡ Some a
+  pub holds : (x a : ℕ) → cut_to left right x (along (left_on turn space l.dest) (turned turn (size_of l.dest)).w (pos x)) ≡ Some a
       → slice_index table x ≡ across turn l a
 
 -- how many of the first n layers of a scene need a table: the place of the next one's
@@ -50,26 +50,28 @@ tables_before scene n = count_by (needs_table scene.turn) (take n scene.layers.i
 abbrev pub table_count : Scene → ℕ
 table_count scene = count_by (needs_table scene.turn) scene.layers.items
 
--- each layer of a scene that needs a table has it, one after the other
-abbrev pub AreTables : Scene → List (List ℕ) → Type 0
-AreTables scene tables =
+-- each layer of a scene that needs a table has it for these columns, one after the other
+abbrev pub AreTables : Scene → ℕ → ℕ → List (List ℕ) → Type 0
+AreTables scene left right tables =
     (i : ℕ) (d : Layer) (e : List ℕ) → i < length scene.layers.items
     → needs_table scene.turn (slice_index_or scene.layers.items i d) ≡ true
     → (tables_before scene i < length tables)
-    × IsTable scene.turn (turned scene.turn scene.size) (slice_index_or scene.layers.items i d)
+    × IsTable scene.turn (turned scene.turn scene.size) left right (slice_index_or scene.layers.items i d)
     (slice_index_or tables (tables_before scene i) e)
 
--- a layer is on these columns and rows of its target; if it hides, it does at each point of them; and its table is there
--- where it is needed
+-- a layer is on these columns of its target, of those that are asked for, and on these rows; if it hides, it does at each point
+-- of them; and its table is there where it is needed
 pub record IsPrepared (b : Bound) (columns rows : Span) (hides crossed : Bool) (walk : Walk) (table : List ℕ) : Type 0 where
   pub showable : IsShowable b
   pub space_is : IsTrue (has_sides b.space)
-  pub columns_are : IsReach (placed b).x (placed b).w columns
-  pub rows_are : IsReach (placed b).y (placed b).h rows
+  pub order : b.left ≤ b.right
+  pub right_high : b.right ≤ MOST_SIDE
+  pub columns_are : IsReach (column_of b) (placed b).w columns
+  pub rows_are : IsReach (row_of b) (placed b).h rows
   pub hides_below : IsTrue hides → HidesBelow b
   pub crossed_is : crossed ≡ is_crossed b.turn b.layer
   pub walk_is : IsWalk b.turn b.layer walk
-  pub table_is : walk ≡ Table → IsTable b.turn b.space b.layer table
+  pub table_is : walk ≡ Table → IsTable b.turn b.space b.left b.right b.layer table
 
 -- what is known of a layer by its fields is known of it by its value
 pub prepared_as : {b c : Bound} {columns rows : Span} {hides crossed : Bool} {walk : Walk} {table : List ℕ}

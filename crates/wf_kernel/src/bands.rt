@@ -85,7 +85,7 @@ fn rows_by_tables<R: Threads + Sync, const N: usize>(
     ensures { bytes.new ≡ bound_picture scene.now contents.now }
 {
     let mut tables = [[0; SIDE_LEN]; N];
-    fill_tables(&mut tables, scene, contents);
+    fill_tables(&mut tables, scene, contents, 0, scene.size.w);
     rows_of_bound(rt, workers, bytes, scene, contents, &tables);
 }
 
@@ -102,7 +102,7 @@ fn rows_of_bound<R: Threads + Sync>(
     requires few { workers ≤ 16 }
     requires count { length bytes.old ≡ scene.now.size.w * scene.now.size.h * 4 }
     requires fits { Fits scene.now contents.now }
-    requires tables { AreTables scene.now tables.now }
+    requires tables { AreTables scene.now 0 scene.now.size.w tables.now }
     ensures { bytes.new ≡ bound_picture scene.now contents.now }
 {
     if scene.layers.len() <= 4 {
@@ -128,11 +128,11 @@ fn rows_of_layers<R: Threads + Sync, const N: usize>(
     requires few { workers ≤ 16 }
     requires count { length bytes.old ≡ scene.now.size.w * scene.now.size.h * 4 }
     requires fits { Fits scene.now contents.now }
-    requires tables { AreTables scene.now tables.now }
+    requires tables { AreTables scene.now 0 scene.now.size.w tables.now }
     ensures { bytes.new ≡ bound_picture scene.now contents.now }
 {
     let mut list = no_layers::<N>();
-    bind_layers(&mut list, scene, contents, tables);
+    bind_layers(&mut list, scene, contents, tables, 0, scene.size.w);
     let layers = list.as_slice();
     let cost = cost_above(scene.size.w, layers, scene.size.h);
     let whole = Band {

@@ -15,7 +15,7 @@ use crate::tables::next_place;
 use arrayvec::ArrayVec;
 use std::marker::Model;
 use wf_image::{Contents, Image};
-use wf_pixel::{Rect, Rotation, SIDE_LEN, Size, turned};
+use wf_pixel::{MOST_SIDE, Rect, Rotation, SIDE_LEN, Size, turned};
 use wf_scene::{Layer, Scene};
 
 /// A layer with the image of its stream and that of its mask, where they are there, and with the way in which the
@@ -27,7 +27,10 @@ pub(crate) struct BoundLayer<'a> {
     pub(crate) mask: Option<&'a Image>,
     pub(crate) turn: Rotation,
     pub(crate) space: Size,
-    /// The columns and the rows of the target that the destination covers.
+    /// The first of the target's columns that are asked for, and the one behind the last.
+    pub(crate) left: u32,
+    pub(crate) right: u32,
+    /// The columns and the rows of the target that the destination covers, of those columns.
     pub(crate) columns: Span,
     pub(crate) rows: Span,
     /// The layer hides all that is below it at each point of its destination.
@@ -53,6 +56,8 @@ impl<'a> Model for BoundLayer<'a> {
       mask = option_copied b.mask;
       turn = b.turn;
       space = b.space;
+      left = b.left;
+      right = b.right;
     } };
 
     ghost invariant = { λ b. IsPrepared (record {
@@ -61,6 +66,8 @@ impl<'a> Model for BoundLayer<'a> {
       mask = option_copied b.mask;
       turn = b.turn;
       space = b.space;
+      left = b.left;
+      right = b.right;
     }) b.columns b.rows b.hides b.crossed b.walk b.table.now };
 }
 
@@ -84,7 +91,9 @@ impl<'a> Default for BoundLayer<'a> {
             mask: None,
             turn: Rotation::R0,
             space: Size { w: 1, h: 1 },
-            columns: columns_of(PIXEL),
+            left: 0,
+            right: 1,
+            columns: columns_of(PIXEL, 0, 1),
             rows: rows_of(PIXEL),
             hides: false,
             crossed: false,
@@ -102,24 +111,29 @@ pub(crate) fn no_layers<'a, const N: usize>() -> ArrayVec<BoundLayer<'a>, N>
     ArrayVec::new()
 }
 
-/// Adds the layers of a scene with their images among these to an empty list. A layer that needs a table takes the next one.
-/// The list is the caller's, so that a picture moves it nowhere.
+/// Adds the layers of a scene with their images among these to an empty list, for the columns from `left` to the one before `right`.
+/// A layer that needs a table takes the next one. The list is the caller's, so that a picture moves it nowhere.
 pub(crate) fn bind_layers<'a, const N: usize>(
     list: &mut ArrayVec<BoundLayer<'a>, N>,
     scene: &Scene,
     contents: &'a Contents,
     tables: &'a [[u16; SIDE_LEN]],
+    left: u32,
+    right: u32,
 )
     requires empty { list.old.items ≡ [] }
     requires room { length scene.now.layers.items ≤ N }
     requires fits { Fits scene.now contents.now }
-    requires tables { AreTables scene.now tables.now }
-    ensures { list.new.items ≡ map (bound scene.now contents.now) scene.now.layers.items }
+    requires order { left ≤ right }
+    requires right { right ≤ MOST_SIDE }
+    requires tables { AreTables scene.now left right tables.now }
+    ensures { list.new.items ≡ map (bound scene.now contents.now left right) scene.now.layers.items }
 {
     let layers = scene.layers.as_slice();
     let mut place = 0;
     for i in 0..layers.len() {
-        list.push(bind_layer(scene, contents, layers[i], table_at(tables, place)));
+        let table = table_at(tables, place);
+        list.push(bind_layer(scene, contents, layers[i], table, left, right));
         place = next_place(place, scene.turn, &layers[i]);
     }
 }
@@ -137,12 +151,16 @@ fn bind_layer<'a>(
     contents: &'a Contents,
     layer: Layer,
     table: &'a [u16],
+    left: u32,
+    right: u32,
 ) -> BoundLayer<'a>
     requires sides { IsTrue (has_sides scene.now.size) }
     requires fits { LayerFits contents.now layer }
-    requires table { needs_table scene.now.turn layer ≡ true → IsTable scene.now.turn (turned scene.now.turn scene.now.size) layer
-        table.now }
-    ensures { result ≡ bound scene.now contents.now layer }
+    requires order { left ≤ right }
+    requires right { right ≤ MOST_SIDE }
+    requires table { needs_table scene.now.turn layer ≡ true
+        → IsTable scene.now.turn (turned scene.now.turn scene.now.size) left right layer table.now }
+    ensures { result ≡ bound scene.now contents.now left right layer }
 {
     let space = turned(scene.turn, scene.size);
     let place = turned_rect(scene.turn, space, layer.dest);
@@ -153,7 +171,9 @@ fn bind_layer<'a>(
         mask: contents.find(layer.mask),
         turn: scene.turn,
         space,
-        columns: columns_of(place),
+        left,
+        right,
+        columns: columns_of(place, left, right),
         rows: rows_of(place),
         hides: hides_below(&layer, source),
         crossed: is_crossed(scene.turn, &layer),

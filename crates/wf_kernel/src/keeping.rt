@@ -13,7 +13,6 @@ use crate::placing::{Walk, down};
 use crate::stretch::{Stretch, stretch_of};
 use crate::{BLOCK_BYTES, ROW_BYTES};
 use wf_image::Image;
-use wf_pixel::MOST_SIDE;
 use wf_row::gather_columns;
 
 /// How many columns of a source are kept.
@@ -68,8 +67,6 @@ impl Tag {
 /// The pixels that are kept.
 #[derive(Drop)]
 pub(crate) struct Kept {
-    /// How wide the target is.
-    pub(crate) width: u32,
     /// A row of a source, as a layer shows it.
     pub(crate) line_of: Tag,
     pub(crate) line: [u8; ROW_BYTES],
@@ -78,13 +75,11 @@ pub(crate) struct Kept {
     pub(crate) block: [u8; BLOCK_BYTES],
 }
 
-/// Nothing, for a target of this width.
-pub(crate) fn nothing_kept(width: u32) -> Kept
-    requires { width ≤ MOST_SIDE }
+/// Nothing.
+pub(crate) fn nothing_kept() -> Kept
     ensures { (layers : List Bound) → AreKept layers result }
 {
     Kept {
-        width,
         line_of: NONE,
         line: [0; ROW_BYTES],
         block_of: NONE,
@@ -92,7 +87,8 @@ pub(crate) fn nothing_kept(width: u32) -> Kept
     }
 }
 
-/// Keeps the row of the source that a layer shows in the row of a stretch, where the stretch is half of it at least.
+/// Keeps the row of the source that a layer shows in the row of a stretch, in the columns that are asked for, where the stretch is half
+/// of it at least.
 pub(crate) fn keep_line(
     kept: &mut Kept,
     layers: &[BoundLayer],
@@ -109,7 +105,7 @@ pub(crate) fn keep_line(
         return;
     }
     let layer = &layers[i];
-    let Some(whole) = stretch_of(layer, 0, kept.width, stretch.y) else {
+    let Some(whole) = stretch_of(layer, layer.left, layer.right - layer.left, stretch.y) else {
         return;
     };
     if stretch.len < whole.len / 2 {
@@ -130,8 +126,8 @@ pub(crate) fn keep_line(
     };
 }
 
-/// Keeps the columns of the source that a layer shows in the row of a stretch and in rows beside it, where the stretch is half
-/// of the row at least.
+/// Keeps the columns of the source that a layer shows in the row of a stretch and in rows beside it, in the columns of the target that
+/// are asked for, where the stretch is half of the row at least.
 pub(crate) fn keep_block(
     kept: &mut Kept,
     layers: &[BoundLayer],
@@ -156,7 +152,7 @@ pub(crate) fn keep_block(
     if width < COLUMNS {
         return;
     }
-    let Some(whole) = stretch_of(layer, 0, kept.width, stretch.y) else {
+    let Some(whole) = stretch_of(layer, layer.left, layer.right - layer.left, stretch.y) else {
         return;
     };
     if stretch.len < whole.len / 2 {

@@ -64,7 +64,7 @@ fn paint_by_tables<const N: usize>(bytes: &mut [u8], scene: &Scene, contents: &C
     ensures { bytes.new ≡ bound_picture scene.now contents.now }
 {
     let mut tables = [[0; SIDE_LEN]; N];
-    fill_tables(&mut tables, scene, contents);
+    fill_tables(&mut tables, scene, contents, 0, scene.size.w);
     paint_bound(bytes, scene, contents, &tables);
 }
 
@@ -72,7 +72,7 @@ fn paint_by_tables<const N: usize>(bytes: &mut [u8], scene: &Scene, contents: &C
 fn paint_bound(bytes: &mut [u8], scene: &Scene, contents: &Contents, tables: &[[u16; SIDE_LEN]])
     requires count { length bytes.old ≡ scene.now.size.w * scene.now.size.h * 4 }
     requires fits { Fits scene.now contents.now }
-    requires tables { AreTables scene.now tables.now }
+    requires tables { AreTables scene.now 0 scene.now.size.w tables.now }
     ensures { bytes.new ≡ bound_picture scene.now contents.now }
 {
     if scene.layers.len() <= 4 {
@@ -94,11 +94,11 @@ fn paint_layers<const N: usize>(
     requires small { N ≤ MOST_INSERTED }
     requires count { length bytes.old ≡ scene.now.size.w * scene.now.size.h * 4 }
     requires fits { Fits scene.now contents.now }
-    requires tables { AreTables scene.now tables.now }
+    requires tables { AreTables scene.now 0 scene.now.size.w tables.now }
     ensures { bytes.new ≡ bound_picture scene.now contents.now }
 {
     let mut layers = no_layers::<N>();
-    bind_layers(&mut layers, scene, contents, tables);
+    bind_layers(&mut layers, scene, contents, tables, 0, scene.size.w);
     paint(bytes, scene.size.w, layers.as_slice(), scene.background, 0);
 }
 
@@ -143,7 +143,7 @@ fn paint_by_lines(bytes: &mut [u8], width: u32, layers: &[BoundLayer], backgroun
     requires within { first + length bytes.old / (4 * width) ≤ MOST_SIDE }
     ensures { bytes.new ≡ bound_rows width layers.now background first (length bytes.old / (4 * width)) }
 {
-    let mut kept = [nothing_kept(width)];
+    let mut kept = [nothing_kept()];
     let mut spare = [[0; ROW_BYTES]];
     paint_rows(
         bytes, width, layers, background, first, &mut kept, &mut spare,

@@ -1,14 +1,14 @@
 //! Writes a part of a scene's picture, and leaves the rest of the target as it is.
 
-ghost use Rattle.std.specs.Prelude.{◌≡◌, ℕ, ◌+◌, ◌-◌, ◌*◌, ◌<◌, ◌≤◌, All, length, map, nat_le, nat_lt, ◌&&◌, is_some, pos};
+ghost use Rattle.std.specs.Prelude.{◌≡◌, ℕ, ◌+◌, ◌-◌, ◌*◌, ◌<◌, ◌≤◌, All, length, nat_le, nat_lt, ◌&&◌, is_some, pos};
 ghost use Rattle.wf_pixel.specs.declared.Format.TheVariants.{Rgba8Pre};
 ghost use Rattle.wf_pixel.specs.Along.{along};
 ghost use Rattle.wf_image.specs.Bitmap.{pixel_bytes, drawn_row};
 ghost use Rattle.wf_model.specs.Picture.{Fits};
-ghost use Rattle.wf_kernel.specs.Bound.{bound, bound_colour};
+ghost use Rattle.wf_kernel.specs.Bound.{bound_colour};
 ghost use Rattle.wf_kernel.specs.Kept.{AreKept};
 ghost use Rattle.wf_kernel.specs.Parts.{covers_at, part_picture};
-ghost use Rattle.wf_kernel.specs.PartOfTarget.{IsPart, IsPartly, holds};
+ghost use Rattle.wf_kernel.specs.PartOfTarget.{IsPart, IsPartly, holds, part_colour, turned_part};
 ghost use Rattle.wf_kernel.specs.Prepared.{AreTables, table_count};
 ghost use Rattle.wf_kernel.specs.Strips.{IsStrip};
 
@@ -19,7 +19,7 @@ use crate::painting::{are_forward, paint_piece};
 use crate::strips::no_strip;
 use crate::tables::{count_tables, fill_tables};
 use wf_image::{Contents, Image};
-use wf_pixel::{MOST_SIDE, Rect, Rgba, Rotation, SIDE_LEN, turned};
+use wf_pixel::{MOST_SIDE, Rect, Rgba, Rotation, SIDE_LEN, Size, turned};
 use wf_scene::{MOST_INSERTED, Scene};
 
 /// Columns and rows of a target, each from the first one to the one after the last.
@@ -54,30 +54,39 @@ fn part_of(scene: &Scene, area: Rect) -> Part
     let space = turned(scene.turn, scene.size);
     let (left, right) = side_in(area.x, area.w, space.w);
     let (top, bottom) = side_in(area.y, area.h, space.h);
-    match scene.turn {
-        Rotation::R0 => Part {
-            left,
-            right,
-            top,
-            bottom,
-        },
+    let part = Part {
+        left,
+        right,
+        top,
+        bottom,
+    };
+    turned_part(scene.turn, space, part)
+}
+
+/// Turns columns and rows of a space into those of the target.
+fn turned_part(turn: Rotation, space: Size, part: Part) -> Part
+    requires part { IsPart space.w space.h part }
+    ensures { result ≡ turned_part turn space part }
+{
+    match turn {
+        Rotation::R0 => part,
         Rotation::R90 => Part {
-            left: space.h - bottom,
-            right: space.h - top,
-            top: left,
-            bottom: right,
+            left: space.h - part.bottom,
+            right: space.h - part.top,
+            top: part.left,
+            bottom: part.right,
         },
         Rotation::R180 => Part {
-            left: space.w - right,
-            right: space.w - left,
-            top: space.h - bottom,
-            bottom: space.h - top,
+            left: space.w - part.right,
+            right: space.w - part.left,
+            top: space.h - part.bottom,
+            bottom: space.h - part.top,
         },
         Rotation::R270 => Part {
-            left: top,
-            right: bottom,
-            top: space.w - right,
-            bottom: space.w - left,
+            left: part.top,
+            right: part.bottom,
+            top: space.w - part.right,
+            bottom: space.w - part.left,
         },
     }
 }
@@ -101,8 +110,7 @@ fn part_of_scene(bytes: &mut [u8], scene: &Scene, contents: &Contents, part: Par
     requires count { length bytes.old ≡ scene.now.size.w * scene.now.size.h * 4 }
     requires fits { Fits scene.now contents.now }
     requires part { IsPart scene.now.size.w scene.now.size.h part }
-    ensures { IsPartly scene.now.size.w scene.now.size.h
-        (bound_colour (map (bound scene.now contents.now) scene.now.layers.items) scene.now.background) part bytes.old bytes.new }
+    ensures { IsPartly scene.now.size.w scene.now.size.h (part_colour scene.now contents.now part) part bytes.old bytes.new }
 {
     let count = count_tables(scene);
     if count == 0 {
@@ -124,11 +132,10 @@ fn part_by_tables<const N: usize>(bytes: &mut [u8], scene: &Scene, contents: &Co
     requires count { length bytes.old ≡ scene.now.size.w * scene.now.size.h * 4 }
     requires fits { Fits scene.now contents.now }
     requires part { IsPart scene.now.size.w scene.now.size.h part }
-    ensures { IsPartly scene.now.size.w scene.now.size.h
-        (bound_colour (map (bound scene.now contents.now) scene.now.layers.items) scene.now.background) part bytes.old bytes.new }
+    ensures { IsPartly scene.now.size.w scene.now.size.h (part_colour scene.now contents.now part) part bytes.old bytes.new }
 {
     let mut tables = [[0; SIDE_LEN]; N];
-    fill_tables(&mut tables, scene, contents);
+    fill_tables(&mut tables, scene, contents, part.left, part.right);
     part_of_bound(bytes, scene, contents, &tables, part);
 }
 
@@ -142,10 +149,9 @@ fn part_of_bound(
 )
     requires count { length bytes.old ≡ scene.now.size.w * scene.now.size.h * 4 }
     requires fits { Fits scene.now contents.now }
-    requires tables { AreTables scene.now tables.now }
+    requires tables { AreTables scene.now part.left part.right tables.now }
     requires part { IsPart scene.now.size.w scene.now.size.h part }
-    ensures { IsPartly scene.now.size.w scene.now.size.h
-        (bound_colour (map (bound scene.now contents.now) scene.now.layers.items) scene.now.background) part bytes.old bytes.new }
+    ensures { IsPartly scene.now.size.w scene.now.size.h (part_colour scene.now contents.now part) part bytes.old bytes.new }
 {
     if scene.layers.len() <= 4 {
         part_of_layers::<4>(bytes, scene, contents, tables, part);
@@ -167,13 +173,12 @@ fn part_of_layers<const N: usize>(
     requires small { N ≤ MOST_INSERTED }
     requires count { length bytes.old ≡ scene.now.size.w * scene.now.size.h * 4 }
     requires fits { Fits scene.now contents.now }
-    requires tables { AreTables scene.now tables.now }
+    requires tables { AreTables scene.now part.left part.right tables.now }
     requires part { IsPart scene.now.size.w scene.now.size.h part }
-    ensures { IsPartly scene.now.size.w scene.now.size.h
-        (bound_colour (map (bound scene.now contents.now) scene.now.layers.items) scene.now.background) part bytes.old bytes.new }
+    ensures { IsPartly scene.now.size.w scene.now.size.h (part_colour scene.now contents.now part) part bytes.old bytes.new }
 {
     let mut list = no_layers::<N>();
-    bind_layers(&mut list, scene, contents, tables);
+    bind_layers(&mut list, scene, contents, tables, part.left, part.right);
     let layers = list.as_slice();
     if are_forward(layers) {
         paint_part(
@@ -214,7 +219,7 @@ fn part_by_lines(
     requires part { IsPart width height part }
     ensures { IsPartly width height (bound_colour layers.now background) part bytes.old bytes.new }
 {
-    let mut kept = [nothing_kept(part.right)];
+    let mut kept = [nothing_kept()];
     let mut spare = [[0; ROW_BYTES]];
     paint_part(
         bytes, width, height, layers, background, part, &mut kept, &mut spare,

@@ -1,6 +1,8 @@
 //! The pixels that the side of a destination covers.
 
 ghost use Rattle.std.specs.Prelude.{◌+◌, ◌-◌, ◌<◌, ◌≤◌, ◌≤ℤ◌, pos, negsuc};
+ghost use Rattle.wf_pixel.specs.Along.{along};
+ghost use Rattle.wf_kernel.specs.Bound.{cut_to};
 ghost use Rattle.wf_kernel.specs.Spans.{IsReach};
 
 use crate::FARTHEST;
@@ -31,22 +33,34 @@ pub(crate) const NONE: Span = Span {
     len: 0,
 };
 
-/// The columns that a rectangle on the target covers, however long the rows are.
-pub(crate) fn columns_of(r: Rect) -> Span
+/// The columns that a rectangle on the target covers, of those from `left` to the one before `right`.
+pub(crate) fn columns_of(r: Rect, left: u32, right: u32) -> Span
     requires low { negsuc (FARTHEST - 1) ≤ℤ r.x }
     requires high { r.x ≤ℤ pos FARTHEST }
     requires w { r.w ≤ MOST_SIDE }
-    ensures { IsReach r.x r.w result }
+    requires right { right ≤ MOST_SIDE }
+    ensures reach { IsReach (λ x. cut_to left right x (along r.x r.w (pos x))) r.w result }
+    ensures within { result.start + result.len ≤ right }
 {
-    reach_of(r.x, r.w)
+    let all = reach_of(r.x, r.w);
+    let start = all.start.max(left);
+    let end = (all.start + all.len).min(right);
+    if end <= start {
+        return NONE;
+    }
+    Span {
+        start,
+        skip: all.skip + (start - all.start),
+        len: end - start,
+    }
 }
 
-/// The rows that it covers.
+/// The rows that it covers, however high the target is.
 pub(crate) fn rows_of(r: Rect) -> Span
     requires low { negsuc (FARTHEST - 1) ≤ℤ r.y }
     requires high { r.y ≤ℤ pos FARTHEST }
     requires h { r.h ≤ MOST_SIDE }
-    ensures { IsReach r.y r.h result }
+    ensures { IsReach (λ y. along r.y r.h (pos y)) r.h result }
 {
     reach_of(r.y, r.h)
 }
@@ -56,7 +70,7 @@ fn reach_of(x: i32, w: u32) -> Span
     requires low { negsuc (FARTHEST - 1) ≤ℤ x }
     requires high { x ≤ℤ pos FARTHEST }
     requires w { w ≤ MOST_SIDE }
-    ensures { IsReach x w result }
+    ensures { IsReach (λ j. along x w (pos j)) w result }
 {
     if x < 0 {
         reach_before(x.unsigned_abs(), w)
@@ -69,7 +83,7 @@ fn reach_of(x: i32, w: u32) -> Span
 fn reach_before(before: u32, w: u32) -> Span
     requires some { 0 < before }
     requires w { w ≤ MOST_SIDE }
-    ensures { IsReach (negsuc (before - 1)) w result }
+    ensures { IsReach (λ j. along (negsuc (before - 1)) w (pos j)) w result }
 {
     if before >= w {
         return NONE;
@@ -85,7 +99,7 @@ fn reach_before(before: u32, w: u32) -> Span
 fn reach_at(start: u32, w: u32) -> Span
     requires high { start ≤ FARTHEST }
     requires w { w ≤ MOST_SIDE }
-    ensures { IsReach (pos start) w result }
+    ensures { IsReach (λ j. along (pos start) w (pos j)) w result }
 {
     Span {
         start,

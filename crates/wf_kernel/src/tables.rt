@@ -39,18 +39,26 @@ pub(crate) fn next_place(place: usize, turn: Rotation, layer: &Layer) -> usize
     }
 }
 
-/// Works out the tables of the layers of a scene that need one, one after the other.
-pub(crate) fn fill_tables(tables: &mut [[u16; SIDE_LEN]], scene: &Scene, contents: &Contents)
+/// Works out the tables of the layers of a scene that need one, one after the other, for the columns from `left` to the one before
+/// `right`.
+pub(crate) fn fill_tables(
+    tables: &mut [[u16; SIDE_LEN]],
+    scene: &Scene,
+    contents: &Contents,
+    left: u32,
+    right: u32,
+)
     requires room { table_count scene.now ≤ length tables.old }
     requires fits { Fits scene.now contents.now }
-    ensures { AreTables scene.now tables.new }
+    requires right { right ≤ MOST_SIDE }
+    ensures { AreTables scene.now left right tables.new }
 {
     let _ = contents;
     let layers = scene.layers.as_slice();
     let space = turned(scene.turn, scene.size);
     let mut place = 0;
     for i in 0..layers.len() {
-        fill_needed(tables, place, scene.turn, space, &layers[i]);
+        fill_needed(tables, place, scene.turn, space, &layers[i], left, right);
         place = next_place(place, scene.turn, &layers[i]);
     }
 }
@@ -62,8 +70,11 @@ fn fill_needed(
     turn: Rotation,
     space: Size,
     layer: &Layer,
+    left: u32,
+    right: u32,
 )
     requires room { needs_table turn layer.now ≡ true → place < length tables.old }
+    requires right { right ≤ MOST_SIDE }
     requires sides { IsTrue (has_sides space) }
     requires src { IsDrawn layer.now.src }
     requires dest { IsDrawn layer.now.dest }
@@ -71,25 +82,34 @@ fn fill_needed(
     requires y { pos 0 ≤ℤ layer.now.src.y }
     ensures len { length tables.new ≡ length tables.old }
     ensures before { (k : ℕ) (e : List ℕ) → k < place → slice_index_or tables.new k e ≡ slice_index_or tables.old k e }
-    ensures table { needs_table turn layer.now ≡ true → (e : List ℕ) → IsTable turn space layer.now (slice_index_or tables.new place e) }
+    ensures table { needs_table turn layer.now ≡ true → (e : List ℕ)
+        → IsTable turn space left right layer.now (slice_index_or tables.new place e) }
 {
     if needs_table(turn, layer) {
-        fill_table(&mut tables[place], turn, space, layer);
+        fill_table(&mut tables[place], turn, space, layer, left, right);
     }
 }
 
 /// Works out the table of a layer.
-fn fill_table(table: &mut [u16; SIDE_LEN], turn: Rotation, space: Size, layer: &Layer)
+fn fill_table(
+    table: &mut [u16; SIDE_LEN],
+    turn: Rotation,
+    space: Size,
+    layer: &Layer,
+    left: u32,
+    right: u32,
+)
+    requires right { right ≤ MOST_SIDE }
     requires sides { IsTrue (has_sides space) }
     requires src { IsDrawn layer.now.src }
     requires dest { IsDrawn layer.now.dest }
     requires x { pos 0 ≤ℤ layer.now.src.x }
     requires y { pos 0 ≤ℤ layer.now.src.y }
-    ensures { IsTable turn space layer.now table.new }
+    ensures { IsTable turn space left right layer.now table.new }
 {
     let place = turned_rect(turn, space, layer.dest);
-    let reach = columns_of(place);
-    for x in reach.start..(reach.start + reach.len).min(MOST_SIDE) {
+    let reach = columns_of(place, left, right);
+    for x in reach.start..reach.start + reach.len {
         table[x as usize] = across(turn, layer, reach.skip + (x - reach.start)) as u16;
     }
 }

@@ -4,6 +4,7 @@ use Rattle.wf_machine.proofs.Common.{Reply, map, stream_step, unnamed, eqb-true,
 use Rattle.wf_machine.proofs.Common.{same_size, Canvas, Buffers, acquired, blank, has_number}
 use Rattle.wf_machine.proofs.Common.{is_blocked, KeptStream, IsNumbered, stream_at, stream_of, State, bare, done, refusal, refused}
 use Rattle.wf_machine.proofs.Common.{acquirable, acquire_step, canvas_back, canvas_of, is_out_at_client, with_stream, is_target}
+pub use Rattle.wf_pixel.specs.Equal.{format_is, size_is}
 use Rattle.wf_stream.specs.Streams.{number_of}
 use Rattle.wf_calls.specs.Replies.{gives_back_canvas}
 use Rattle.wf_calls.specs.declared.reply.Answer.{Answer}
@@ -72,30 +73,6 @@ comes_back canvas f h out = rw out refl
 pub stays_out : (canvas : Canvas) (f : Buffers → Buffers) (h : State) (r : Reply) → is_out_at_client canvas h ≡ false
     → r ≡ gives_back_canvas canvas → canvas_back canvas f h ≡ (h, r)
 stays_out canvas f h r home is = (rw home refl) ∙ ap (λ x. (h, x)) (sym is)
-
-pub size_is : (s t : Size) → same_size s t ≡ true → s ≡ t
-size_is s t same =
-    let parts = and_parts _ _ same in
-    ap (λ w. record { w = w; h = s.h }) (eqb-true s.w t.w parts.0)
-    ∙ ap (λ h. record { w = t.w; h = h }) (eqb-true s.h t.h parts.1)
-
-pub format_is : (f g : Format) → same_format f g ≡ true → f ≡ g
-format_is Rgba8 Rgba8 same = refl
-format_is Rgba8Pre Rgba8Pre same = refl
-format_is Rgbx8 Rgbx8 same = refl
-format_is A8 A8 same = refl
-format_is Rgba8 Rgba8Pre same = absurd cc
-format_is Rgba8 Rgbx8 same = absurd cc
-format_is Rgba8 A8 same = absurd cc
-format_is Rgba8Pre Rgba8 same = absurd cc
-format_is Rgba8Pre Rgbx8 same = absurd cc
-format_is Rgba8Pre A8 same = absurd cc
-format_is Rgbx8 Rgba8 same = absurd cc
-format_is Rgbx8 Rgba8Pre same = absurd cc
-format_is Rgbx8 A8 same = absurd cc
-format_is A8 Rgba8 same = absurd cc
-format_is A8 Rgba8Pre same = absurd cc
-format_is A8 Rgbx8 same = absurd cc
 
 -- a canvas that is out at a client is not the running frame's
 pub out_apart : (canvas : Canvas) (h : State) → is_out_at_client canvas h ≡ true → is_target canvas.stream h.frame ≡ false

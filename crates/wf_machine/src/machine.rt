@@ -1,6 +1,6 @@
 //! The machine.
 
-ghost use Rattle.std.specs.Prelude.{◌≡◌, ◌<◌, ◌&&◌, IfOk, IfSome, IsSome, IsTrue, None, length, not, true};
+ghost use Rattle.std.specs.Prelude.{◌≡◌, ◌<◌, ◌≤◌, ◌&&◌, IfOk, IfSome, IsSome, IsTrue, None, length, not, true};
 ghost use Rattle.std.specs.Option.{IfNone};
 ghost use Rattle.wf_stream.specs.Streams.{held};
 ghost use Rattle.wf_calls.specs.Creations.{is_creation};
@@ -18,8 +18,9 @@ use crate::parts::Parts;
 use crate::replies::with_canvas;
 use std::alloc::Global;
 use std::marker::Model;
-use wf_calls::{Answer, Call, Job, JobPlace, Ports, Reply, Request};
+use wf_calls::{Answer, Call, Job, JobPlace, MOST_PIPELINES, Ports, Reply, Request};
 use wf_image::Canvas;
+use wf_model::{Pipeline, Port};
 use wf_stream::Held;
 use wf_words::NoMemory;
 
@@ -255,8 +256,25 @@ impl Machine {
 
     /// Returns how many streams are kept, and the bytes of their buffers.
     pub fn held(&self) -> Held
-        ensures { result ≡ held self.now.streams }
+        ensures held { result ≡ held self.now.streams }
+        ensures lifetime { self.now.streams ≡ kept self.now }
     {
         self.parts.store.held()
+    }
+
+    /// Returns the ports, by rising number from 1.
+    pub fn ports(&self) -> &[Port]
+        ensures ports { result.now ≡ self.now.display.ports }
+        ensures few { length result.now ≤ 4 }
+    {
+        self.parts.display.ports()
+    }
+
+    /// Returns the pipelines, by rising number from 1.
+    pub fn pipelines(&self) -> &[Pipeline]
+        ensures pipelines { result.now ≡ self.now.display.pipelines }
+        ensures few { length result.now ≤ MOST_PIPELINES }
+    {
+        self.parts.display.pipelines()
     }
 }

@@ -5,3 +5,5 @@ pub mod Choice
 pub mod Along
 pub mod Arithmetic
 pub mod Place
+-- What callers prove with: words and facts that other crates use.
+pub mod Equal

@@ -2,6 +2,7 @@ pub mod Fronts
 pub mod Lengths
 pub mod Lines
 pub mod Checks
+pub mod Logs
 pub mod Says
 mod Rows
 pub mod FoundSame

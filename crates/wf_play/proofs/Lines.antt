@@ -11,6 +11,7 @@ pub plain_note : (m : Mode) (s : Status) → (m ≡ mode.Check → s ≡ status.
 plain_note mode.Film s other = refl
 plain_note mode.Print s other = refl
 plain_note mode.Big s other = refl
+plain_note mode.Events s other = refl
 plain_note mode.Check status.Done other = absurd (other refl refl)
 plain_note mode.Check status.Usage other = refl
 plain_note mode.Check status.ReadFault other = refl
@@ -23,16 +24,4 @@ plain_note mode.Check (status.BadFilm at rule) other = refl
 plain_note mode.Check status.NoMemory other = refl
 
 pub same_note : (m : Mode) (s : Status) → m ≡ mode.Check → s ≡ status.Done → note_in m s ≡ codes "same\n"
-same_note mode.Check status.Done is done = refl
-same_note mode.Check status.Usage is done = absurd cc
-same_note mode.Check status.ReadFault is done = absurd cc
-same_note mode.Check status.TooLong is done = absurd cc
-same_note mode.Check (status.Refused line rule) is done = absurd cc
-same_note mode.Check (status.WriteFault written) is done = absurd cc
-same_note mode.Check (status.Differs at) is done = absurd cc
-same_note mode.Check (status.BadOrder entry) is done = absurd cc
-same_note mode.Check (status.BadFilm at rule) is done = absurd cc
-same_note mode.Check status.NoMemory is done = absurd cc
-same_note mode.Film s is done = absurd cc
-same_note mode.Print s is done = absurd cc
-same_note mode.Big s is done = absurd cc
+same_note m s is done = λ i. note_in (is i) (done i)

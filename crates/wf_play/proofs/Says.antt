@@ -5,7 +5,9 @@ use Rattle.wf_io.specs.Causes.{Rose}
 use Rattle.wf_calls.specs.declared.order.Turn.{Turn}
 use Rattle.wf_film.specs.declared.form.FilmForm.{FilmForm}
 use Rattle.wf_play.specs.Big.{SaysOfBig}
+use Rattle.wf_play.specs.Events.{SaysOfLog}
 use Rattle.wf_play.proofs.Checks.{all_told}
+use Rattle.wf_play.proofs.Logs.{all_logs}
 use Rattle.wf_play.specs.Report.{CompletesIn, IsCaused, IsComplete, SaysOfInput, SaysOfRead}
 use Rattle.wf_play.specs.declared.report.Status.{Status}
 use Rattle.wf_play.specs.declared.report.Status.TheVariants as status
@@ -60,14 +62,17 @@ made_complete took old new form size order a b c d status.NoMemory says caused q
 
 -- each mode
 pub mode_completes : {O : Type 0} (took : O → List ℕ → Type 0) (old new : O) (order : List Turn) (m : Mode) (form : FilmForm)
-    (threads : Bool) (size a b c d : ℕ) (o : Option (List ℕ)) (s : Status) → (s ≡ status.Usage → ⊥)
+    (threads : Bool) (size depth a b c d : ℕ) (o : Option (List ℕ)) (s : Status) → (s ≡ status.Usage → ⊥)
     → IfSome o (λ bytes. SaysOfInput took old new order m form threads bytes s)
-    → (m ≡ mode.Big → SaysOfBig took old new form size order s) → IsCaused a b c d s → CompletesIn m o a b c d s
-mode_completes took old new order mode.Film form threads size a b c d o s accepted says big caused =
+    → (m ≡ mode.Big → SaysOfBig took old new form size order s)
+    → (m ≡ mode.Events → IfSome o (λ bytes. SaysOfLog took old new depth bytes s)) → IsCaused a b c d s → CompletesIn m o a b c d s
+mode_completes took old new order mode.Film form threads size depth a b c d o s accepted says big logged caused =
     all_complete took old new order _ _ a b c d o s accepted says caused
-mode_completes took old new order mode.Check form threads size a b c d o s accepted says big caused =
+mode_completes took old new order mode.Check form threads size depth a b c d o s accepted says big logged caused =
     all_told a b c d o s accepted says caused
-mode_completes took old new order mode.Print form threads size a b c d o s accepted says big caused =
+mode_completes took old new order mode.Print form threads size depth a b c d o s accepted says big logged caused =
     all_complete took old new order _ _ a b c d o s accepted says caused
-mode_completes took old new order mode.Big form threads size a b c d o s accepted says big caused =
+mode_completes took old new order mode.Big form threads size depth a b c d o s accepted says big logged caused =
     made_complete took old new form size order a b c d s (big refl) caused
+mode_completes took old new order mode.Events form threads size depth a b c d o s accepted says big logged caused =
+    all_logs took old new depth a b c d o s accepted (logged refl) caused

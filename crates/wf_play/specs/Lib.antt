@@ -4,6 +4,7 @@
 pub mod Refusals
 pub mod Parts
 pub mod Check
+pub mod Events
 pub mod Report
 pub mod Notes
 pub mod Big

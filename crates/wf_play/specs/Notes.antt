@@ -13,7 +13,8 @@ use Rattle.wf_play.specs.declared.report.Status.TheVariants as status
 -- the line of a status: nothing where the film is whole
 abbrev pub note_of : Status → List ℕ
 note_of status.Done = []
-note_of status.Usage = codes "usage: wfplay <film|check|print|big> [--threads] [--rows N] [--size N] [--film N] [--repaint]\n"
+note_of status.Usage =
+    codes "usage: wfplay <film|check|print|big|events> [--threads] [--rows N] [--size N] [--film N] [--depth N] [--repaint]\n"
 note_of status.ReadFault = codes "read fault\n"
 note_of status.TooLong = codes "input too long\n"
 note_of (status.Refused line rule) = codes "line " ++ decimal line ++ codes ": rule " ++ decimal rule ++ codes "\n"

@@ -17,6 +17,7 @@ use Rattle.wf_turn.specs.Serial.{BeginsSerial}
 use Rattle.wf_command.specs.declared.asked.Mode.{Mode}
 use Rattle.wf_command.specs.declared.asked.Mode.TheVariants as mode
 use Rattle.wf_play.specs.Check.{SaysOfCheck, TellsVerdict}
+use Rattle.wf_play.specs.Events.{LogsAll}
 use Rattle.wf_play.specs.Refusals.{IsRefused, script_limit}
 use Rattle.wf_play.specs.declared.report.Status.{Status}
 use Rattle.wf_play.specs.declared.report.Status.TheVariants as status
@@ -87,7 +88,7 @@ module _ {O : Type 0} (took : O → List ℕ → Type 0) (old new : O) (order : 
   SaysOfRead IsWhole IsCut bytes status.NoMemory = Unit {0}
   SaysOfRead IsWhole IsCut bytes _ = ⊥
 
-  -- what each status says of an input of these bytes; the mode `big` reads none
+  -- what each status says of an input of these bytes; the mode `big` reads none, and `events` has a clause of its own
   abbrev pub SaysOfInput : Mode → FilmForm → Bool → List ℕ → Status → Type 0
   SaysOfInput mode.Film form threads bytes s =
       SaysOfRead (λ bytes. IsPlainFilm took old new form threads bytes order)
@@ -96,6 +97,7 @@ module _ {O : Type 0} (took : O → List ℕ → Type 0) (old new : O) (order : 
   SaysOfInput mode.Print form threads bytes s =
       SaysOfRead (λ bytes. IsPrinted took old new bytes order) (λ bytes. IsCutText took old new bytes order) bytes s
   SaysOfInput mode.Big form threads bytes s = Unit {0}
+  SaysOfInput mode.Events form threads bytes s = Unit {0}
 
   -- what each status says of the film and of the order, whatever the input
   abbrev pub SaysOfFilm : Status → Type 0
@@ -134,4 +136,5 @@ IsComplete bytes input_before input_now film_before film_now s =
 abbrev pub CompletesIn : Mode → Option (List ℕ) → (input_before input_now film_before film_now : ℕ) → Status → Type 0
 CompletesIn mode.Big input a b film_before film_now s = ¬ Rose film_before film_now → (s ≡ status.Done) ⊎ (s ≡ status.NoMemory)
 CompletesIn mode.Check input input_before input_now c d s = IfSome input (λ bytes. TellsVerdict bytes input_before input_now s)
+CompletesIn mode.Events input a b film_before film_now s = IfSome input (λ bytes. LogsAll bytes a b film_before film_now s)
 CompletesIn _ input a b film_before film_now s = IfSome input (λ bytes. IsComplete bytes a b film_before film_now s)

@@ -13,10 +13,10 @@ use wf_io::{ReadStop, Source, read_all};
 use wf_script::parse;
 
 /// The longest film that is checked, in bytes.
-const FILM_LIMIT: usize = 67_108_864;
+pub(crate) const FILM_LIMIT: usize = 67_108_864;
 
 /// The status of a verdict.
-fn status_of(verdict: Verdict) -> Status
+pub(crate) fn status_of(verdict: Verdict) -> Status
     ensures { result ≡ status_of verdict }
 {
     match verdict {

@@ -4,6 +4,7 @@
 mod big;
 mod checked;
 mod laws;
+mod logged;
 mod notes;
 mod parts;
 mod report;

@@ -85,7 +85,7 @@ fn note_of(status: Status) -> Text
         Status::Done => Text::new(),
         Status::Usage => {
             line_of(
-                b"usage: wfplay <film|check|print|big> [--threads] [--rows N] [--size N] [--film N] [--repaint]\n",
+                b"usage: wfplay <film|check|print|big|events> [--threads] [--rows N] [--size N] [--film N] [--depth N] [--repaint]\n",
             )
         }
         Status::ReadFault => line_of(b"read fault\n"),

@@ -35,7 +35,7 @@ const FILM_OF_TWO: [u8; 74] = *b"WFF2\
     E";
 
 const USAGE: &str =
-    "usage: wfplay <film|check|print|big> [--threads] [--rows N] [--size N] [--film N] [--repaint]\n";
+    "usage: wfplay <film|check|print|big|events> [--threads] [--rows N] [--size N] [--film N] [--depth N] [--repaint]\n";
 
 /// A play: its words, its script with so many spaces and a film behind it, and which calls of the source and of the film's sink fail, 0 for
 /// none. And what is wanted: the status with its exit, how many bytes of the film or of the text are put, how many turns are
@@ -153,6 +153,19 @@ const SAME: Row = Row {
     ..NO_PLAY
 };
 
+/// The log of a film whose only event detaches the display.
+const LOG: &str = "0 attach 1 0\n";
+
+/// A film whose only event detaches the display, of which the log is made.
+const LOGGED: Row = Row {
+    words: "events",
+    script: "WFS1\nport 4x2\n0 attach 1 0\nend\n",
+    film: b"WFF2J\0\0\0\x01\0\0\0\0\0\0E",
+    written: LOG.len(),
+    turns: 0,
+    ..DONE
+};
+
 /// A film of another script.
 fn judged(script: &'static str, status: Status, exit: u8, note: &'static str) -> Row {
     Row {
@@ -208,6 +221,8 @@ fn plays<R: Threads + Wait + Sync + AllocGlobal>(rt: &R, row: &Row) -> Result<bo
         COUNTED.as_bytes()
     } else if row.words.contains("print") {
         ONE_TICK.as_bytes()
+    } else if row.words.contains("events") {
+        LOG.as_bytes()
     } else if row.words.contains('1') {
         &FILM
     } else {
@@ -296,7 +311,7 @@ fn films() -> [Row; 18] {
 }
 
 /// Words that are no command.
-fn words_refused() -> [Row; 29] {
+fn words_refused() -> [Row; 32] {
     [
         usage(""),
         usage("film film"),
@@ -327,6 +342,9 @@ fn words_refused() -> [Row; 29] {
         usage("film --threads=true"),
         usage("film --rows 0"),
         usage("film --rows 17"),
+        usage("event"),
+        usage("events --depth 0"),
+        usage("events --depth 65"),
     ]
 }
 
@@ -458,6 +476,62 @@ fn checks() -> [Row; 12] {
     ]
 }
 
+/// Films of which the log is made.
+fn logs() -> [Row; 8] {
+    [
+        LOGGED,
+        Row {
+            words: "events --depth 1",
+            ..LOGGED
+        },
+        Row {
+            script: ONE_TICK,
+            film: &FILM_OF_TWO,
+            written: 0,
+            ..LOGGED
+        },
+        Row {
+            put: 1,
+            status: Status::WriteFault { written: 0 },
+            exit: 6,
+            written: 0,
+            note: "write fault after 0 bytes\n",
+            ..LOGGED
+        },
+        Row {
+            words: "events",
+            ..judged(
+                "WFS1\nport 4x3\n0 tick\nend\n",
+                Status::Differs { at: 17 },
+                7,
+                "differs at 17\n",
+            )
+        },
+        Row {
+            words: "events",
+            ..judged(
+                "WFS1\nport 4x2\n0 tick\n0 tick\nend\n",
+                Status::BadOrder { entry: 3 },
+                8,
+                "bad order at entry 3\n",
+            )
+        },
+        Row {
+            words: "events",
+            ..judged(
+                "WFS1\nport 4x2\n0 tick\nend\nend\n",
+                Status::BadFilm { at: 0, rule: 1 },
+                9,
+                "bad film at 0: rule 1\n",
+            )
+        },
+        Row {
+            words: "events",
+            ..read_fault(4)
+        },
+    ]
+}
+
 /// Scripts that are made.
 fn made() -> [Row; 5] {
     [
@@ -518,6 +592,13 @@ fn scripts_are_printed(rt: HostRuntime) -> Result<(), Fail> {
 #[test]
 fn films_are_checked(rt: HostRuntime) -> Result<(), Fail> {
     let wrong = first_wrong(&rt, &checks())?;
+    assert!(rt; wrong.is_none(), "row {:?}", wrong);
+    Ok(())
+}
+
+#[test]
+fn films_are_logged(rt: HostRuntime) -> Result<(), Fail> {
+    let wrong = first_wrong(&rt, &logs())?;
     assert!(rt; wrong.is_none(), "row {:?}", wrong);
     Ok(())
 }

@@ -9,6 +9,7 @@ ghost use Rattle.wf_turn.specs.Films.{IsCaused as IsCausedPlay, PlaysFilm};
 ghost use Rattle.wf_turn.specs.Serial.{IsInFileOrder};
 ghost use Rattle.wf_play.specs.Big.{SaysOfBig};
 ghost use Rattle.wf_play.specs.Check.{IsChecked};
+ghost use Rattle.wf_play.specs.Events.{IsLogged};
 ghost use Rattle.wf_play.specs.Notes.{IsSame, PutsOrFront, note_of};
 ghost use Rattle.wf_play.specs.Refusals.{refusal_of};
 ghost use Rattle.wf_play.specs.Report.{CompletesIn, IsCaused, IsFoundSame, IsPlainFilm, IsPrinted, IsReadStop, ReadsScript, SaysOfFilm};
@@ -16,6 +17,7 @@ ghost use Rattle.wf_play.specs.Report.{SaysOfInput};
 
 use crate::big::play_big;
 use crate::checked::play_check;
+use crate::logged::play_events;
 use crate::notes::{put_line, put_note};
 use crate::report::{Report, Status, without_order};
 use std::alloc::Global;
@@ -211,6 +213,8 @@ fn play_asked<R: Threads + Wait + Sync, I: Source, O: Sink, G: Gate>(
         → IsChecked O.took film.old film.new result.order (I.left input.old) result.status }
     ensures made { asked.mode ≡ Mode.Big
         → (input.new ≡ input.old) × SaysOfBig O.took film.old film.new asked.form asked.size result.order result.status }
+    ensures logged { asked.mode ≡ Mode.Events
+        → IsLogged O.took film.old film.new asked.depth result.order (I.left input.old) result.status }
     ensures film { SaysOfFilm O.took film.old film.new result.order result.status }
     ensures caused { IsCaused (I.faults input.old) (I.faults input.new) (O.faults film.old) (O.faults film.new) result.status }
     ensures input_count { I.faults input.old ≤ I.faults input.new }
@@ -221,6 +225,7 @@ fn play_asked<R: Threads + Wait + Sync, I: Source, O: Sink, G: Gate>(
         Mode::Check => without_order(alloc, play_check(alloc, input)),
         Mode::Print => play_print(alloc, input, film),
         Mode::Big => play_big(alloc, asked.form, asked.size, film),
+        Mode::Events => without_order(alloc, play_events(alloc, asked.depth, input, film)),
     }
 }
 
@@ -254,6 +259,8 @@ fn play_words<R: Threads + Wait + Sync, I: Source, O: Sink, N: Sink, G: Gate>(
         → IsChecked O.took film.old film.new result.order (I.left input.old) result.status }
     ensures made { (asked : Asked) → AskFor asked words.now → asked.mode ≡ Mode.Big
         → (input.new ≡ input.old) × SaysOfBig O.took film.old film.new asked.form asked.size result.order result.status }
+    ensures logged { (asked : Asked) → AskFor asked words.now → asked.mode ≡ Mode.Events
+        → IsLogged O.took film.old film.new asked.depth result.order (I.left input.old) result.status }
     ensures film { SaysOfFilm O.took film.old film.new result.order result.status }
     ensures caused { IsCaused (I.faults input.old) (I.faults input.new) (O.faults film.old) (O.faults film.new) result.status }
     ensures notes { ¬ (IsSame words.now result.status)
@@ -276,14 +283,15 @@ fn play_words<R: Threads + Wait + Sync, I: Source, O: Sink, N: Sink, G: Gate>(
 }
 
 /// Reads a scene script from `input`, writes its film or its canonical text into `film`, and answers how that ended. `words` are
-/// the command's words without the program's name: the mode, `film`, `check`, `print` or `big`; for a film `--threads`, by which each
-/// client plays on a thread of its own, and then `--rows N`, N from 1 to 16 and by default 1, in how many bands a frame is painted at
-/// most; for its form `--film N`, N 1 or 2 and by default 2; and for `big`, which reads nothing, plays the script that `make` of
-/// `wf_script` makes and writes one line on its film, `--size N`, N from 1 to 1000 and by default 1. `check` reads a script and the film
-/// after it, writes nothing, and answers whether that is the film of the script and of its own journal. Each status but `Done` puts its
-/// line into `notes`, and a check `same` with `Done`; a fault there changes nothing else. `NoMemory` comes only where nothing was
-/// put; later only a creation of the script may lack memory. With `--threads` it may wait, and the gate is called round each event of the
-/// clients 1 to 7.
+/// the command's words without the program's name: the mode, `film`, `check`, `print`, `big` or `events`; for a film `--threads`, by
+/// which each client plays on a thread of its own, and then `--rows N`, N from 1 to 16 and by default 1, in how many bands a frame is
+/// painted at most; for its form `--film N`, N 1 or 2 and by default 2; and for `big`, which reads nothing, plays the script that `make`
+/// of `wf_script` makes and writes one line on its film, `--size N`, N from 1 to 1000 and by default 1. `check` reads a script and the
+/// film after it, writes nothing, and answers whether that is the film of the script and of its own journal. `events` reads the same,
+/// and where a check finds no fault writes the log of what happens at the display, by a queue of `--depth N` happenings, N from 1 to 64
+/// and by default 64. Each status but `Done` puts its line into `notes`, and a check `same` with `Done`; a fault there changes nothing
+/// else. `NoMemory` comes only where nothing was put; later only a creation of the script may lack memory. With `--threads` it may wait,
+/// and the gate is called round each event of the clients 1 to 7.
 pub fn play<R: Threads + Wait + Sync, I: Source, O: Sink, N: Sink, G: Gate>(
     rt: &R,
     alloc: Global,
@@ -313,6 +321,11 @@ pub fn play<R: Threads + Wait + Sync, I: Source, O: Sink, N: Sink, G: Gate>(
     // With the mode `big` nothing is read, and what is put is the line over the film of the script that is made, or its front.
     ensures made { (asked : Asked) → AskFor asked words.now → asked.mode ≡ Mode.Big
         → (input.new ≡ input.old) × SaysOfBig O.took film.old film.new asked.form asked.size result.order result.status }
+
+    // With the mode `events` each status says of the input what a check says, but where that finds no fault: then the log of the
+    // script and of the film's own journal is put, or its front.
+    ensures logged { (asked : Asked) → AskFor asked words.now → asked.mode ≡ Mode.Events
+        → IsLogged O.took film.old film.new asked.depth result.order (I.left input.old) result.status }
 
     // When each status comes.
     ensures usage { result.status ≡ Status.Usage → ¬ (AreAccepted words.now) }

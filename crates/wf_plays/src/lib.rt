@@ -51,13 +51,33 @@ pub fn play_by<R: Threads + Wait + Sync + AllocGlobal, G: Gate>(
     })
 }
 
-/// Checks `film` behind `script`. What is found stands in the notes.
+/// Plays `film` after `script` by the words `asked`.
+fn play_film<R: Threads + Wait + Sync + AllocGlobal>(
+    rt: &R,
+    script: &str,
+    film: &[u8],
+    asked: &[&str],
+) -> io::Result<Played> {
+    let mut bytes = Vec::from_slice(rt.alloc(), script.as_bytes())?;
+    bytes.extend_from_slice(film)?;
+    play_by(rt, bytes, asked, &Open)
+}
+
+/// Checks `film` after `script`. What is found stands in the notes.
 pub fn check<R: Threads + Wait + Sync + AllocGlobal>(
     rt: &R,
     script: &str,
     film: &[u8],
 ) -> io::Result<Played> {
-    let mut bytes = Vec::from_slice(rt.alloc(), script.as_bytes())?;
-    bytes.extend_from_slice(film)?;
-    play_by(rt, bytes, &["check"], &Open)
+    play_film(rt, script, film, &["check"])
+}
+
+/// Makes the log of `film` after `script`, by a queue of `depth` happenings. It stands in the film of what is returned.
+pub fn log<R: Threads + Wait + Sync + AllocGlobal>(
+    rt: &R,
+    script: &str,
+    film: &[u8],
+    depth: &str,
+) -> io::Result<Played> {
+    play_film(rt, script, film, &["events", "--depth", depth])
 }

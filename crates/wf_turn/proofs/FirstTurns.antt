@@ -1,21 +1,19 @@
 -- A turn of serial play, which is that of the client of the first line that is not through.
-use Rattle.wf_turn.proofs.Common.{◌≡◌, ◌∙◌, ℕ, zero, suc, ◌+◌, ◌≤◌, ◌==◌, Bool, true, false, not, ◌&&◌, List, [], ◌∷◌, map, Option, Some}
+use Rattle.wf_turn.proofs.Common.{◌≡◌, ◌∙◌, ℕ, zero, suc, ◌==◌, Bool, true, false, not, ◌&&◌, List, [], ◌∷◌, map, Option, Some}
 use Rattle.wf_turn.proofs.Common.{None, refl}
-use Rattle.wf_turn.proofs.Common.{sym, ap, subst, arith, set, slice_get, IfSome, IsSome, IsSomeAnd, is_some, Turn, Reply, Frame}
+use Rattle.wf_turn.proofs.Common.{sym, ap, subst, set, slice_get, IfSome, IsSome, IsSomeAnd, is_some, Turn, Reply, Frame}
 use Rattle.wf_turn.proofs.Common.{is_running, Running, State, step, Wanted, first_client, is_marked, Ends, EndsNext, HasNoTurn, IsCast}
 use Rattle.wf_turn.proofs.Common.{Turned}
 use Rattle.wf_turn.proofs.Common.{TurnedFirst, may_turn, shown_by, wanted_now, with_frames, Program, first_line, in_setup, next, place_of}
-use Rattle.wf_turn.proofs.Common.{took, worked, all_left, IsFit, Show, answered, frames_of, inherited, is_setting_up, program_at, turn}
+use Rattle.wf_turn.proofs.Common.{took, worked, IsFit, Show, answered, frames_of, inherited, is_setting_up, program_at, turn}
 use Rattle.wf_turn.proofs.Common.{get_map, get_set, Line}
 use Rattle.wf_turn.specs.Serial.{IsFirst}
 use Rattle.wf_words.specs.Places.{map_set}
 use Rattle.wf_turn.proofs.FrameOfATurn.{Leaves, ended, turn_leaves}
 use Rattle.wf_turn.proofs.Clients.{first_place}
 use Rattle.wf_turn.proofs.ProgramsStayFit.{wants}
-use Rattle.wf_turn.proofs.ProgramsGoOn.{asks_line}
 use Rattle.wf_turn.proofs.AnswersKeep.{same_script}
-use Rattle.wf_turn.proofs.FewerEventsLeft.{left_took}
-use Rattle.wf_turn.proofs.Programs.{at_client, left_inherited, left_set, not_inherited, setup_set}
+use Rattle.wf_turn.proofs.Programs.{at_client, not_inherited, setup_set}
 use Rattle.wf_turn.proofs.Replays.{TurnOf, turn_of}
 use Rattle.wf_turn.proofs.TurnOfAShow.{turn_now}
 use Rattle.wf_turn.proofs.TurnOfAProgram.{free_now, has_line}
@@ -214,12 +212,6 @@ module _ (s : Show) (client : ℕ) (cast : IsCast s) (alone : EndsNext s) (first
             let at : slice_get now.programs c.0 ≡ Some q = ap (slice_get now.programs) here ∙ here_now (runs_now f runs).lines in
             rw at (runs_now f runs).ends
 
-    fewer : all_left now.programs + 1 ≤ all_left s.programs
-    fewer =
-        let line = asks_line p of.wanted of.asks in
-        let less = left_took p line.0 W.1 fit line.1 in
-        omega (arith, left_inherited s.programs placed, left_set s.programs client p q of.own, less, ap all_left programs_are)
-
     begun : now.state.frame ≡ None → shown_now ≡ []
     begun idle = sym frames_are ∙ of_frame s.state.frame refl
       where
@@ -239,7 +231,6 @@ module _ (s : Show) (client : ℕ) (cast : IsCast s) (alone : EndsNext s) (first
             taken = ap (λ n. turn (with_frames front s) n (is_marked t)) client_is ∙ one.taken front;
           };
           client_is = client_is;
-          fewer = fewer;
           alone = of_alone now.state.frame refl;
           begun = begun;
           ended = of_ended s.state.frame refl;

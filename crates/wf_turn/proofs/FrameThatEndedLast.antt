@@ -1,5 +1,5 @@
 -- The last frame that ended into a stream: it stays the last one while no entry ends another, and each one that ends is.
-use Rattle.wf_turn.proofs.Common.{◌≡◌, ◌∙◌, ◌⊎◌, ◌<◌, ◌≤◌, ℕ, suc, ◌+◌, List, [], ◌∷◌, ◌++◌, length, Option, Some, None, refl, sym, ap}
+use Rattle.wf_turn.proofs.Common.{◌≡◌, ◌∙◌, ◌⊎◌, ◌<◌, ◌≤◌, ℕ, List, [], ◌∷◌, ◌++◌, length, Some, refl, sym, ap}
 use Rattle.wf_turn.proofs.Common.{subst, arith}
 use Rattle.wf_turn.proofs.Common.{append_assoc, inl, inr, length-append, Bitmap, Turn, PlainScript, Wanted, replay, Program, next, Show}
 use Rattle.wf_turn.proofs.Common.{program_at}

@@ -2,7 +2,7 @@
 use Rattle.wf_turn.proofs.Common.{◌≡◌, ◌∙◌, ℕ, ◌+◌, Bool, true, false, Option, Some, None, refl, sym, subst, ap, arith, Ok, nat_le}
 use Rattle.wf_turn.proofs.Common.{nat_tests}
 use Rattle.wf_turn.proofs.Common.{Call, Code, Reply, Turn, is_ok_code, is_begin, job_of, running_of, Beginning, begin_call, Running, State}
-use Rattle.wf_turn.proofs.Common.{act, step, effect, Show, turn, List, [], ◌∷◌, ◌++◌, PlainScript, replay_from, unwrap_or, is_marked}
+use Rattle.wf_turn.proofs.Common.{act, step, effect, Show, turn, List, [], ◌∷◌, replay_from, unwrap_or, is_marked}
 use Rattle.std.specs.Prelude.{Result, Err}
 use Rattle.wf_calls.specs.Codes.{code_number}
 use Rattle.wf_calls.specs.Parts.{Register, of_device, of_display, register_of, no_register}

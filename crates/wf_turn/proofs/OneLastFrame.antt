@@ -1,8 +1,8 @@
 -- At most one frame of an order is the last that ended into a stream, and it composed one image.
 use Rattle.wf_turn.proofs.Common.{◌≡◌, ◌∙◌, ◌⊎◌, ◌<◌, ◌≤◌, ℕ, ◌+◌, Bool, true, false, List, [], ◌∷◌, ◌++◌, length, Option, Some, None, refl}
 use Rattle.wf_turn.proofs.Common.{sym, ap}
-use Rattle.wf_turn.proofs.Common.{subst, arith, nat_le, nat_tests, Ok, Bitmap, Job, Call, Reply, Turn, is_begin, is_marked}
-use Rattle.wf_turn.proofs.Common.{Beginning, begin_call, State, step, PlainScript, Wanted, replay, replay_from, Program, next, plain}
+use Rattle.wf_turn.proofs.Common.{subst, arith, nat_tests, Ok, Bitmap, Job, Turn, is_marked}
+use Rattle.wf_turn.proofs.Common.{begin_call, State, step, PlainScript, Wanted, replay, replay_from, Program, next, plain}
 use Rattle.wf_turn.proofs.Common.{waiting}
 use Rattle.wf_turn.proofs.Common.{Show, inl, inr, opening_show, program_at, turn}
 use Rattle.std.proofs.lemmas.Bool.{cases_lt}

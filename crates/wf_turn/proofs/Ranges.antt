@@ -1,7 +1,7 @@
 -- The numbers of a legal order, and so of its film, are in the ranges of a film.
-use Rattle.wf_turn.proofs.Common.{◌≡◌, ◌∙◌, ℕ, ◌<◌, ◌≤◌, true, false, not, cond, ◌&&◌, List, [], ◌∷◌, length, Option, None, Some, refl}
+use Rattle.wf_turn.proofs.Common.{◌≡◌, ◌∙◌, ◌<◌, ◌≤◌, true, false, not, cond, ◌&&◌, List, [], ◌∷◌, length, Option, None, Some, refl}
 use Rattle.wf_turn.proofs.Common.{sym}
-use Rattle.wf_turn.proofs.Common.{ap, suc, arith, length-map, IsSome, Turn, FilmForm, PlainScript, State, step, is_marked, replay}
+use Rattle.wf_turn.proofs.Common.{ap, suc, arith, length-map, IsSome, Turn, FilmForm, PlainScript, step, is_marked, replay}
 use Rattle.wf_turn.proofs.Common.{replay_from}
 use Rattle.wf_turn.proofs.Common.{Program, Show, all_taught, frames_after, inherited, is_setting_up, opening_show, taught, took, worked}
 use Rattle.wf_turn.proofs.Common.{set}

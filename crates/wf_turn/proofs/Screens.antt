@@ -1,13 +1,13 @@
 -- The image that a frame takes of each screen, after any order, is of the last frame that ended into it.
 use Rattle.wf_turn.proofs.Common.{◌≡◌, ◌∙◌, ℕ, ◌+◌, Bool, true, false, cond, List, [], ◌∷◌, ◌++◌, map, length, Option, Some, None, refl}
 use Rattle.wf_turn.proofs.Common.{sym}
-use Rattle.wf_turn.proofs.Common.{ap, subst, arith, Ok, nat_le, zip, range_with_len, IfSome, nat_tests, and_parts, eq-eqb, eqb-true, is_in}
+use Rattle.wf_turn.proofs.Common.{ap, subst, arith, Ok, nat_le, zip, range_with_len, IfSome, nat_tests, is_in}
 use Rattle.wf_turn.proofs.Common.{Bitmap, Scene, Call, Job, JobKind, Reply, Turn, entry, is_begin, is_ok_code, job_of, next_images}
-use Rattle.wf_turn.proofs.Common.{scene_streams, same_kind, Beginning, begin_call, start, State, Running, running_of, is_of_frame, act}
+use Rattle.wf_turn.proofs.Common.{scene_streams, Beginning, begin_call, start, State, Running, act}
 use Rattle.wf_turn.proofs.Common.{step}
 use Rattle.wf_turn.proofs.Common.{PlainScript, Wanted, is_marked, replay, Program, next, painted_job, took, worked, took_canvas, plain}
-use Rattle.wf_turn.proofs.Common.{line_done, took_frame, given_canvas, took_job, go_on, Show, opening_show, turn, program_at, each_at}
-use Rattle.wf_turn.proofs.Common.{effect, moves_frame, by_begin, next_is, port_is}
+use Rattle.wf_turn.proofs.Common.{line_done, took_frame, given_canvas, took_job, Show, opening_show, turn, program_at, each_at}
+use Rattle.wf_turn.proofs.Common.{moves_frame, by_begin, next_is, port_is}
 use Rattle.wf_calls.specs.declared.call.Call.TheVariants as call
 use Rattle.wf_calls.specs.declared.call.JobKind.TheVariants as kind
 use Rattle.wf_calls.specs.declared.reply.Payload.TheVariants as payload

@@ -1,14 +1,14 @@
 -- While no frame runs, each screen that a frame ended into has an image.
-use Rattle.wf_turn.proofs.Common.{◌≡◌, ◌∙◌, ◌⊎◌, ◌<◌, ◌≤◌, ℕ, ◌+◌, Bool, true, false, cond, ◌==◌, ◌||◌, List, [], ◌∷◌, ◌++◌, map, filter}
+use Rattle.wf_turn.proofs.Common.{◌≡◌, ◌∙◌, ◌⊎◌, ◌<◌, ◌≤◌, ℕ, ◌+◌, Bool, true, false, cond, ◌==◌, ◌||◌, List, [], ◌∷◌, ◌++◌, map}
 use Rattle.wf_turn.proofs.Common.{length, Option}
 use Rattle.wf_turn.proofs.Common.{Some, None, refl, sym, ap, subst, arith, Ok, nat_le, zip, range_with_len, option_map, nat_tests}
 use Rattle.wf_turn.proofs.Common.{and_parts}
 use Rattle.wf_turn.proofs.Common.{flat_map, suc, zero, Size}
 use Rattle.wf_turn.proofs.Common.{eqb-true, is_in, inl, inr, length-map, list_all, IsSome, Bitmap, image_of, Buffers, acquired, KeptStream}
-use Rattle.wf_turn.proofs.Common.{stream_at, Call, Code, Job, JobKind, Reply, Turn, entry, is_begin, is_ok_code, is_running, job_of}
+use Rattle.wf_turn.proofs.Common.{stream_at, Call, Code, Job, JobKind, Reply, Turn, entry, is_ok_code, job_of}
 use Rattle.wf_turn.proofs.Common.{home_if, next_images, next_image_of, scene_streams, Beginning, begin_call, Images, State, Running}
 use Rattle.wf_turn.proofs.Common.{running_of}
-use Rattle.wf_turn.proofs.Common.{is_of_frame, act, step, effect, PlainScript, Wanted, is_marked, replay, Program, next, took, plain, Show}
+use Rattle.wf_turn.proofs.Common.{is_of_frame, act, step, effect, PlainScript, Wanted, is_marked, replay, Program, next, plain, Show}
 use Rattle.wf_turn.proofs.Common.{opening_show, turn, program_at, next_is, port_is}
 use Rattle.wf_stream.specs.Buffers.{is_plain, latched, next_image, posted, taken_of}
 use Rattle.wf_stream.specs.Buffers.ReadBuffer.{home}
@@ -19,9 +19,8 @@ use Rattle.wf_calls.specs.declared.ports.Modes.{Modes}
 use Rattle.wf_calls.specs.Replies.{bare, done, gives_back_job}
 use Rattle.wf_calls.specs.Parts.{Register, of_device, of_display, register_of, no_register}
 use Rattle.wf_model.specs.Beginnings.{composed_is}
-use Rattle.wf_model.specs.Calls.{display_call}
 use Rattle.wf_model.specs.Composing.{display_side}
-use Rattle.wf_model.specs.DisplaySides.{DisplaySide, display_answer}
+use Rattle.wf_model.specs.DisplaySides.{display_answer}
 use Rattle.wf_model.specs.Effects.{Effect, IsReturn, acquires, begins, composes, displays, ends, makes, refuses, returns, tells, unnames}
 use Rattle.wf_model.specs.Frames.{brought_home, content_shape, delivered, drawing, end_frame, has_shape, latched_among, start}
 use Rattle.wf_model.specs.Kept.{modes_in, modes_stay}

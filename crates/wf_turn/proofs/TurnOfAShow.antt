@@ -4,14 +4,20 @@ use Rattle.wf_turn.proofs.Common.{◌≡◌, ◌∙◌, ℕ, zero, suc, ◌+◌,
 use Rattle.wf_turn.proofs.Common.{length, Option, Some, None, refl, sym, ap, subst, arith, set, slice_get, and_parts, ltb-true}
 use Rattle.wf_turn.proofs.Common.{All, All-cons, All-nil, IsSomeAnd, nat_lt, get_set, entry, Turn, Frame, IsPaintable, Reply}
 use Rattle.wf_turn.proofs.Common.{is_running, State, step, PlainScript, Wanted, HasNoTurn, IsCast, Takes, Turned, shown_by, wanted_now}
-use Rattle.wf_turn.proofs.Common.{with_frames, frames_of, Program, next, took, worked, AreOf, IsFit, Show, all_taught, answered, inherited}
+use Rattle.wf_turn.proofs.Common.{with_frames, frames_of, Program, next, took, worked, all_left, AreOf, IsFit, Show, all_taught, answered}
+use Rattle.wf_turn.proofs.Common.{inherited}
 use Rattle.wf_turn.proofs.Common.{is_setting_up, program_at, turn}
 use Rattle.std.proofs.lemmas.Bool.{ltb-false}
 use Rattle.wf_words.specs.Places.{length_map}
 use Rattle.wf_turn.specs.Playing.{AreOfOne, IsStuckAt, TakesAt}
-use Rattle.wf_turn.proofs.Programs.{are_inherited, are_set, at_client, inherited_get, inherited_same, shown_inherited}
+use Rattle.wf_turn.specs.Quota.{left as turns_left}
+use Rattle.wf_turn.proofs.Programs.{are_inherited, are_set, at_client, inherited_get, inherited_same, left_inherited, left_set}
+use Rattle.wf_turn.proofs.Programs.{shown_inherited}
+use Rattle.wf_turn.proofs.FewerEventsLeft.{left_took}
+use Rattle.wf_turn.proofs.ProgramsGoOn.{asks_line}
 use Rattle.wf_turn.proofs.ProgramsStayFit.{fit_took}
 use Rattle.wf_turn.proofs.AnswersKeep.{same_client, same_script}
+use Rattle.wf_turn.proofs.TurnOfAProgram.{now_next}
 
 -- the turn of a client, by its program
 
@@ -158,12 +164,28 @@ module _ (s : Show) (client : ℕ) (cast : IsCast s) (may : MayTurn s client) wh
                 ∙ ap (by_wanted (with_frames front s) client m may.program) takes.asks
                 ∙ shows front;
             turns = refl;
+            fewer = fewer;
             paintable = λ is. inherited_get (λ r. IsSomeAnd r.job IsPaintable) (λ clock r can. can) s.programs placed client q here
                 (takes.paintable is);
             within = may.within;
             cast = cast_now;
           }
         where
+          asks_now : next may.program ≡ Some takes.wanted
+          asks_now = now_next s.state may.program takes.wanted takes.asks
+
+          fewer : all_left programs_now + 1 ≤ all_left s.programs
+          fewer =
+              let line = asks_line may.program takes.wanted asks_now in
+              let less = left_took may.program line.0 W.1 may.fit line.1 in
+              omega (
+                arith,
+                left_inherited s.programs placed,
+                left_set s.programs client may.program q may.found,
+                less,
+                ap turns_left takes.program,
+              )
+
           of : State → Program → List Frame → Show
           of h r frames =
               record { state = h; programs = inherited s.programs (set s.programs client r); frames = frames; turns = s.turns + 1 }

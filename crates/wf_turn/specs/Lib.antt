@@ -15,8 +15,9 @@ pub mod Films
 pub mod Going
 pub mod Replayed
 pub mod MadePlay
--- What callers prove with: words and facts that other crates use.
 pub mod Playing
+-- What callers prove with: words and facts that other crates use.
+pub mod Played
 -- What is kept inside.
 pub mod Index
 pub mod Tables
@@ -25,4 +26,3 @@ pub mod Passing
 pub mod Inside
 pub mod Lending
 pub mod Members
-pub mod Played

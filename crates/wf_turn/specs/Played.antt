@@ -6,7 +6,6 @@ use Rattle.wf_film.specs.Film.{Frame, frame_bytes}
 use Rattle.wf_film.specs.Frames.{PutsFrames}
 use Rattle.wf_io.specs.Bytes.{PutsPart}
 use Rattle.wf_turn.specs.Playing.{EndsNext, Turned, may_turn, shown_by, with_frames}
-use Rattle.wf_turn.specs.Quota.{all_left}
 use Rattle.wf_turn.specs.Serial.{IsFirst, IsNextTurn, IsRun}
 use Rattle.wf_turn.specs.Turns.{Show, turn}
 use Rattle.wf_turn.specs.Play.{is_marked, replay_from, replay_turn}
@@ -24,13 +23,12 @@ Replays show ts after = replay_from show ts ≡ Some after
 abbrev pub Shows : (Show → Turn → Show → Type 0) → Show → Turn → List Frame → Show → Type 0
 Shows Next show t frames after = (front : List Frame) → Next (with_frames front show) t (with_frames (front ++ frames) after)
 
--- the turn of the first line's client: it makes fewer turns left; a running frame is the same client's to end next; and what ends a
+-- the turn of the first line's client: a running frame is the same client's to end next; and what ends a
 -- frame shows nothing, as does a turn behind which no frame runs
 pub record TurnedFirst (show : Show) (client : ℕ) (now : Show) (t : Turn) (painted : Bool) : Type 0 where
   pub turned : Turned show client (is_marked t) now t painted
   pub next : Shows IsNextTurn show t (shown_by show.turns painted now.programs client) now
   pub client_is : t.client ≡ client
-  pub fewer : all_left now.programs + 1 ≤ all_left show.programs
   pub alone : EndsNext now
   pub begun : now.state.frame ≡ None → shown_by show.turns painted now.programs client ≡ []
   pub ended : IsSome show.state.frame → shown_by show.turns painted now.programs client ≡ []

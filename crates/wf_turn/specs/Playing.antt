@@ -1,5 +1,6 @@
 -- A show while it is played: how it is kept, and what a turn leaves of it.
-use Rattle.std.specs.Prelude.{◌≡◌, ℕ, ◌+◌, ◌<◌, Bool, ◌&&◌, List, [], ◌∷◌, ◌++◌, length, slice_get, slice_set, Option, Some, None, IfSome}
+use Rattle.std.specs.Prelude.{◌≡◌, ℕ, ◌+◌, ◌<◌, ◌≤◌, Bool, ◌&&◌, List, [], ◌∷◌, ◌++◌, length, slice_get, slice_set, Option, Some, None}
+use Rattle.std.specs.Prelude.{IfSome}
 use Rattle.std.specs.Prelude.{All, IsSomeAnd, IsTrue, map, not, ◌==◌, if◌then◌else◌}
 use Rattle.wf_calls.specs.declared.call.Call.{Call}
 use Rattle.wf_calls.specs.declared.call.Job.{Job}
@@ -17,6 +18,7 @@ use Rattle.wf_turn.specs.declared.stage.Stage.{Stage}
 use Rattle.wf_turn.specs.declared.stage.Stage.TheVariants as stage
 use Rattle.wf_turn.specs.declared.stage.Wanted.{Wanted}
 use Rattle.wf_turn.specs.Program.{Program, next, place_of, took, worked}
+use Rattle.wf_turn.specs.Quota.{all_left}
 use Rattle.wf_turn.specs.Ready.{AreOf}
 use Rattle.wf_turn.specs.Turns.{Show, frames_of, is_setting_up, shown, turn}
 use Rattle.wf_turn.specs.Play.{first_client}
@@ -124,11 +126,12 @@ TakesAt memory_refused client h left programs now t painted =
     × ((now ≡ slice_set programs client q) × Takes memory_refused client h left p q t painted))
 
 -- a turn of a client, to which memory is refused or not, leads from a show to another: its frames stand behind whatever was shown
--- before it
+-- before it, and fewer turns are left
 pub record Turned (show : Show) (client : ℕ) (memory_refused : Bool) (now : Show) (t : Turn) (painted : Bool) : Type 0 where
   pub taken : (front : List Frame) → turn (with_frames front show) client memory_refused
       ≡ Some (with_frames (front ++ shown_by show.turns painted now.programs client) now, t)
   pub turns : now.turns ≡ show.turns + 1
+  pub fewer : all_left now.programs + 1 ≤ all_left show.programs
   pub paintable : IsTrue painted → HoldsPaintable now.programs client
   pub within : client < 8
   pub cast : IsCast now

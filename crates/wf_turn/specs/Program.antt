@@ -282,6 +282,18 @@ place_of p = of_lines p.lines
     of_lines [] = None
     of_lines (l ∷ ls) = Some l.0
 
+-- so it is of the first line, where that is a tick
+abbrev pub tick_of : Program → Option ℕ
+tick_of p = of_line (first_line p)
+  where
+    of_verb : Verb → Option ℕ
+    of_verb verb.Tick = place_of p
+    of_verb _ = None
+
+    of_line : Option Line → Option ℕ
+    of_line None = None
+    of_line (Some l) = of_verb l.verb
+
 -- how many lines of the canonical text stand before the event lines: the header, the ports, and the pipelines where there are some
 abbrev pub lines_before : PlainScript → ℕ
 lines_before script = 1 + length script.ports.modes.items + (if script.ports.pipes == 0 then 0 else 1)

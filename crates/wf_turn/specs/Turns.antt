@@ -15,7 +15,8 @@ use Rattle.wf_model.specs.Frames.{is_running}
 use Rattle.wf_model.specs.Step.{step}
 use Rattle.wf_script.specs.Script.{PlainScript}
 use Rattle.wf_turn.specs.declared.stage.Wanted.{Wanted}
-use Rattle.wf_turn.specs.Program.{Program, in_setup, next, painted_job, place_of, program, taught, took, worked}
+use Rattle.wf_turn.specs.Program.{Program, in_setup, next, painted_job, place_of, program, taught, tick_of, took}
+use Rattle.wf_turn.specs.Program.{worked}
 
 -- the state, the eight programs by client, the frames so far, and how many turns there were
 pub record Show : Type 0 where
@@ -32,6 +33,11 @@ opening_show script =
 abbrev pub is_setting_up : List Program → Bool
 is_setting_up [] = false
 is_setting_up (clock ∷ others) = in_setup clock
+
+-- the place in the file of the clock's line, where that is a tick
+abbrev pub tick_line : List Program → Option ℕ
+tick_line [] = None
+tick_line (clock ∷ others) = tick_of clock
 
 -- the programs of the other clients learn the values of the names that the setup bound
 abbrev pub all_taught : List Program → List Program

@@ -8,7 +8,7 @@ ghost use Rattle.wf_turn.specs.Play.{earlier, first_client, is_marked};
 ghost use Rattle.wf_turn.specs.Playing.{AreOfOne, IsStuckAt, StandsOwn, TakesAt};
 ghost use Rattle.wf_turn.specs.Program.{place_of, program, taught};
 ghost use Rattle.wf_turn.specs.Ready.{IsFit};
-ghost use Rattle.wf_turn.specs.Turns.{all_taught, is_setting_up};
+ghost use Rattle.wf_turn.specs.Turns.{all_taught, is_setting_up, tick_line};
 
 use crate::program::Program;
 use crate::stage::Asked;
@@ -125,6 +125,13 @@ impl<'a> Cast<'a> {
         ensures { result ≡ is_setting_up self.now }
     {
         self.clock.in_setup()
+    }
+
+    /// Returns the place of the clock's line in the file, where that is a tick, or `None`.
+    pub(crate) fn tick_line(&self) -> Option<usize>
+        ensures { result ≡ tick_line self.now }
+    {
+        self.clock.tick_line()
     }
 
     /// Finds the client of the first line in the file that is not through, and the place of that line.

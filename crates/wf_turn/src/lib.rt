@@ -29,5 +29,5 @@ pub use player::{PlayStop, serial, serial_by};
 pub use program::Program;
 pub use quotas::quota;
 pub use replaying::{ReplayStop, replay, replay_by};
-pub use show::put_job;
+pub use show::{Show, put_job};
 pub use stage::{Asks, Phase, Stage, Wanted};

@@ -8,7 +8,7 @@ ghost use Rattle.wf_calls.specs.Places.{job_in};
 ghost use Rattle.wf_script.specs.Script.{is_line};
 ghost use Rattle.wf_turn.specs.Going.{GoesOnAfter};
 ghost use Rattle.wf_turn.specs.Program.{first_line, issued, handle, in_setup, next, place_of};
-ghost use Rattle.wf_turn.specs.Program.{line_of, program, taught};
+ghost use Rattle.wf_turn.specs.Program.{line_of, program, taught, tick_of};
 ghost use Rattle.wf_turn.specs.Quota.{left, quota};
 ghost use Rattle.wf_turn.specs.Ready.{IsFit};
 
@@ -20,7 +20,7 @@ use std::alloc::Global;
 use std::marker::Model;
 use wf_calls::{JobPlace, Request};
 use wf_image::Canvas;
-use wf_script::{Line, Name, Script};
+use wf_script::{Line, Name, Script, Verb};
 use wf_words::NoMemory;
 
 /// The program of a client of a script. It hands out the calls of the client's lines one after another, and takes the
@@ -167,6 +167,17 @@ impl<'a> Program<'a> {
         match self.first_line() {
             Some(_) => Some(self.at),
             None => None,
+        }
+    }
+
+    /// Returns the place among the script's lines of the first one that is not through, where that is a tick, or `None`.
+    pub(crate) fn tick_line(&self) -> Option<usize>
+        ensures { result ≡ tick_of self.now }
+    {
+        let line = self.first_line()?;
+        match line.verb {
+            Verb::Tick => self.place(),
+            _ => None,
         }
     }
 

@@ -10,7 +10,7 @@ ghost use Rattle.wf_machine.specs.Object.{IsPaintable};
 ghost use Rattle.wf_turn.specs.Play.{first_client, is_marked};
 ghost use Rattle.wf_turn.specs.Playing.{HasNoTurn, HoldsPaintable, IsCast, Turned, may_turn, shown_by};
 ghost use Rattle.wf_turn.specs.Program.{place_of};
-ghost use Rattle.wf_turn.specs.Turns.{is_over, opening_show, shown};
+ghost use Rattle.wf_turn.specs.Turns.{is_over, opening_show, shown, tick_line};
 
 use crate::cast::Cast;
 use crate::program::unasked;
@@ -27,9 +27,9 @@ use wf_script::Script;
 use wf_words::NoMemory;
 
 /// The machine, the programs of the eight clients of a script by their numbers, the place where each turn puts its call, and the
-/// number of turns so far.
+/// number of turns so far. It goes on by one turn at a time, of whichever client.
 #[derive(Drop)]
-pub(crate) struct Show<'a> {
+pub struct Show<'a> {
     machine: Machine,
     cast: Cast<'a>,
     place: Asked,
@@ -59,7 +59,7 @@ impl<'a> Show<'a> {
     /// Opens the machine before its first call, and the programs of `script` before theirs. What it moves is off the stack when it
     /// returns.
     #[inline(never)]
-    pub(crate) fn open(alloc: Global, script: &'a Script) -> Result<Show<'a>, NoMemory>
+    pub fn open(alloc: Global, script: &'a Script) -> Result<Show<'a>, NoMemory>
         ensures opened { IfOk result (λ show. show ≡ opening_show script.now) }
         ensures cast { IfOk result IsCast }
     {
@@ -73,8 +73,22 @@ impl<'a> Show<'a> {
         })
     }
 
+    /// Returns the machine as the turns so far left it.
+    pub fn machine(&self) -> &Machine
+        ensures { result.now ≡ self.now.state }
+    {
+        &self.machine
+    }
+
+    /// Returns the place among the script's lines of the clock's line, where that is a tick, or `None`.
+    pub fn tick_line(&self) -> Option<usize>
+        ensures { result ≡ tick_line self.now.programs }
+    {
+        self.cast.tick_line()
+    }
+
     /// Returns the number of turns so far.
-    pub(crate) fn turns(&self) -> u32
+    pub fn turns(&self) -> u32
         ensures { result ≡ self.now.turns }
     {
         self.turns
@@ -102,7 +116,7 @@ impl<'a> Show<'a> {
     /// Takes the turn of `client`, to which memory is refused where `memory_refused` says so, and lets `painter` paint the Job that
     /// comes. Returns the entry, and whether a Job was painted; or `None` where `client` has no turn now. After `None` the show is of
     /// no further use.
-    pub(crate) fn turn<P: Painter>(
+    pub fn turn<P: Painter>(
         &mut self,
         client: usize,
         memory_refused: bool,

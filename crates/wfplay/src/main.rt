@@ -1,5 +1,6 @@
 //! The program `wfplay`: plays a scene script from standard input and writes its film to standard output, or prints the script, or
-//! checks the film behind it; or plays a script that is made, and tells its film in one line.
+//! checks the film after it, or writes the log of what happens at the display in that film; or plays a script that is made, and tells
+//! its film in one line.
 #![tactic(auto)]
 
 ghost use Rattle.std.specs.Prelude.{◌≡◌, ◌≢◌, ◌⊎◌, IfSome};
@@ -11,7 +12,7 @@ ghost use Rattle.wf_command.specs.declared.asked.Mode.TheVariants as mode;
 ghost use Rattle.wf_play.specs.Notes.{PutsOrFront, note_of};
 ghost use Rattle.wf_play.specs.Report.{exit_of};
 ghost use Rattle.wf_play.specs.declared.report.Status.{Status};
-ghost use Rattle.wfplay.specs.Exit.{ExitsByCheck, PutsFilm, PutsLine, PutsText};
+ghost use Rattle.wfplay.specs.Exit.{ExitsByCheck, ExitsByLog, PutsFilm, PutsLine, PutsText};
 
 use std::alloc::Global;
 use std::process::ExitCode;
@@ -40,8 +41,9 @@ fn status_without_words(error: &io::Error) -> Status
     }
 }
 
-/// Plays, checks, prints or counts as the words ask, and tells the exit status: where source and sink tell their bytes, 0 only where all
-/// was put or the film that was checked is the same; and 2 where the words are no command, or 10 where there was no memory to read them.
+/// Plays, checks, logs, prints or counts as the words ask, and tells the exit status: where source and sink tell their bytes, 0 only
+/// where all was put or the film that was checked is the same; and 2 where the words are no command, or 10 where there was no memory to
+/// read them.
 fn exit_of_play<R: Threads + Wait + Sync, I: Source, O: Sink, N: Sink>(
     rt: &R,
     alloc: Global,
@@ -56,6 +58,8 @@ fn exit_of_play<R: Threads + Wait + Sync, I: Source, O: Sink, N: Sink>(
         → IfSome (I.left input.old) (PutsText O.took film.old film.new) }
     ensures checked { (asked : Asked) → AskFor asked words.now → asked.mode ≡ mode.Check
         → ExitsByCheck O.took film.old film.new (I.left input.old) result }
+    ensures logged { (asked : Asked) → AskFor asked words.now → asked.mode ≡ mode.Events
+        → ExitsByLog O.took film.old film.new asked.depth (I.left input.old) result }
     ensures made { (asked : Asked) → AskFor asked words.now → asked.mode ≡ mode.Big → result ≡ 0
         → PutsLine O.took film.old film.new asked.form asked.size }
     ensures usage { result ≡ 2 → ¬ (AreAccepted words.now) }

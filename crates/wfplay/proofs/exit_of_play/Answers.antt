@@ -27,6 +27,11 @@ returns-clause-checked g c = λ asked asks is.
     let done = c.play-report in
     (done.result.status, done.result.order, (c.exit.ensures, done.ensures.checked asked asks is))
 
+pub returns-clause-logged : goal.returns-clause-logged
+returns-clause-logged g c = λ asked asks is.
+    let done = c.play-report in
+    (done.result.status, done.result.order, (c.exit.ensures, done.ensures.logged asked asks is))
+
 pub returns-clause-made : goal.returns-clause-made
 returns-clause-made g c = λ asked asks is zero.
     let done = c.play-report in (

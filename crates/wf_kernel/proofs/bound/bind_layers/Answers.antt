@@ -5,8 +5,9 @@ use Rattle.wf_kernel.proofs.bound.bind_layers.Goals as goal
 
 pub bind_layer-requires-clause-table : goal.bind_layer-requires-clause-table
 bind_layer-requires-clause-table g c =
-    table_for c.args.scene.now c.args.tables.now c.as_slice-layers.result.now c.loop-i.i c.loop-i.place _ c.table_at.result.now
-    c.requires.tables c.as_slice-layers.ensures.value c.loop-i-test.true c.loop-i.invariant.place_is c.table_at.ensures
+    table_for c.args.scene.now c.args.left c.args.right c.args.tables.now c.as_slice-layers.result.now c.loop-i.i c.loop-i.place _
+    c.table_at-table.result.now c.requires.tables c.as_slice-layers.ensures.value c.loop-i-test.true c.loop-i.invariant.place_is
+    c.table_at-table.ensures
 
 pub next_place-place-requires : goal.next_place-place-requires
 next_place-place-requires g c =
@@ -16,8 +17,8 @@ next_place-place-requires g c =
 pub loop-i-preserved : goal.loop-i-preserved
 loop-i-preserved g c = record {
   items =
-      bound_more (bound c.args.scene.now c.args.contents.now) c.as_slice-layers.result.now c.args.scene.now.layers.items c.loop-i.i _
-      c.loop-i.list.items c.push.new.self.items c.bind_layer.result
+      bound_more (bound c.args.scene.now c.args.contents.now c.args.left c.args.right) c.as_slice-layers.result.now
+      c.args.scene.now.layers.items c.loop-i.i _ c.loop-i.list.items c.push.new.self.items c.bind_layer.result
       c.as_slice-layers.ensures.value c.loop-i-test.true c.loop-i.invariant.items c.bind_layer.ensures c.push.ensures.items;
   place_is =
       place_next c.args.scene.now c.as_slice-layers.result.now c.loop-i.i _ c.loop-i.place c.next_place-place.result

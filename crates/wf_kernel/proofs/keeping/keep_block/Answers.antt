@@ -71,7 +71,6 @@ returns c =
     (λ i low. places_are r c.layer.inside.table.now whole (whole.x + whole.len - whole.x) table stretch count i low
     ∙ ap (λ (b : Bound). across b.turn b.layer (whole.across + i)) same) in
     record {
-      width = c.requires.kept.width;
       line_len = c.requires.kept.line_len;
       line = c.requires.kept.line;
       block_len = omega arith;

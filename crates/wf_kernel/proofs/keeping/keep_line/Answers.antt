@@ -18,7 +18,6 @@ returns c =
     let high = stretch.high in
     let other = down_is whole.down (c.layer.view_is ∙ same) c.down.ensures.value in
     record {
-      width = c.requires.kept.width;
       line_len = omega arith;
       line = λ image source i d low e.
           let image_is : c.args.image.now ≡ image = let both : Some c.args.image.now ≡ Some image = sym c.requires.source ∙ source in cc in

@@ -34,7 +34,7 @@ returns-clause-part c =
 pub returns-clause-kept : goal.returns-clause-kept
 returns-clause-kept c =
     let kept = kept (goal.at.returns-clause-kept c).Joined-not-has in
-    record { width = kept.width; line_len = kept.line_len; line = kept.line; block_len = kept.block_len; block = kept.block }
+    record { line_len = kept.line_len; line = kept.line; block_len = kept.block_len; block = kept.block }
 
 pub lay_line-requires-clause-line : goal.lay_line-requires-clause-line
 lay_line-requires-clause-line c =

@@ -1,4 +1,4 @@
-use Rattle.std.proofs.Common.{◌≡◌, ◌+◌, ◌-◌, ℕ, ◌∙◌, arith, zero-add}
+use Rattle.std.proofs.Common.{◌≡◌, ◌-◌, ◌∙◌, arith, zero-add}
 use Rattle.wf_pixel.specs.declared.Format.TheVariants.{Rgba8Pre}
 use Rattle.wf_image.specs.Bitmap.{drawn_row}
 use Rattle.wf_kernel.specs.Bound.{bound_colour}

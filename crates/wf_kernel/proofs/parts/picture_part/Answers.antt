@@ -1,6 +1,5 @@
-use Rattle.std.proofs.Common.{ℕ, List, map, length, sym, ap, subst, ◌∙◌}
-use Rattle.wf_kernel.specs.Bound.{bound, bound_colour}
-use Rattle.wf_kernel.specs.PartOfTarget.{IsPartly}
+use Rattle.std.proofs.Common.{ℕ, List, length, sym, ap, subst, ◌∙◌}
+use Rattle.wf_kernel.specs.PartOfTarget.{part_colour, IsPartly}
 use Rattle.wf_kernel.proofs.Partly.{part_is}
 use Rattle.wf_kernel.proofs.parts.picture_part.Goals as goal
 
@@ -10,5 +9,5 @@ returns-clause-picture c =
     c.requires.size c.requires.pixels (ap (λ (l : List ℕ). length l) (sym c.bytes_mut.ensures.value) ∙ c.bytes_mut.ensures.len)
     c.part_of-part.ensures.holds
     (subst (λ (l : List ℕ). IsPartly c.args.scene.now.size.w c.args.scene.now.size.h
-    (bound_colour (map (bound c.args.scene.now c.args.contents.now) c.args.scene.now.layers.items) c.args.scene.now.background)
-    c.part_of-part.result l c.part_of_scene.new.bytes) c.bytes_mut.ensures.value c.part_of_scene.ensures)
+    (part_colour c.args.scene.now c.args.contents.now c.part_of-part.result) c.part_of-part.result l c.part_of_scene.new.bytes)
+    c.bytes_mut.ensures.value c.part_of_scene.ensures)

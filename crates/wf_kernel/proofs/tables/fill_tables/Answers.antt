@@ -24,9 +24,10 @@ loop-i-preserved c =
       len = c.fill_needed.ensures.len ∙ c.loop-i.invariant.len;
       place_is = next_is;
       filled =
-          filled_more scene layers c.loop-i.i c.loop-i.place next _ c.turned-space.result c.loop-i.tables c.fill_needed.new.tables
-          c.loop-i-test.true c.loop-i.invariant.place_is next_is c.next_place-place.ensures.up c.next_place-place.ensures.needed
-          c.fill_needed.ensures.before c.turned-space.ensures c.fill_needed.ensures.table c.loop-i.invariant.filled;
+          filled_more scene c.args.left c.args.right layers c.loop-i.i c.loop-i.place next _ c.turned-space.result c.loop-i.tables
+          c.fill_needed.new.tables c.loop-i-test.true c.loop-i.invariant.place_is next_is c.next_place-place.ensures.up
+          c.next_place-place.ensures.needed c.fill_needed.ensures.before c.turned-space.ensures c.fill_needed.ensures.table
+          c.loop-i.invariant.filled;
     }
 
 pub returns : goal.returns
@@ -37,5 +38,5 @@ returns c =
     c.loop-i.invariant.place_is in
     let len = c.loop-i.invariant.len in
     let room = c.requires.room in
-    filled_all scene layers c.loop-i.i c.loop-i.place c.loop-i.tables c.as_slice-layers.ensures.value (omega arith)
+    filled_all scene c.args.left c.args.right layers c.loop-i.i c.loop-i.place c.loop-i.tables c.as_slice-layers.ensures.value (omega arith)
     c.loop-i.invariant.place_is (omega (arith, all, len, room)) c.loop-i.invariant.filled

@@ -8,5 +8,5 @@ abbrev pub invariant-loop-i : goal.invariant-loop-i
 invariant-loop-i l = record {
   len : length l.tables ≡ length l.fn.tables;
   place_is : l.place ≡ tables_before l.scene l.i;
-  filled : AreFilled l.scene l.layers l.i l.place l.tables;
+  filled : AreFilled l.scene l.left l.right l.layers l.i l.place l.tables;
 }

@@ -25,8 +25,8 @@ returns-clause-printed g c = λ asked asks is.
 pub returns-clause-complete : goal.returns-clause-complete
 returns-clause-complete g c = λ asked asks.
     let done = c.play_words in
-    mode_completes g.O.Sink.took c.args.film.now done.new.film done.result.order asked.mode asked.form asked.threads asked.size
+    mode_completes g.O.Sink.took c.args.film.now done.new.film done.result.order asked.mode asked.form asked.threads asked.size asked.depth
     (g.I.Source.faults c.args.input.now) (g.I.Source.faults done.new.input) (g.O.Sink.faults c.args.film.now)
     (g.O.Sink.faults done.new.film) (g.I.Source.left c.args.input.now) done.result.status
     (λ usage. done.ensures.usage usage (asked, asks)) (done.ensures.input asked asks)
-    (λ is. (done.ensures.made asked asks is).1) done.ensures.caused
+    (λ is. (done.ensures.made asked asks is).1) (λ is. (done.ensures.logged asked asks is).says) done.ensures.caused

@@ -1,6 +1,7 @@
 use Rattle.std.proofs.Common.{sym, subst}
 use Rattle.std.specs.Prelude.{IfSome}
 use Rattle.wf_play.specs.Check.{SaysOfCheck}
+use Rattle.wf_play.specs.Events.{SaysOfLog}
 use Rattle.wf_play.specs.Report.{IsCaused, SaysOfFilm, SaysOfInput}
 use Rattle.wf_play.proofs.Checks.{caused_so, nothing_put}
 use Rattle.wf_play.proofs.top.play_asked.Goals as goal
@@ -48,3 +49,14 @@ returns-in-Check-clause-caused g c =
     let film = g.O.Sink.faults c.args.film.now in
     subst (IsCaused before now film film) (sym c.without_order.ensures.status)
     (caused_so before now film film c.play_check.result c.play_check.ensures.caused)
+
+-- the log
+
+pub returns-in-Events-clause-logged : goal.returns-in-Events-clause-logged
+returns-in-Events-clause-logged g c = λ is. record {
+  none = c.without_order-in-Events.ensures.order;
+  says =
+      subst (λ s. IfSome (g.I.Source.left c.args.input.now)
+      (λ bytes. SaysOfLog g.O.Sink.took c.args.film.now c.play_events.new.film c.args.asked.depth bytes s))
+      (sym c.without_order-in-Events.ensures.status) c.play_events.ensures.input;
+}

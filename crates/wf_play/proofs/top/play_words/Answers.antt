@@ -3,6 +3,7 @@ use Rattle.wf_command.specs.Meaning.{one_meaning}
 use Rattle.wf_command.specs.declared.asked.Asked.{Asked}
 use Rattle.wf_command.specs.declared.asked.Mode.TheVariants as mode
 use Rattle.wf_play.specs.Big.{SaysOfBig}
+use Rattle.wf_play.specs.Events.{IsLogged}
 use Rattle.wf_play.specs.Notes.{PutsOrFront, note_of}
 use Rattle.wf_play.specs.declared.report.Status.TheVariants as status
 use Rattle.wf_play.proofs.Lines.{plain_note, same_note}
@@ -21,6 +22,14 @@ returns-in-Ok-clause-checked g c = λ asked asks is.
     let done = c.play_asked-report in
     let same = one_meaning c.args.words.now c.in-Ok.asked asked c.in-Ok.ensures.asked asks in
     done.ensures.checked (ap (λ (a : Asked). a.mode) same ∙ is)
+
+pub returns-in-Ok-clause-logged : goal.returns-in-Ok-clause-logged
+returns-in-Ok-clause-logged g c = λ asked asks is.
+    let done = c.play_asked-report in
+    let same = one_meaning c.args.words.now c.in-Ok.asked asked c.in-Ok.ensures.asked asks in
+    subst (λ a. a.mode ≡ mode.Events
+    → IsLogged g.O.Sink.took c.args.film.now done.new.film a.depth done.result.order (g.I.Source.left c.args.input.now) done.result.status)
+    same done.ensures.logged is
 
 pub returns-in-Ok-clause-notes : goal.returns-in-Ok-clause-notes
 returns-in-Ok-clause-notes g c = λ other.

@@ -1,7 +1,4 @@
-use Rattle.std.proofs.Common.{subst}
-use Rattle.wf_film.specs.Frames.{PutsFrames}
-use Rattle.wf_film.proofs.PutFrames.{no_frames, one_frame}
-use Rattle.wf_turn.specs.Turns.{shown}
+use Rattle.wf_film.proofs.PutFrames.{no_frames}
 use Rattle.wf_turn.proofs.show.put_job.Goals as goal
 
 pub returns-in-Context-clause-all : goal.returns-in-Context-clause-all

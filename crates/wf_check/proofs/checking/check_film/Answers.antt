@@ -1,6 +1,6 @@
 use Rattle.std.proofs.Common.{◌∷◌, ◌∙◌, length, ap, arith}
 use Rattle.wf_check.proofs.Findings.{compared_whole, never, stopped_so}
-use Rattle.wf_check.proofs.checking.compare.Goals as goal
+use Rattle.wf_check.proofs.checking.check_film.Goals as goal
 
 pub replay-requires : goal.replay-requires
 replay-requires c = omega (arith, c.requires.1.is.few, ap length (c.order.ensures ∙ ap (λ f. f.order) c.requires.2))
