@@ -19,4 +19,6 @@ pub use wf_command::{Asked, Mode};
 pub use wf_show::{Gate, Open};
 
 #[cfg(test)]
+mod rows;
+#[cfg(test)]
 mod tests;
