@@ -4,8 +4,8 @@ use Rattle.wf_events.specs.Log.{log}
 use Rattle.wf_play.proofs.Logs.{own_order}
 use Rattle.wf_play.proofs.logged.log_of_film.Goals as goal
 
-pub events-requires-clause-complete : goal.events-requires-clause-complete
-events-requires-clause-complete c =
+pub events-requires : goal.events-requires
+events-requires c =
     let same = rw c.in-Ok-Same.field-0-is at c.in-Ok-Same.ensures in
     subst (IsComplete c.args.script.now)
     (sym (own_order c.args.script.now c.args.bytes.now c.requires.film.0 c.order.result.now c.requires.film.1
