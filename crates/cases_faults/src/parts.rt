@@ -1,10 +1,8 @@
 //! What a play of a case is made of.
 
-ghost use Rattle.std.specs.Prelude.{◌<◌};
-
 use std::alloc::{AllocError, Global};
 use wf_calls::Turn;
-use wf_cases::{bytes_of, number, word, words_of};
+use wf_cases::{bytes_of, number, push_hex, word, words_of};
 
 /// The most bytes that a play puts here.
 pub(crate) const ROOM: usize = 65_536;
@@ -20,25 +18,6 @@ pub(crate) struct Parts {
     pub(crate) most: usize,
     pub(crate) wanted: Vec<u8>,
     pub(crate) turns: Vec<Turn>,
-}
-
-/// The value of a hexadecimal digit, or 0.
-fn digit(byte: u8) -> u8
-    ensures { result < 16 }
-{
-    match byte {
-        b'0'..=b'9' => byte - b'0',
-        b'a'..=b'f' => byte - b'a' + 10,
-        _ => 0,
-    }
-}
-
-/// Adds the bytes that a text has in hexadecimal.
-pub(crate) fn push_hex(bytes: &mut Vec<u8>, text: &str) -> Result<(), AllocError> {
-    for pair in text.as_bytes().chunks_exact(2) {
-        bytes.push(16 * digit(pair[0]) + digit(pair[1]))?;
-    }
-    Ok(())
 }
 
 /// How many bytes there are.

@@ -1,13 +1,13 @@
 //! The plays of a case, and what is told of them.
 
 use crate::parted::Parted;
-use crate::parts::{Parts, ROOM, push_hex};
+use crate::parts::{Parts, ROOM};
 use std::alloc::{AllocError, Global};
 use std::io;
 use std::sync::Wait;
 use std::thread::Threads;
 use wf_calls::Turn;
-use wf_cases::{number, word, words_of};
+use wf_cases::{number, push_hex, word, words_of};
 use wf_io::{MemorySink, MemorySource};
 use wf_play::{Open, Report, play};
 

@@ -1,15 +1,7 @@
 //! Bytes as a line of a case can have them: `\n`, `\r`, `\t`, `\s` for a space at either end, and `\xHH` for any byte.
 
+use crate::hex::digit;
 use std::alloc::{AllocError, Global};
-
-/// The value of a hexadecimal digit, or 0.
-fn digit(byte: u8) -> u8 {
-    match byte {
-        b'0'..=b'9' => byte - b'0',
-        b'a'..=b'f' => byte - b'a' + 10,
-        _ => 0,
-    }
-}
 
 /// What a letter behind a backslash stands for, with the two bytes behind it, and how many of the three count.
 fn escaped(letter: u8, high: u8, low: u8) -> (u8, usize) {

@@ -5,12 +5,14 @@
 
 mod attributes;
 mod escapes;
+mod hex;
 mod pixels;
 mod scenes;
 mod words;
 
 pub use attributes::{context_attr, element_attr};
 pub use escapes::bytes_of;
+pub use hex::{push_hex, told_hex};
 pub use pixels::{color, format, rect, size, told_bytes, transparency, turn};
 pub use scenes::{told_layer, told_scene};
 use std::alloc::{AllocError, Global};

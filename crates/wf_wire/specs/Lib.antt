@@ -12,5 +12,11 @@ pub mod Kinds
 pub mod Forms
 pub mod Words
 pub mod Meaning
+pub mod Asked
+pub mod Answers
+pub mod Grown
+pub mod Served
 -- What is kept inside.
+pub mod Putting
+pub mod Heard
 pub mod Spelling

@@ -1,5 +1,6 @@
 -- What a call took from its source, by what reading makes of it, where the source tells its bytes.
-use Rattle.std.specs.Prelude.{◌≡◌, ℕ, ◌+◌, ◌<◌, ◌≤◌, ◌++◌, List, length, Option, Some, None, Result, Ok, Err, IsErrOf, ◌⊎◌}
+use Rattle.std.specs.Prelude.{◌≡◌, ℕ, ◌+◌, ◌<◌, ◌≤◌, Bool, true, false, ◌++◌, List, length, Option}
+use Rattle.std.specs.Prelude.{Some, None, Result, Ok, Err, IfErr, IsErrOf, IsTrue, ◌⊎◌}
 use Rattle.std.specs.Io.KnownBytes.{Consumes, IsAtEnd, Keeps}
 use Rattle.wf_io.specs.Causes.{Rose}
 use Rattle.wf_wire.specs.declared.stop.ServeStop.{ServeStop}
@@ -58,10 +59,17 @@ Fills old at new now into (Err (stop.BadMessage place rule)) =
     (taken : List ℕ) × Consumes old new taken × (length taken < length into) × IsAtEnd new × (place ≡ at + length taken) × (rule ≡ 4)
 Fills old at new now into (Err _) = ⊥
 
--- the count of faults did not fall, and a fault is told only where it rose
+-- a stop of reading: the source failed, or a rule is broken
+abbrev pub is_of_reading : ServeStop → Bool
+is_of_reading stop.ReadFault = true
+is_of_reading (stop.BadMessage place rule) = true
+is_of_reading _ = false
+
+-- the count of faults did not fall, and a fault is told only where it rose; nothing but reading stops it
 pub record IsCaused {A : Type 0} (before now : ℕ) (result : Result A ServeStop) : Type 0 where
   pub later : before ≤ now
   pub fault : IsErrOf result stop.ReadFault → Rose before now
+  pub reading : IfErr result (λ s. IsTrue (is_of_reading s))
 
 -- an answer, by what is seen of its value
 abbrev pub seen : {A B : Type 0} → (A → B) → Result A ServeStop → Result B ServeStop

@@ -1,21 +1,25 @@
 //! Call sessions as bytes: reads the header and the messages by which one client drives a pass of a desk.
 #![tactic(auto)]
 
+mod answering;
+mod asking;
 mod bits;
 mod fields;
 mod form;
 mod header;
+mod hearing;
 mod kind;
 mod laws;
 mod meaning;
 mod message;
 mod messages;
 mod paints;
+mod serving;
 mod session;
 mod stop;
 mod words;
 
-pub use laws::{all_messages_are_told, faults_lie_in_the_input};
+pub use laws::{all_messages_are_told, answered_messages_are_told, faults_lie_in_the_input};
 pub use message::Message;
 pub use session::Session;
 pub use stop::ServeStop;
