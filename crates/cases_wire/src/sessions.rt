@@ -1,6 +1,7 @@
 //! A session that is opened and served, and what is told of it.
 
-ghost use Rattle.std.specs.Prelude.{◌≤◌, ◌<◌};
+ghost use Rattle.std.specs.Prelude.{◌≤◌, ◌<◌, IsTrue};
+ghost use Rattle.wf_calls.specs.PortRules.{may_declare};
 
 use std::alloc::{AllocError, Global};
 use std::sync::Wait;
@@ -56,7 +57,9 @@ fn served<R: AllocGlobal + Wait>(
     ports: &Ports,
     input: &mut MemorySource,
     out: &mut MemorySink,
-) -> Result<Result<u64, ServeStop>, AllocError> {
+) -> Result<Result<u64, ServeStop>, AllocError>
+    requires { IsTrue (may_declare ports.now) }
+{
     let alloc = rt.alloc();
     let Ok(machine) = Machine::open(alloc, ports) else {
         return Err(AllocError);
