@@ -19,6 +19,6 @@ pub use wf_command::{Asked, Mode};
 pub use wf_show::{Gate, Open};
 
 #[cfg(test)]
-mod rows;
+mod row;
 #[cfg(test)]
 mod tests;

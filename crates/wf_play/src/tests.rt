@@ -1,7 +1,7 @@
 //! Plays with sources and sinks that fail at the calls that they are told, and that a play has memory where it is at hand.
 
 use crate::Status;
-use crate::rows::{
+use crate::row::{
     COUNTED_OF_ONE, DONE, FILM, FILM_OF_TWO, HUNDRED, LOGGED, MADE, ONE_TICK, PRINTED, Row, SAME,
     TOO_LONG, first_wrong, judged, of_one, read_fault, refused, usage, write_fault,
 };
