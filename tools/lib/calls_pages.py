@@ -92,19 +92,25 @@ def messages_md(table):
     return "\n| Number | Message | Arguments |\n|---|---|---|\n" + rows + "\n"
 
 
-def end_md(end):
-    """Returns an end of a range as a number."""
+def end_of(end):
+    """Returns the number that an end of a range is."""
     amount = end.lstrip("-")
-    return f"{'-' if end[0] == '-' else ''}{ENDS.get(amount) or int(amount):,}"
+    number = ENDS.get(amount) or int(amount)
+    return -number if end[0] == "-" else number
+
+
+def words_of(table):
+    """Returns the words of scripts that numbers of messages stand for, in the order of the numbers, by the names of their kinds."""
+    attributes = {name: sorted(table.attributes_of(name), key=lambda own: own.number) for name in table.kinds}
+    return {kind.name: [own.word for own in attributes[kind.name]] or kind.words for kind, _ in worded(table)}
 
 
 def kinds_md(table):
     """Returns the table of the kinds of arguments of docs/formats.md."""
-    words = {kind.name: [own.word for own in sorted(table.attributes_of(kind.name), key=lambda own: own.number)] or kind.words
-             for kind, _ in worded(table)}
+    words = words_of(table)
     rows = ""
     for kind in kinds(table):
         ends = ends_of(kind, table)
         told = ", ".join(f"{place} `{word}`" for place, word in enumerate(words.get(kind.name, [])))
-        rows += f"| {kind.name} | {told or (f'{end_md(ends[0])} to {end_md(ends[1])}' if ends else 'any')} |\n"
+        rows += f"| {kind.name} | {told or (f'{end_of(ends[0]):,} to {end_of(ends[1]):,}' if ends else 'any')} |\n"
     return "\n| Kind | What it may be |\n|---|---|\n" + rows + "\n"

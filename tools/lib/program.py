@@ -1,4 +1,5 @@
-"""The built program, as the tools play it: the one that WFPLAY names, or that of this checkout. The same of cases_machine, which plays cases."""
+"""The built program, as the tools play it: the one that WFPLAY names, or that of this checkout. The same of cases_machine and cases_wire,
+which play cases."""
 
 import functools
 import os
@@ -8,6 +9,7 @@ from pathlib import Path
 TOP = Path(__file__).resolve().parent.parent.parent
 PROGRAM = Path(os.environ.get("WFPLAY") or TOP / "crates/wfplay/out/wfplay")
 CASES = Path(os.environ.get("WFCASES") or TOP / "crates/cases_machine/out/cases_machine")
+SESSIONS = Path(os.environ.get("WFWIRE") or TOP / "crates/cases_wire/out/cases_wire")
 SECONDS = 120
 
 

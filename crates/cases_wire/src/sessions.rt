@@ -49,22 +49,23 @@ fn told_end(alloc: Global, end: Result<u64, ServeStop>) -> Result<String, AllocE
     }
 }
 
-/// Serves a session on a machine of its own.
+/// Serves a session on a machine of its own, whose client has `quota` calls.
 fn served<R: AllocGlobal + Wait>(
     rt: &R,
-    parts: &Parts,
+    quota: u32,
     session: Session,
     ports: &Ports,
     input: &mut MemorySource,
     out: &mut MemorySink,
 ) -> Result<Result<u64, ServeStop>, AllocError>
-    requires { IsTrue (may_declare ports.now) }
+    requires ports { IsTrue (may_declare ports.now) }
+    requires some { 1 ≤ quota }
 {
     let alloc = rt.alloc();
     let Ok(machine) = Machine::open(alloc, ports) else {
         return Err(AllocError);
     };
-    let Ok((desk, mut passes)) = Desk::open(alloc, machine, &[parts.quota]) else {
+    let Ok((desk, mut passes)) = Desk::open(alloc, machine, &[quota]) else {
         return Err(AllocError);
     };
     match passes.first_mut() {
@@ -89,7 +90,7 @@ pub(crate) fn played<R: AllocGlobal + Wait>(
         return Err(AllocError);
     };
     let end = match Session::open(&mut input) {
-        Ok((session, ports)) => served(rt, parts, session, &ports, &mut input, &mut out)?,
+        Ok((session, ports)) => served(rt, parts.quota, session, &ports, &mut input, &mut out)?,
         Err(stop) => Err(stop),
     };
     let put = told_hex(alloc, out.bytes())?;

@@ -14,7 +14,8 @@ use Rattle.clap.specs.Words.{Text}
 abbrev mode_of : ℕ → Mode
 mode_of n =
     if n == 102 then mode.Film
-    else (if n == 99 then mode.Check else (if n == 112 then mode.Print else (if n == 98 then mode.Big else mode.Events)))
+    else (if n == 99 then mode.Check
+    else (if n == 112 then mode.Print else (if n == 98 then mode.Big else (if n == 101 then mode.Events else mode.Session))))
 
 mode_back : (m : Mode) → mode_of (get_or (mode_word m) 0 0) ≡ m
 mode_back mode.Film = refl
@@ -22,6 +23,7 @@ mode_back mode.Check = refl
 mode_back mode.Print = refl
 mode_back mode.Big = refl
 mode_back mode.Events = refl
+mode_back mode.Session = refl
 
 one_mode : (a b : Mode) → mode_word a ≡ mode_word b → a ≡ b
 one_mode a b same = sym (mode_back a) ∙ ap (λ (w : List ℕ). mode_of (get_or w 0 0)) same ∙ mode_back b

@@ -24,6 +24,7 @@ mode_word mode.Check = codes "check"
 mode_word mode.Print = codes "print"
 mode_word mode.Big = codes "big"
 mode_word mode.Events = codes "events"
+mode_word mode.Session = codes "session"
 
 -- the command
 

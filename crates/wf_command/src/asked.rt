@@ -15,6 +15,8 @@ pub enum Mode {
     Big,
     /// The log of what happens at the display in a film.
     Events,
+    /// The answers to a session, which is one client's calls as bytes.
+    Session,
 }
 
 /// A mode with its options.

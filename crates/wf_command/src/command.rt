@@ -119,6 +119,7 @@ fn mode_named(word: &str) -> Option<Mode>
         "print" => Some(Mode::Print),
         "big" => Some(Mode::Big),
         "events" => Some(Mode::Events),
+        "session" => Some(Mode::Session),
         _ => None,
     }
 }

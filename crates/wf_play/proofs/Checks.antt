@@ -30,6 +30,8 @@ parts_say bytes (status.WriteFault written) within says = (within, says)
 parts_say bytes (status.Differs at) within says = (within, says)
 parts_say bytes (status.BadOrder entry) within says = (within, says)
 parts_say bytes (status.BadFilm at rule) within says = (within, says)
+parts_say bytes (status.BadMessage at rule) within says = absurd says
+parts_say bytes (status.Quota at) within says = absurd says
 parts_say bytes status.NoMemory within says = tt
 
 -- others do not come of the parts
@@ -43,6 +45,8 @@ outcome text film (status.WriteFault written) says = says
 outcome text film (status.Differs at) says = tt
 outcome text film (status.BadOrder entry) says = tt
 outcome text film (status.BadFilm at rule) says = tt
+outcome text film (status.BadMessage at rule) says = absurd says
+outcome text film (status.Quota at) says = absurd says
 outcome text film status.NoMemory says = tt
 
 pub outcome_used : (s : Status) → IsOutcome s → s ≡ status.Usage → ⊥
@@ -58,6 +62,8 @@ outcome_caused a b c d (status.WriteFault written) comes = absurd comes
 outcome_caused a b c d (status.Differs at) comes = tt
 outcome_caused a b c d (status.BadOrder entry) comes = tt
 outcome_caused a b c d (status.BadFilm at rule) comes = tt
+outcome_caused a b c d (status.BadMessage at rule) comes = tt
+outcome_caused a b c d (status.Quota at) comes = tt
 outcome_caused a b c d status.NoMemory comes = tt
 
 one_told : (a b c d : ℕ) (bytes : List ℕ) (s : Status) → (s ≡ status.Usage → ⊥) → SaysOfCheck bytes s → IsCaused a b c d s
@@ -75,6 +81,8 @@ one_told a b c d bytes (status.WriteFault written) accepted says caused = absurd
 one_told a b c d bytes (status.Differs at) accepted says caused = λ script stands within calm. inl (verdict.Differs at, refl)
 one_told a b c d bytes (status.BadOrder entry) accepted says caused = λ script stands within calm. inl (verdict.BadOrder entry, refl)
 one_told a b c d bytes (status.BadFilm at rule) accepted says caused = λ script stands within calm. inl (verdict.BadFilm at rule, refl)
+one_told a b c d bytes (status.BadMessage at rule) accepted says caused = absurd says.1
+one_told a b c d bytes (status.Quota at) accepted says caused = absurd says.1
 one_told a b c d bytes status.NoMemory accepted says caused = λ script stands within calm. inr refl
 
 -- without a fault, a script and a film within their limits come to a verdict, or to NoMemory
@@ -94,6 +102,8 @@ caused_so a b c d (status.WriteFault written) caused = absurd (omega (arith, cau
 caused_so a b c d (status.Differs at) caused = tt
 caused_so a b c d (status.BadOrder entry) caused = tt
 caused_so a b c d (status.BadFilm at rule) caused = tt
+caused_so a b c d (status.BadMessage at rule) caused = tt
+caused_so a b c d (status.Quota at) caused = tt
 caused_so a b c d status.NoMemory caused = tt
 
 pub nothing_put : {O : Type 0} (took : O → List ℕ → Type 0) (old : O) (order : List Turn) (a b : ℕ) (s : Status) → order ≡ []
@@ -107,4 +117,6 @@ nothing_put took old order a b (status.WriteFault written) none caused = absurd 
 nothing_put took old order a b (status.Differs at) none caused = (λ before puts. puts, none)
 nothing_put took old order a b (status.BadOrder entry) none caused = (λ before puts. puts, none)
 nothing_put took old order a b (status.BadFilm at rule) none caused = (λ before puts. puts, none)
+nothing_put took old order a b (status.BadMessage at rule) none caused = (λ before puts. puts, none)
+nothing_put took old order a b (status.Quota at) none caused = (λ before puts. puts, none)
 nothing_put took old order a b status.NoMemory none caused = (λ before puts. puts, none)

@@ -3,6 +3,7 @@ pub mod Lengths
 pub mod Lines
 pub mod Checks
 pub mod Logs
+pub mod Sessions
 pub mod Says
 mod Rows
 pub mod FoundSame

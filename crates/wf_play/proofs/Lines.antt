@@ -12,6 +12,7 @@ plain_note mode.Film s other = refl
 plain_note mode.Print s other = refl
 plain_note mode.Big s other = refl
 plain_note mode.Events s other = refl
+plain_note mode.Session s other = refl
 plain_note mode.Check status.Done other = absurd (other refl refl)
 plain_note mode.Check status.Usage other = refl
 plain_note mode.Check status.ReadFault other = refl
@@ -21,6 +22,8 @@ plain_note mode.Check (status.WriteFault written) other = refl
 plain_note mode.Check (status.Differs at) other = refl
 plain_note mode.Check (status.BadOrder entry) other = refl
 plain_note mode.Check (status.BadFilm at rule) other = refl
+plain_note mode.Check (status.BadMessage at rule) other = refl
+plain_note mode.Check (status.Quota at) other = refl
 plain_note mode.Check status.NoMemory other = refl
 
 pub same_note : (m : Mode) (s : Status) → m ≡ mode.Check → s ≡ status.Done → note_in m s ≡ codes "same\n"

@@ -11,13 +11,12 @@ use Rattle.wf_check.specs.declared.verdict.Verdict.{Verdict}
 use Rattle.wf_check.specs.declared.verdict.Verdict.TheVariants as verdict
 use Rattle.wf_check.specs.Verdicts.{IsSame, Says}
 use Rattle.wf_check.proofs.OneVerdict.{one_verdict}
-use Rattle.wf_play.specs.Check.{AreWithin, IsJudged, IsTooLong, SaysOfCheck, SaysOfParts}
-use Rattle.wf_play.specs.Events.{HasNoLog, IsLogOf, IsPut, LogsAll, PutsLog, SaysOfLog}
+use Rattle.wf_play.specs.Check.{AreWithin, IsJudged, SaysOfParts}
+use Rattle.wf_play.specs.Events.{HasNoLog, IsLogOf, LogsAll, PutsLog, SaysOfLog}
 use Rattle.wf_play.specs.Parts.{film_part, script_part}
 use Rattle.wf_play.specs.Report.{IsCaused, SaysOfFilm}
 use Rattle.wf_play.specs.declared.report.Status.{Status}
 use Rattle.wf_play.specs.declared.report.Status.TheVariants as status
-use Rattle.wf_play.proofs.Checks.{parts_say}
 
 -- the journal of a film that was read is that of the film that is found the same
 pub own_order : (script : PlainScript) (bytes : List ℕ) (plain : PlainFilm) (order : List Turn) → FilmStands bytes plain
@@ -41,6 +40,8 @@ no_log_says text film script (status.BadOrder entry) stands none =
     (record { script = script; stands = stands; says = none }, λ is. absurd cc)
 no_log_says text film script (status.BadFilm at rule) stands none =
     (record { script = script; stands = stands; says = none }, λ is. absurd cc)
+no_log_says text film script (status.BadMessage at rule) stands none = absurd none
+no_log_says text film script (status.Quota at) stands none = absurd none
 no_log_says text film script status.NoMemory stands none = (tt, λ is. absurd cc)
 
 module _ {O : Type 0} (took : O → List ℕ → Type 0) (old new : O) where
@@ -56,6 +57,8 @@ module _ {O : Type 0} (took : O → List ℕ → Type 0) (old new : O) where
   put_says depth input bytes (status.Differs at) within is puts = absurd puts
   put_says depth input bytes (status.BadOrder entry) within is puts = absurd puts
   put_says depth input bytes (status.BadFilm at rule) within is puts = absurd puts
+  put_says depth input bytes (status.BadMessage at rule) within is puts = absurd puts
+  put_says depth input bytes (status.Quota at) within is puts = absurd puts
   put_says depth input bytes status.NoMemory within is puts = absurd puts
 
   -- a source that was read has no part in it
@@ -69,6 +72,8 @@ module _ {O : Type 0} (took : O → List ℕ → Type 0) (old new : O) where
   put_caused bytes a b c d (status.Differs at) puts caused = absurd puts
   put_caused bytes a b c d (status.BadOrder entry) puts caused = absurd puts
   put_caused bytes a b c d (status.BadFilm at rule) puts caused = absurd puts
+  put_caused bytes a b c d (status.BadMessage at rule) puts caused = absurd puts
+  put_caused bytes a b c d (status.Quota at) puts caused = absurd puts
   put_caused bytes a b c d status.NoMemory puts caused = absurd puts
 
   pub put_used : (bytes : List ℕ) (s : Status) → PutsLog took old new bytes s → s ≢ status.Usage
@@ -86,6 +91,8 @@ module _ {O : Type 0} (took : O → List ℕ → Type 0) (old new : O) where
   none_says depth input (status.Differs at) within says other = (within, says)
   none_says depth input (status.BadOrder entry) within says other = (within, says)
   none_says depth input (status.BadFilm at rule) within says other = (within, says)
+  none_says depth input (status.BadMessage at rule) within says other = absurd says
+  none_says depth input (status.Quota at) within says other = absurd says
   none_says depth input status.NoMemory within says other = tt
 
 -- and nothing is put
@@ -100,6 +107,8 @@ none_put took old text film (status.WriteFault written) says = absurd says
 none_put took old text film (status.Differs at) says = (λ before puts. puts, refl)
 none_put took old text film (status.BadOrder entry) says = (λ before puts. puts, refl)
 none_put took old text film (status.BadFilm at rule) says = (λ before puts. puts, refl)
+none_put took old text film (status.BadMessage at rule) says = absurd says
+none_put took old text film (status.Quota at) says = absurd says
 none_put took old text film status.NoMemory says = (λ before puts. puts, refl)
 
 -- without a fault, a film that is found the same comes to Done, or to NoMemory
@@ -134,6 +143,8 @@ module _ {O : Type 0} (took : O → List ℕ → Type 0) (old new : O) (depth : 
   one_logs a b c d bytes (status.BadFilm at rule) accepted says caused =
       λ script stands within same calm quiet.
       absurd (let no = not_otherwise (script_part bytes) (film_part bytes) script (verdict.BadFilm at rule) stands same says.1 in cc)
+  one_logs a b c d bytes (status.BadMessage at rule) accepted says caused = absurd says.1
+  one_logs a b c d bytes (status.Quota at) accepted says caused = absurd says.1
   one_logs a b c d bytes status.NoMemory accepted says caused = λ script stands within same calm quiet. inr refl
 
   pub all_logs : (a b c d : ℕ) (o : Option (List ℕ)) (s : Status) → s ≢ status.Usage

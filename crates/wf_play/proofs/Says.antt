@@ -8,7 +8,9 @@ use Rattle.wf_play.specs.Big.{SaysOfBig}
 use Rattle.wf_play.specs.Events.{SaysOfLog}
 use Rattle.wf_play.proofs.Checks.{all_told}
 use Rattle.wf_play.proofs.Logs.{all_logs}
+use Rattle.wf_play.proofs.Sessions.{all_answered}
 use Rattle.wf_play.specs.Report.{CompletesIn, IsCaused, IsComplete, SaysOfInput, SaysOfRead}
+use Rattle.wf_play.specs.Sessions.{SaysOfSession}
 use Rattle.wf_play.specs.declared.report.Status.{Status}
 use Rattle.wf_play.specs.declared.report.Status.TheVariants as status
 use Rattle.wf_command.specs.declared.asked.Mode.{Mode}
@@ -38,6 +40,8 @@ module _ {O : Type 0} (took : O → List ℕ → Type 0) (old new : O) (order : 
   one_complete a b c d bytes (status.Differs at) accepted says caused = absurd says
   one_complete a b c d bytes (status.BadOrder entry) accepted says caused = absurd says
   one_complete a b c d bytes (status.BadFilm at rule) accepted says caused = absurd says
+  one_complete a b c d bytes (status.BadMessage at rule) accepted says caused = absurd says
+  one_complete a b c d bytes (status.Quota at) accepted says caused = absurd says
   one_complete a b c d bytes status.NoMemory accepted says caused = λ script stands within calm quiet. inr refl
 
   -- without a fault, a script within the limit comes to Done, or to NoMemory
@@ -58,6 +62,8 @@ made_complete took old new form size order a b c d (status.WriteFault written) s
 made_complete took old new form size order a b c d (status.Differs at) says caused quiet = absurd says
 made_complete took old new form size order a b c d (status.BadOrder entry) says caused quiet = absurd says
 made_complete took old new form size order a b c d (status.BadFilm at rule) says caused quiet = absurd says
+made_complete took old new form size order a b c d (status.BadMessage at rule) says caused quiet = absurd says
+made_complete took old new form size order a b c d (status.Quota at) says caused quiet = absurd says
 made_complete took old new form size order a b c d status.NoMemory says caused quiet = inr refl
 
 -- each mode
@@ -65,14 +71,17 @@ pub mode_completes : {O : Type 0} (took : O → List ℕ → Type 0) (old new : 
     (threads : Bool) (size depth a b c d : ℕ) (o : Option (List ℕ)) (s : Status) → (s ≡ status.Usage → ⊥)
     → IfSome o (λ bytes. SaysOfInput took old new order m form threads bytes s)
     → (m ≡ mode.Big → SaysOfBig took old new form size order s)
-    → (m ≡ mode.Events → IfSome o (λ bytes. SaysOfLog took old new depth bytes s)) → IsCaused a b c d s → CompletesIn m o a b c d s
-mode_completes took old new order mode.Film form threads size depth a b c d o s accepted says big logged caused =
+    → (m ≡ mode.Events → IfSome o (λ bytes. SaysOfLog took old new depth bytes s))
+    → (m ≡ mode.Session → IfSome o (λ bytes. SaysOfSession took old new bytes s)) → IsCaused a b c d s → CompletesIn m o a b c d s
+mode_completes took old new order mode.Film form threads size depth a b c d o s accepted says big logged served caused =
     all_complete took old new order _ _ a b c d o s accepted says caused
-mode_completes took old new order mode.Check form threads size depth a b c d o s accepted says big logged caused =
+mode_completes took old new order mode.Check form threads size depth a b c d o s accepted says big logged served caused =
     all_told a b c d o s accepted says caused
-mode_completes took old new order mode.Print form threads size depth a b c d o s accepted says big logged caused =
+mode_completes took old new order mode.Print form threads size depth a b c d o s accepted says big logged served caused =
     all_complete took old new order _ _ a b c d o s accepted says caused
-mode_completes took old new order mode.Big form threads size depth a b c d o s accepted says big logged caused =
+mode_completes took old new order mode.Big form threads size depth a b c d o s accepted says big logged served caused =
     made_complete took old new form size order a b c d s (big refl) caused
-mode_completes took old new order mode.Events form threads size depth a b c d o s accepted says big logged caused =
+mode_completes took old new order mode.Events form threads size depth a b c d o s accepted says big logged served caused =
     all_logs took old new depth a b c d o s accepted (logged refl) caused
+mode_completes took old new order mode.Session form threads size depth a b c d o s accepted says big logged served caused =
+    all_answered took old new a b c d o s accepted (served refl) caused

@@ -5,6 +5,9 @@ pub mod Refusals
 pub mod Parts
 pub mod Check
 pub mod Events
+pub mod Sessions
 pub mod Report
 pub mod Notes
 pub mod Big
+-- What is kept inside.
+pub mod Serving

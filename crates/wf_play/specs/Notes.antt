@@ -14,7 +14,7 @@ use Rattle.wf_play.specs.declared.report.Status.TheVariants as status
 abbrev pub note_of : Status → List ℕ
 note_of status.Done = []
 note_of status.Usage =
-    codes "usage: wfplay <film|check|print|big|events> [--threads] [--rows N] [--size N] [--film N] [--depth N] [--repaint]\n"
+    codes "usage: wfplay <film|check|print|big|events|session> [--threads] [--rows N] [--size N] [--film N] [--depth N] [--repaint]\n"
 note_of status.ReadFault = codes "read fault\n"
 note_of status.TooLong = codes "input too long\n"
 note_of (status.Refused line rule) = codes "line " ++ decimal line ++ codes ": rule " ++ decimal rule ++ codes "\n"
@@ -22,6 +22,8 @@ note_of (status.WriteFault written) = codes "write fault after " ++ decimal writ
 note_of (status.Differs at) = codes "differs at " ++ decimal at ++ codes "\n"
 note_of (status.BadOrder entry) = codes "bad order at entry " ++ decimal entry ++ codes "\n"
 note_of (status.BadFilm at rule) = codes "bad film at " ++ decimal at ++ codes ": rule " ++ decimal rule ++ codes "\n"
+note_of (status.BadMessage at rule) = codes "bad message at " ++ decimal at ++ codes ": rule " ++ decimal rule ++ codes "\n"
+note_of (status.Quota at) = codes "too many messages at " ++ decimal at ++ codes "\n"
 note_of status.NoMemory = codes "no memory\n"
 
 -- the line of a mode's status: `same` where a check found no fault

@@ -18,6 +18,7 @@ use Rattle.wf_command.specs.declared.asked.Mode.{Mode}
 use Rattle.wf_command.specs.declared.asked.Mode.TheVariants as mode
 use Rattle.wf_play.specs.Check.{SaysOfCheck, TellsVerdict}
 use Rattle.wf_play.specs.Events.{LogsAll}
+use Rattle.wf_play.specs.Sessions.{AnswersEach}
 use Rattle.wf_play.specs.Refusals.{IsRefused, script_limit}
 use Rattle.wf_play.specs.declared.report.Status.{Status}
 use Rattle.wf_play.specs.declared.report.Status.TheVariants as status
@@ -34,6 +35,8 @@ exit_of (status.Differs at) = 7
 exit_of (status.BadOrder entry) = 8
 exit_of (status.BadFilm at rule) = 9
 exit_of status.NoMemory = 10
+exit_of (status.BadMessage at rule) = 11
+exit_of (status.Quota at) = 12
 
 -- the bytes that were put are the plain film, in a form, of the script that the input's bytes stand for, under the order,
 -- which is legal and complete; without threads it is the serial order; and a check of that film says that it is the same
@@ -88,7 +91,7 @@ module _ {O : Type 0} (took : O → List ℕ → Type 0) (old new : O) (order : 
   SaysOfRead IsWhole IsCut bytes status.NoMemory = Unit {0}
   SaysOfRead IsWhole IsCut bytes _ = ⊥
 
-  -- what each status says of an input of these bytes; the mode `big` reads none, and `events` has a clause of its own
+  -- what each status says of an input of these bytes; the mode `big` reads none, and `events` and `session` have clauses of their own
   abbrev pub SaysOfInput : Mode → FilmForm → Bool → List ℕ → Status → Type 0
   SaysOfInput mode.Film form threads bytes s =
       SaysOfRead (λ bytes. IsPlainFilm took old new form threads bytes order)
@@ -98,8 +101,9 @@ module _ {O : Type 0} (took : O → List ℕ → Type 0) (old new : O) (order : 
       SaysOfRead (λ bytes. IsPrinted took old new bytes order) (λ bytes. IsCutText took old new bytes order) bytes s
   SaysOfInput mode.Big form threads bytes s = Unit {0}
   SaysOfInput mode.Events form threads bytes s = Unit {0}
+  SaysOfInput mode.Session form threads bytes s = Unit {0}
 
-  -- what each status says of the film and of the order, whatever the input
+  -- what each status says of the film and of the order, whatever the input, in every mode but `session`
   abbrev pub SaysOfFilm : Status → Type 0
   SaysOfFilm status.Done = Unit {0}
   SaysOfFilm (status.WriteFault written) = (bytes : List ℕ) × (length bytes ≡ written) × Puts took old new bytes
@@ -137,4 +141,5 @@ abbrev pub CompletesIn : Mode → Option (List ℕ) → (input_before input_now 
 CompletesIn mode.Big input a b film_before film_now s = ¬ Rose film_before film_now → (s ≡ status.Done) ⊎ (s ≡ status.NoMemory)
 CompletesIn mode.Check input input_before input_now c d s = IfSome input (λ bytes. TellsVerdict bytes input_before input_now s)
 CompletesIn mode.Events input a b film_before film_now s = IfSome input (λ bytes. LogsAll bytes a b film_before film_now s)
+CompletesIn mode.Session input a b film_before film_now s = IfSome input (λ bytes. AnswersEach bytes a b film_before film_now s)
 CompletesIn _ input a b film_before film_now s = IfSome input (λ bytes. IsComplete bytes a b film_before film_now s)

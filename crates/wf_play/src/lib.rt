@@ -8,6 +8,7 @@ mod logged;
 mod notes;
 mod parts;
 mod report;
+mod served;
 mod text;
 mod top;
 

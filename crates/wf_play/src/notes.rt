@@ -67,6 +67,30 @@ fn bad_film(at: u64, rule: u32) -> Text
     note
 }
 
+/// The line of a session that breaks a rule.
+fn bad_message(at: u64, rule: u32) -> Text
+    ensures { result.items ≡ codes "bad message at " ++ decimal at ++ codes ": rule " ++ decimal rule ++ codes "\n" }
+{
+    let mut note = Text::new();
+    add(&mut note, b"bad message at ");
+    add_number(&mut note, at);
+    add(&mut note, b": rule ");
+    add_number(&mut note, rule.into());
+    add(&mut note, b"\n");
+    note
+}
+
+/// The line of a session whose client has made its calls.
+fn too_many(at: u64) -> Text
+    ensures { result.items ≡ codes "too many messages at " ++ decimal at ++ codes "\n" }
+{
+    let mut note = Text::new();
+    add(&mut note, b"too many messages at ");
+    add_number(&mut note, at);
+    add(&mut note, b"\n");
+    note
+}
+
 /// A line of a text.
 fn line_of(text: &[u8]) -> Text
     requires { length text.now ≤ MOST }
@@ -85,7 +109,8 @@ fn note_of(status: Status) -> Text
         Status::Done => Text::new(),
         Status::Usage => {
             line_of(
-                b"usage: wfplay <film|check|print|big|events> [--threads] [--rows N] [--size N] [--film N] [--depth N] [--repaint]\n",
+                b"usage: wfplay <film|check|print|big|events|session> [--threads] [--rows N] [--size N] [--film N] [--depth N] \
+                [--repaint]\n",
             )
         }
         Status::ReadFault => line_of(b"read fault\n"),
@@ -95,6 +120,8 @@ fn note_of(status: Status) -> Text
         Status::Differs { at } => difference(at),
         Status::BadOrder { entry } => bad_order(entry),
         Status::BadFilm { at, rule } => bad_film(at, rule),
+        Status::BadMessage { at, rule } => bad_message(at, rule),
+        Status::Quota { at } => too_many(at),
         Status::NoMemory => line_of(b"no memory\n"),
     }
 }

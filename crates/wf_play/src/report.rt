@@ -9,7 +9,7 @@ use wf_calls::Order;
 /// How a play ended.
 #[derive(Clone, Copy, Debug, PartialEq, Eq)]
 pub enum Status {
-    /// All was put, or the film that was checked is the film of its script and of its journal.
+    /// All was put, or the film that was checked is the film of its script and of its journal, or a session was answered to its end.
     Done,
     /// The words are no command.
     Usage,
@@ -27,6 +27,10 @@ pub enum Status {
     BadOrder { entry: u32 },
     /// What stands behind the script is no film: at this byte, counted from 0, it breaks this rule of films.
     BadFilm { at: u64, rule: u32 },
+    /// At this byte, counted from 0, a session breaks this rule.
+    BadMessage { at: u64, rule: u32 },
+    /// The message of a session at this byte, counted from 0, may not be answered any more: fewer than three calls are left to the client.
+    Quota { at: u64 },
     /// There was no memory. Nothing was put into the film.
     NoMemory,
 }
@@ -47,6 +51,8 @@ impl Status {
             Status::BadOrder { .. } => 8,
             Status::BadFilm { .. } => 9,
             Status::NoMemory => 10,
+            Status::BadMessage { .. } => 11,
+            Status::Quota { .. } => 12,
         }
     }
 }

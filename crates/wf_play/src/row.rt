@@ -38,7 +38,7 @@ pub(crate) const FILM_OF_TWO: [u8; 74] = *b"WFF2\
     E";
 
 const USAGE: &str =
-    "usage: wfplay <film|check|print|big|events> [--threads] [--rows N] [--size N] [--film N] [--depth N] [--repaint]\n";
+    "usage: wfplay <film|check|print|big|events|session> [--threads] [--rows N] [--size N] [--film N] [--depth N] [--repaint]\n";
 
 /// A play: its words, its script with a number of spaces and then a film after it, and which calls of the source and of the film's sink
 /// fail, 0 for none. And what is wanted: the status with its exit, what is put in whole and how many bytes of it are put, how many turns
@@ -170,6 +170,22 @@ pub(crate) const LOGGED: Row = Row {
     film: b"WFF2J\0\0\0\x01\0\0\0\0\0\0E",
     whole: LOG,
     written: LOG.len(),
+    turns: 0,
+    ..DONE
+};
+
+/// The answer to a session that asks for the frame of a port of 4 by 2.
+const SHOWN: [u8; 41] = *b"\0\0\0\0\x01\0\x04\0\x02\
+    \0\0\0\xff\0\0\0\xff\0\0\0\xff\0\0\0\xff\
+    \0\0\0\xff\0\0\0\xff\0\0\0\xff\0\0\0\xff";
+
+/// A session that is answered: its header, and one message.
+pub(crate) const SERVED: Row = Row {
+    words: "session",
+    script: "",
+    film: b"WFW1\x01\0\x04\0\x02\0\x2d\0\0\0\0\0\0\0\x01",
+    whole: &SHOWN,
+    written: 41,
     turns: 0,
     ..DONE
 };

@@ -3,7 +3,7 @@
 use crate::Status;
 use crate::row::{
     COUNTED_OF_ONE, DONE, FILM, FILM_OF_TWO, HUNDRED, LOGGED, MADE, ONE_TICK, PRINTED, Row, SAME,
-    TOO_LONG, first_wrong, judged, of_one, read_fault, refused, usage, write_fault,
+    SERVED, TOO_LONG, first_wrong, judged, of_one, read_fault, refused, usage, write_fault,
 };
 use std::test::Fail;
 
@@ -59,7 +59,7 @@ fn films() -> [Row; 18] {
 }
 
 /// Words that are no command.
-fn words_refused() -> [Row; 32] {
+fn words_refused() -> [Row; 33] {
     [
         usage(""),
         usage("film film"),
@@ -91,6 +91,7 @@ fn words_refused() -> [Row; 32] {
         usage("film --rows 0"),
         usage("film --rows 17"),
         usage("event"),
+        usage("sessions"),
         usage("events --depth 0"),
         usage("events --depth 65"),
     ]
@@ -280,6 +281,40 @@ fn logs() -> [Row; 8] {
     ]
 }
 
+/// Sessions that are answered.
+fn sessions() -> [Row; 5] {
+    [
+        SERVED,
+        Row {
+            words: "session --threads --depth 1",
+            ..SERVED
+        },
+        Row {
+            put: 2,
+            status: Status::WriteFault { written: 9 },
+            exit: 6,
+            written: 9,
+            note: "write fault after 9 bytes\n",
+            ..SERVED
+        },
+        Row {
+            film: b"WFW1\x01\0\x04\0\x02\0\x2d\0\0\0\0\0\0\0\x01\x63",
+            status: Status::BadMessage { at: 19, rule: 2 },
+            exit: 11,
+            note: "bad message at 19: rule 2\n",
+            ..SERVED
+        },
+        Row {
+            take: 3,
+            status: Status::ReadFault,
+            exit: 3,
+            written: 0,
+            note: "read fault\n",
+            ..SERVED
+        },
+    ]
+}
+
 /// Scripts that are made.
 fn made() -> [Row; 5] {
     [
@@ -349,6 +384,13 @@ fn films_are_checked(rt: HostRuntime) -> Result<(), Fail> {
 #[test]
 fn films_are_logged(rt: HostRuntime) -> Result<(), Fail> {
     let wrong = first_wrong(&rt, &logs())?;
+    assert!(rt; wrong.is_none(), "row {:?}", wrong);
+    Ok(())
+}
+
+#[test]
+fn sessions_are_answered(rt: HostRuntime) -> Result<(), Fail> {
+    let wrong = first_wrong(&rt, &sessions())?;
     assert!(rt; wrong.is_none(), "row {:?}", wrong);
     Ok(())
 }

@@ -14,12 +14,14 @@ ghost use Rattle.wf_play.specs.Notes.{IsSame, PutsOrFront, note_of};
 ghost use Rattle.wf_play.specs.Refusals.{refusal_of};
 ghost use Rattle.wf_play.specs.Report.{CompletesIn, IsCaused, IsFoundSame, IsPlainFilm, IsPrinted, IsReadStop, ReadsScript, SaysOfFilm};
 ghost use Rattle.wf_play.specs.Report.{SaysOfInput};
+ghost use Rattle.wf_play.specs.Sessions.{IsServed};
 
 use crate::big::play_big;
 use crate::checked::play_check;
 use crate::logged::play_events;
 use crate::notes::{put_line, put_note};
 use crate::report::{Report, Status, without_order};
+use crate::served::play_session;
 use std::alloc::Global;
 use std::sync::Wait;
 use std::thread::Threads;
@@ -215,7 +217,9 @@ fn play_asked<R: Threads + Wait + Sync, I: Source, O: Sink, G: Gate>(
         → (input.new ≡ input.old) × SaysOfBig O.took film.old film.new asked.form asked.size result.order result.status }
     ensures logged { asked.mode ≡ Mode.Events
         → IsLogged O.took film.old film.new asked.depth result.order (I.left input.old) result.status }
-    ensures film { SaysOfFilm O.took film.old film.new result.order result.status }
+    ensures served { asked.mode ≡ Mode.Session
+        → IsServed O.took film.old film.new result.order (I.left input.old) result.status }
+    ensures film { asked.mode ≢ Mode.Session → SaysOfFilm O.took film.old film.new result.order result.status }
     ensures caused { IsCaused (I.faults input.old) (I.faults input.new) (O.faults film.old) (O.faults film.new) result.status }
     ensures input_count { I.faults input.old ≤ I.faults input.new }
     ensures film_count { O.faults film.old ≤ O.faults film.new }
@@ -226,6 +230,7 @@ fn play_asked<R: Threads + Wait + Sync, I: Source, O: Sink, G: Gate>(
         Mode::Print => play_print(alloc, input, film),
         Mode::Big => play_big(alloc, asked.form, asked.size, film),
         Mode::Events => without_order(alloc, play_events(alloc, asked.depth, input, film)),
+        Mode::Session => without_order(alloc, play_session(rt, alloc, input, film)),
     }
 }
 
@@ -261,7 +266,10 @@ fn play_words<R: Threads + Wait + Sync, I: Source, O: Sink, N: Sink, G: Gate>(
         → (input.new ≡ input.old) × SaysOfBig O.took film.old film.new asked.form asked.size result.order result.status }
     ensures logged { (asked : Asked) → AskFor asked words.now → asked.mode ≡ Mode.Events
         → IsLogged O.took film.old film.new asked.depth result.order (I.left input.old) result.status }
-    ensures film { SaysOfFilm O.took film.old film.new result.order result.status }
+    ensures served { (asked : Asked) → AskFor asked words.now → asked.mode ≡ Mode.Session
+        → IsServed O.took film.old film.new result.order (I.left input.old) result.status }
+    ensures film { ((asked : Asked) → AskFor asked words.now → asked.mode ≢ Mode.Session)
+        → SaysOfFilm O.took film.old film.new result.order result.status }
     ensures caused { IsCaused (I.faults input.old) (I.faults input.new) (O.faults film.old) (O.faults film.new) result.status }
     ensures notes { ¬ (IsSame words.now result.status)
         → PutsOrFront N.took notes.old notes.new (N.faults notes.old) (N.faults notes.new) (note_of result.status) }
@@ -282,16 +290,17 @@ fn play_words<R: Threads + Wait + Sync, I: Source, O: Sink, N: Sink, G: Gate>(
     }
 }
 
-/// Reads a scene script from `input`, writes its film or its canonical text into `film`, and answers how that ended. `words` are
-/// the command's words without the program's name: the mode, `film`, `check`, `print`, `big` or `events`; for a film `--threads`, by
-/// which each client plays on a thread of its own, and then `--rows N`, N from 1 to 16 and by default 1, in how many bands a frame is
+/// Reads a scene script from `input`, writes its film or its canonical text into `film`, and answers how that ended. `words` are the
+/// command's words without the program's name: the mode, `film`, `check`, `print`, `big`, `events` or `session`; for a film `--threads`,
+/// by which each client plays on a thread of its own, and then `--rows N`, N from 1 to 16 and by default 1, in how many bands a frame is
 /// painted at most; for its form `--film N`, N 1 or 2 and by default 2; and for `big`, which reads nothing, plays the script that `make`
 /// of `wf_script` makes and writes one line on its film, `--size N`, N from 1 to 1000 and by default 1. `check` reads a script and the
-/// film after it, writes nothing, and answers whether that is the film of the script and of its own journal. `events` reads the same,
-/// and where a check finds no fault writes the log of what happens at the display, by a queue of `--depth N` happenings, N from 1 to 64
-/// and by default 64. Each status but `Done` puts its line into `notes`, and a check `same` with `Done`; a fault there changes nothing
-/// else. `NoMemory` comes only where nothing was put; later only a creation of the script may lack memory. With `--threads` it may wait,
-/// and the gate is called round each event of the clients 1 to 7.
+/// film after it, writes nothing, and answers whether that is the film of the script and of its own journal. `events` reads the same, and
+/// where a check finds no fault writes the log of what happens at the display, by a queue of `--depth N` happenings, N from 1 to 64 and
+/// by default 64. `session` reads one client's calls as bytes, and puts the answer to each before it reads the next. Each status but
+/// `Done` puts its line into `notes`, and a check `same` with `Done`; a fault there changes nothing else. `NoMemory` comes only where
+/// nothing was put; later only a creation of the script or of the session may lack memory. With `--threads` it may wait, and the gate is
+/// called round each event of the clients 1 to 7.
 pub fn play<R: Threads + Wait + Sync, I: Source, O: Sink, N: Sink, G: Gate>(
     rt: &R,
     alloc: Global,
@@ -327,6 +336,11 @@ pub fn play<R: Threads + Wait + Sync, I: Source, O: Sink, N: Sink, G: Gate>(
     ensures logged { (asked : Asked) → AskFor asked words.now → asked.mode ≡ Mode.Events
         → IsLogged O.took film.old film.new asked.depth result.order (I.left input.old) result.status }
 
+    // With the mode `session` what is put are the answers of a run of the session's messages, on the machine of its header's ports: of
+    // all that the input tells with Done, or of the first of them, and with WriteFault a front of these answers.
+    ensures served { (asked : Asked) → AskFor asked words.now → asked.mode ≡ Mode.Session
+        → IsServed O.took film.old film.new result.order (I.left input.old) result.status }
+
     // When each status comes.
     ensures usage { result.status ≡ Status.Usage → ¬ (AreAccepted words.now) }
     ensures refused { ¬ (AreAccepted words.now) → (result.status ≡ Status.Usage) ⊎ (result.status ≡ Status.NoMemory) }
@@ -337,8 +351,11 @@ pub fn play<R: Threads + Wait + Sync, I: Source, O: Sink, N: Sink, G: Gate>(
     ensures complete { (asked : Asked) → AskFor asked words.now → CompletesIn asked.mode (I.left input.old) (I.faults input.old)
         (I.faults input.new) (O.faults film.old) (O.faults film.new) result.status }
 
-    // What went out.
-    ensures film { SaysOfFilm O.took film.old film.new result.order result.status }
+    // What went out, in every mode but `session`.
+    ensures film { ((asked : Asked) → AskFor asked words.now → asked.mode ≢ Mode.Session)
+        → SaysOfFilm O.took film.old film.new result.order result.status }
+
+    // What went into the notes.
     ensures notes { ¬ (IsSame words.now result.status)
         → PutsOrFront N.took notes.old notes.new (N.faults notes.old) (N.faults notes.new) (note_of result.status) }
     ensures same { IsSame words.now result.status

@@ -15,6 +15,8 @@ done_at_0 (status.WriteFault written) is = absurd (omega (arith, is))
 done_at_0 (status.Differs at) is = absurd (omega (arith, is))
 done_at_0 (status.BadOrder entry) is = absurd (omega (arith, is))
 done_at_0 (status.BadFilm at rule) is = absurd (omega (arith, is))
+done_at_0 (status.BadMessage at rule) is = absurd (omega (arith, is))
+done_at_0 (status.Quota at) is = absurd (omega (arith, is))
 done_at_0 status.NoMemory is = absurd (omega (arith, is))
 
 pub usage_at_2 : (s : Status) → exit_of s ≡ 2 → s ≡ status.Usage
@@ -27,6 +29,8 @@ usage_at_2 (status.WriteFault written) is = absurd (omega (arith, is))
 usage_at_2 (status.Differs at) is = absurd (omega (arith, is))
 usage_at_2 (status.BadOrder entry) is = absurd (omega (arith, is))
 usage_at_2 (status.BadFilm at rule) is = absurd (omega (arith, is))
+usage_at_2 (status.BadMessage at rule) is = absurd (omega (arith, is))
+usage_at_2 (status.Quota at) is = absurd (omega (arith, is))
 usage_at_2 status.NoMemory is = absurd (omega (arith, is))
 
 -- with Done, what is said of it holds of the input

@@ -5,6 +5,7 @@ use Rattle.wf_film.specs.declared.form.FilmForm.{FilmForm}
 use Rattle.wf_play.specs.Big.{IsTallied}
 use Rattle.wf_play.specs.Check.{IsChecked}
 use Rattle.wf_play.specs.Events.{IsLogged}
+use Rattle.wf_play.specs.Sessions.{IsServed}
 use Rattle.wf_play.specs.Report.{IsPlainFilm, IsPrinted, exit_of}
 use Rattle.wf_play.specs.declared.report.Status.{Status}
 
@@ -25,6 +26,11 @@ ExitsByCheck took old new input exit =
 abbrev pub ExitsByLog : {O : Type 0} → (O → List ℕ → Type 0) → (old new : O) → ℕ → Option (List ℕ) → ℕ → Type 0
 ExitsByLog took old new depth input exit =
     (status : Status) × (order : List Turn) × ((exit ≡ exit_of status) × IsLogged took old new depth order input status)
+
+-- the exit is that of a status which says what the session was, and which answers to it were put
+abbrev pub ExitsBySession : {O : Type 0} → (O → List ℕ → Type 0) → (old new : O) → Option (List ℕ) → ℕ → Type 0
+ExitsBySession took old new input exit =
+    (status : Status) × (order : List Turn) × ((exit ≡ exit_of status) × IsServed took old new order input status)
 
 -- what was put is the line over the film, in a form, of the script of so many rounds that is made, under an order
 abbrev pub PutsLine : {O : Type 0} → (O → List ℕ → Type 0) → (old new : O) → FilmForm → ℕ → Type 0

@@ -1,6 +1,6 @@
 //! The program `wfplay`: plays a scene script from standard input and writes its film to standard output, or prints the script, or
 //! checks the film after it, or writes the log of what happens at the display in that film; or plays a script that is made, and tells
-//! its film in one line.
+//! its film in one line; or answers a session, which is one client's calls as bytes.
 #![tactic(auto)]
 
 ghost use Rattle.std.specs.Prelude.{◌≡◌, ◌≢◌, ◌⊎◌, IfSome};
@@ -12,9 +12,10 @@ ghost use Rattle.wf_command.specs.declared.asked.Mode.TheVariants as mode;
 ghost use Rattle.wf_play.specs.Notes.{PutsOrFront, note_of};
 ghost use Rattle.wf_play.specs.Report.{exit_of};
 ghost use Rattle.wf_play.specs.declared.report.Status.{Status};
-ghost use Rattle.wfplay.specs.Exit.{ExitsByCheck, ExitsByLog, PutsFilm, PutsLine, PutsText};
+ghost use Rattle.wfplay.specs.Exit.{ExitsByCheck, ExitsByLog, ExitsBySession, PutsFilm, PutsLine, PutsText};
 
 use std::alloc::Global;
+use std::io::BufReader;
 use std::process::ExitCode;
 use std::rt::Env;
 use std::sync::Wait;
@@ -29,7 +30,8 @@ fn command_words(rt: &(impl Env + AllocGlobal)) -> io::Result<Vec<String>> {
     Ok(words)
 }
 
-/// The status that stands for words that could not be had: they are no command, unless there was no memory for them.
+/// The status that stands for words that could not be had, or for a buffer that could not: the words are no command, unless there was no
+/// memory.
 fn status_without_words(error: &io::Error) -> Status
     ensures memory { error_kind error.now ≡ OutOfMemory → result ≡ Status.NoMemory }
     ensures usage { error_kind error.now ≢ OutOfMemory → result ≡ Status.Usage }
@@ -41,9 +43,9 @@ fn status_without_words(error: &io::Error) -> Status
     }
 }
 
-/// Plays, checks, logs, prints or counts as the words ask, and tells the exit status: where source and sink tell their bytes, 0 only
-/// where all was put or the film that was checked is the same; and 2 where the words are no command, or 10 where there was no memory to
-/// read them.
+/// Plays, checks, logs, prints, counts or answers as the words ask, and tells the exit status: where source and sink tell their bytes, 0
+/// only where all was put or the film that was checked is the same; and 2 where the words are no command, or 10 where there was no memory
+/// to read them.
 fn exit_of_play<R: Threads + Wait + Sync, I: Source, O: Sink, N: Sink>(
     rt: &R,
     alloc: Global,
@@ -60,6 +62,8 @@ fn exit_of_play<R: Threads + Wait + Sync, I: Source, O: Sink, N: Sink>(
         → ExitsByCheck O.took film.old film.new (I.left input.old) result }
     ensures logged { (asked : Asked) → AskFor asked words.now → asked.mode ≡ mode.Events
         → ExitsByLog O.took film.old film.new asked.depth (I.left input.old) result }
+    ensures served { (asked : Asked) → AskFor asked words.now → asked.mode ≡ mode.Session
+        → ExitsBySession O.took film.old film.new (I.left input.old) result }
     ensures made { (asked : Asked) → AskFor asked words.now → asked.mode ≡ mode.Big → result ≡ 0
         → PutsLine O.took film.old film.new asked.form asked.size }
     ensures usage { result ≡ 2 → ¬ (AreAccepted words.now) }
@@ -85,7 +89,12 @@ fn main(rt: HostRuntime) -> ExitCode {
         Ok(words) => words,
         Err(error) => return ExitCode::from(exit_without_words(&error, &mut notes)),
     };
-    let mut input = StdSource::new(rt.reader());
+    // A session asks for a few bytes at a time.
+    let reader = match BufReader::with_capacity(rt.alloc(), 4096, rt.reader()) {
+        Ok(reader) => reader,
+        Err(error) => return ExitCode::from(exit_without_words(&error, &mut notes)),
+    };
+    let mut input = StdSource::new(reader);
     let mut film = StdSink::new(rt.stdout());
     ExitCode::from(exit_of_play(&rt, rt.alloc(), &words, &mut input, &mut film, &mut notes))
 }

@@ -32,6 +32,11 @@ returns-clause-logged g c = λ asked asks is.
     let done = c.play-report in
     (done.result.status, done.result.order, (c.exit.ensures, done.ensures.logged asked asks is))
 
+pub returns-clause-served : goal.returns-clause-served
+returns-clause-served g c = λ asked asks is.
+    let done = c.play-report in
+    (done.result.status, done.result.order, (c.exit.ensures, done.ensures.served asked asks is))
+
 pub returns-clause-made : goal.returns-clause-made
 returns-clause-made g c = λ asked asks is zero.
     let done = c.play-report in (

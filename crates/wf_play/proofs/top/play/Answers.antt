@@ -29,4 +29,5 @@ returns-clause-complete g c = λ asked asks.
     (g.I.Source.faults c.args.input.now) (g.I.Source.faults done.new.input) (g.O.Sink.faults c.args.film.now)
     (g.O.Sink.faults done.new.film) (g.I.Source.left c.args.input.now) done.result.status
     (λ usage. done.ensures.usage usage (asked, asks)) (done.ensures.input asked asks)
-    (λ is. (done.ensures.made asked asks is).1) (λ is. (done.ensures.logged asked asks is).says) done.ensures.caused
+    (λ is. (done.ensures.made asked asks is).1) (λ is. (done.ensures.logged asked asks is).says)
+    (λ is. (done.ensures.served asked asks is).says) done.ensures.caused

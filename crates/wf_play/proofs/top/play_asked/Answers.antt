@@ -3,6 +3,7 @@ use Rattle.std.specs.Prelude.{IfSome}
 use Rattle.wf_play.specs.Check.{SaysOfCheck}
 use Rattle.wf_play.specs.Events.{SaysOfLog}
 use Rattle.wf_play.specs.Report.{IsCaused, SaysOfFilm, SaysOfInput}
+use Rattle.wf_play.specs.Sessions.{SaysOfSession}
 use Rattle.wf_play.proofs.Checks.{caused_so, nothing_put}
 use Rattle.wf_play.proofs.top.play_asked.Goals as goal
 
@@ -36,7 +37,7 @@ returns-in-Check-clause-checked g c = λ is. record {
 }
 
 pub returns-in-Check-clause-film : goal.returns-in-Check-clause-film
-returns-in-Check-clause-film g c =
+returns-in-Check-clause-film g c = λ other.
     let done = c.without_order in
     subst (SaysOfFilm g.O.Sink.took c.args.film.now c.args.film.now done.result.order) (sym done.ensures.status)
     (nothing_put g.O.Sink.took c.args.film.now done.result.order (g.I.Source.faults c.args.input.now)
@@ -59,4 +60,15 @@ returns-in-Events-clause-logged g c = λ is. record {
       subst (λ s. IfSome (g.I.Source.left c.args.input.now)
       (λ bytes. SaysOfLog g.O.Sink.took c.args.film.now c.play_events.new.film c.args.asked.depth bytes s))
       (sym c.without_order-in-Events.ensures.status) c.play_events.ensures.input;
+}
+
+-- a session
+
+pub returns-in-Session-clause-served : goal.returns-in-Session-clause-served
+returns-in-Session-clause-served g c = λ is. record {
+  none = c.without_order-in-Session.ensures.order;
+  says =
+      subst (λ s. IfSome (g.I.Source.left c.args.input.now)
+      (λ bytes. SaysOfSession g.O.Sink.took c.args.film.now c.play_session.new.film bytes s))
+      (sym c.without_order-in-Session.ensures.status) c.play_session.ensures.input;
 }

@@ -31,6 +31,14 @@ returns-in-Ok-clause-logged g c = λ asked asks is.
     → IsLogged g.O.Sink.took c.args.film.now done.new.film a.depth done.result.order (g.I.Source.left c.args.input.now) done.result.status)
     same done.ensures.logged is
 
+pub returns-in-Ok-clause-served : goal.returns-in-Ok-clause-served
+returns-in-Ok-clause-served g c = λ asked asks is.
+    let same = one_meaning c.args.words.now c.in-Ok.asked asked c.in-Ok.ensures.asked asks in
+    c.play_asked-report.ensures.served (ap (λ (a : Asked). a.mode) same ∙ is)
+
+pub returns-in-Ok-clause-film : goal.returns-in-Ok-clause-film
+returns-in-Ok-clause-film g c = λ other. c.play_asked-report.ensures.film (other c.in-Ok.asked c.in-Ok.ensures.asked)
+
 pub returns-in-Ok-clause-notes : goal.returns-in-Ok-clause-notes
 returns-in-Ok-clause-notes g c = λ other.
     let s = c.play_asked-report.result.status in
