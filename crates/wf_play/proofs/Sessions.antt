@@ -139,20 +139,21 @@ module _ {O : Type 0} (took : O → List ℕ → Type 0) (from to : O) (opened :
           ap (λ (s : PlainSession). s.told.messages) told_is ∙ others.1,
           subst (λ (s : PlainSession). PutsAnswers took from to s.ports closed.served.ms) (sym told_is) (closed.served.bytes, run, put),
         )
-    says_by stays (Err (stop.Quota place)) read put =
-        let stops = read.stops in (
-          ports,
-          closed.served.ms,
-          stops.1,
-          read.place,
-          cursor stops.2 stays,
-          closed.served.bytes,
-          record { first = cursor at rest; header_is = is.header_is; reads = read.reads },
-          sym stops.0,
-          stops.3,
-          record { run = run; few = put.1 },
-          put.0,
-        )
+    says_by stays (Err (stop.Quota place)) read put = (
+      closed.served.bytes,
+      record {
+        ports = ports;
+        ms = closed.served.ms;
+        message = read.stops.1;
+        place = read.place;
+        now = cursor read.stops.2 stays;
+        leads = record { first = cursor at rest; header_is = is.header_is; reads = read.reads };
+        place_is = sym read.stops.0;
+        whole = read.stops.3;
+        spent = record { run = run; few = put.1 };
+      },
+      put.0,
+    )
     says_by stays (Err (stop.WriteFault written)) read put = (
       ports,
       closed.served.ms,
@@ -220,7 +221,7 @@ module _ {O : Type 0} (took : O → List ℕ → Type 0) (old new : O) where
   one_answered a b c d bytes (status.BadFilm at rule) accepted says caused = absurd says
   one_answered a b c d bytes (status.BadMessage at rule) accepted says caused =
       λ whole calm quiet room. absurd (let no : None ≡ Some (fault at rule) = sym whole ∙ says.0 in cc)
-  one_answered a b c d bytes (status.Quota at) accepted says caused = λ whole calm quiet room. absurd (room says.0 says.1 says.5 says.9)
+  one_answered a b c d bytes (status.Quota at) accepted says caused = λ whole calm quiet room. absurd (room at says.0 says.1)
   one_answered a b c d bytes status.NoMemory accepted says caused = λ whole calm quiet room. inr refl
 
   pub all_answered : (a b c d : ℕ) (o : Option (List ℕ)) (s : Status) → (s ≡ status.Usage → ⊥)

@@ -48,6 +48,18 @@ pub record Leads (input : List ℕ) (ports : Ports) (ms : List Message) (place :
   pub header_is : header (cursor 0 input) ≡ Ok (ports, first)
   pub reads : Reads ms first place
 
+-- a whole message of an input begins at this byte where fewer than three calls are left after a run of the messages before it
+pub record IsAtQuota (input : List ℕ) (at : ℕ) (bytes : List ℕ) : Type 0 where
+  pub ports : Ports
+  pub ms : List Message
+  pub message : Message
+  pub place : Cursor
+  pub now : Cursor
+  pub leads : Leads input ports ms place
+  pub place_is : place.at ≡ at
+  pub whole : next place ≡ Ok (Some message, now)
+  pub spent : IsSpent ports ms bytes
+
 module _ {O : Type 0} (took : O → List ℕ → Type 0) (old new : O) where
   -- all answers to these messages were put; nothing, where there is no header
   abbrev pub PutsAnswers : Option Ports → List Message → Type 0
@@ -59,11 +71,9 @@ module _ {O : Type 0} (took : O → List ℕ → Type 0) (old new : O) where
   PutsSome input =
       (ms others : List Message) × ((session input).told.messages ≡ ms ++ others) × PutsAnswers (session input).ports ms
 
-  -- those to the messages before a whole one at this byte, after which too few calls are left
+  -- those to the messages before the one at this byte, before which too few calls are left
   abbrev pub PutsToQuota : List ℕ → ℕ → Type 0
-  PutsToQuota input at =
-      (ports : Ports) × (ms : List Message) × (m : Message) × (place now : Cursor) × (bytes : List ℕ) × Leads input ports ms place
-      × (place.at ≡ at) × (next place ≡ Ok (Some m, now)) × IsSpent ports ms bytes × Puts took old new bytes
+  PutsToQuota input at = (bytes : List ℕ) × IsAtQuota input at bytes × Puts took old new bytes
 
   -- what stands before the byte where the sink failed
   abbrev pub PutsToFault : List ℕ → ℕ → Type 0
@@ -89,10 +99,9 @@ module _ {O : Type 0} (took : O → List ℕ → Type 0) (old new : O) where
     pub none : order ≡ []
     pub says : IfSome input (λ bytes. SaysOfSession bytes s)
 
--- Where no byte breaks a rule, no fault is counted, and three calls are left before each message of a run, all messages are answered,
--- unless memory runs out.
+-- where no byte breaks a rule, no fault is counted, and no message comes to the quota, all messages are answered, unless memory runs out
 abbrev pub AnswersEach : List ℕ → (input_before input_now film_before film_now : ℕ) → Status → Type 0
 AnswersEach input input_before input_now film_before film_now s =
     (session input).told.fault ≡ None → ¬ Rose input_before input_now → ¬ Rose film_before film_now
-    → ((ports : Ports) (ms : List Message) (bytes : List ℕ) → IsSpent ports ms bytes → ⊥)
+    → ((at : ℕ) (bytes : List ℕ) → IsAtQuota input at bytes → ⊥)
     → (s ≡ status.Done) ⊎ (s ≡ status.NoMemory)
