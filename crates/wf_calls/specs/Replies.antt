@@ -67,3 +67,8 @@ with_job a job = replied a (job_payload job)
 -- a reply without what it brings
 abbrev pub told : Reply → Answer
 told reply = record { code = reply.code; value = reply.value }
+
+-- the canvas that comes with a reply
+abbrev pub given_canvas : Payload → Option Canvas
+given_canvas (payload.Canvas canvas) = Some canvas
+given_canvas _ = None

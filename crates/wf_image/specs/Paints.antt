@@ -7,6 +7,7 @@ use Rattle.wf_pixel.specs.declared.Format.{Format}
 use Rattle.wf_pixel.specs.declared.Rgba.{Rgba}
 use Rattle.wf_pixel.specs.Along.{along}
 use Rattle.wf_pixel.specs.Choice.{is_coordinate, most_extent}
+use Rattle.wf_image.specs.declared.canvas.Canvas.{Canvas}
 use Rattle.wf_image.specs.declared.paint.Paint.{Paint}
 use Rattle.wf_image.specs.declared.paint.Paint.TheVariants.{Fill, Rectangle, Checker, Ramp, Row}
 use Rattle.wf_image.specs.Bitmap.{Bitmap, pixel_bytes, read_at, pixel, drawn_row, drawn}
@@ -61,3 +62,7 @@ is_paint (Rectangle area color) =
 is_paint (Checker n first second) = nat_le 1 n && nat_le n MOST_SIDE
 is_paint (Ramp first second) = true
 is_paint (Row y pixels) = nat_lt y MOST_SIDE && nat_le 1 (length pixels) && nat_le (length pixels) MOST_SIDE
+
+-- a canvas after a paint
+abbrev pub painted_canvas : Paint → Canvas → Canvas
+painted_canvas paint canvas = record canvas { image = painted canvas.image paint }

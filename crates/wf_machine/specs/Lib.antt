@@ -4,6 +4,7 @@
 pub mod Object
 pub mod LeftAlone
 pub mod Begun
+pub mod Histories
 -- What is kept inside.
 pub mod Latching
 pub mod Ports

@@ -13,8 +13,7 @@ use Rattle.wf_machine.specs.Object.{MayAnswer, after}
 use Rattle.wf_model.specs.State.{State, opening}
 use Rattle.wf_wire.specs.declared.stop.ServeStop.{ServeStop}
 use Rattle.wf_wire.specs.declared.stop.ServeStop.TheVariants as stop
-use Rattle.wf_wire.specs.Answers.{Happening}
-use Rattle.wf_wire.specs.Grown.{PlainPass}
+use Rattle.wf_machine.specs.Histories.{Happening, PlainPass}
 use Rattle.wf_wire.specs.Header.{header}
 use Rattle.wf_wire.specs.Reading.{cursor, number, number_that}
 use Rattle.wf_wire.specs.Served.{Closed, IsRead, IsReadOf, PutsOf, is_write_fault, stop_of}

@@ -7,7 +7,7 @@ use Rattle.wf_calls.specs.declared.ports.Ports.{Ports}
 use Rattle.wf_desk.specs.Desk.{IsClosing, Opened}
 use Rattle.wf_machine.specs.Object.{MayAnswer, after}
 use Rattle.wf_model.specs.State.{State}
-use Rattle.wf_wire.specs.Grown.{PlainPass}
+use Rattle.wf_machine.specs.Histories.{PlainPass}
 use Rattle.wf_wire.specs.declared.stop.ServeStop.{ServeStop}
 use Rattle.wf_wire.specs.declared.stop.ServeStop.TheVariants as stop
 use Rattle.wf_wire.specs.Header.{header}

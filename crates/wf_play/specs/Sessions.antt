@@ -9,7 +9,8 @@ use Rattle.wf_image.specs.declared.canvas.Canvas.{Canvas}
 use Rattle.wf_machine.specs.Object.{MayAnswer, after}
 use Rattle.wf_model.specs.State.{opening}
 use Rattle.wf_wire.specs.declared.message.Message.{Message}
-use Rattle.wf_wire.specs.Answers.{AnswersAll, Closes, Happening}
+use Rattle.wf_wire.specs.Answers.{AnswersAll, Closes}
+use Rattle.wf_machine.specs.Histories.{Happening}
 use Rattle.wf_wire.specs.Header.{header}
 use Rattle.wf_wire.specs.Messages.{next}
 use Rattle.wf_wire.specs.Reading.{Cursor, cursor}

@@ -23,9 +23,8 @@ use Rattle.wf_show.specs.declared.player.Player.{Player}
 use Rattle.wf_show.specs.Opened.{ArePlayers}
 use Rattle.wf_show.specs.Clocks.{IsClock, shown_to}
 use Rattle.wf_show.specs.Ends.{AllPlay, AreEnded, IsCut, IsFilmed, IsHistory, OthersThrough}
-use Rattle.wf_show.specs.Played.{Happening}
+use Rattle.wf_machine.specs.Histories.{Happening, PlainPass}
 use Rattle.wf_show.specs.Players.{AreFresh, IsFresh}
-use Rattle.wf_show.specs.Running.{PlainPass}
 use Rattle.wf_show.specs.Shown.{order_of}
 use Rattle.wf_show.proofs.HistoryIsAnOrder.{clock_apart, completes, each_front, shown_is, through_behind}
 use Rattle.wf_show.proofs.FrontsAreLegal.{EachFront}

@@ -20,9 +20,10 @@ use Rattle.wf_turn.proofs.AnswersKeep.{same_client, same_script}
 use Rattle.wf_turn.proofs.TurnOfAProgram.{still_paintable, work_frames}
 use Rattle.wf_show.specs.declared.player.Player.{Player}
 use Rattle.wf_show.specs.Clocks.{Advanced, Advances, IsClock, SetsUp, shown_to, start}
-use Rattle.wf_show.specs.Played.{Happening, gone_on, program_after}
+use Rattle.wf_show.specs.Played.{gone_on, program_after}
+use Rattle.wf_machine.specs.Histories.{Happening, PlainPass}
 use Rattle.wf_show.specs.Players.{first_pass}
-use Rattle.wf_show.specs.Running.{IsReadyFor, PlainPass, RunsSoFar}
+use Rattle.wf_show.specs.Running.{IsReadyFor, RunsSoFar}
 use Rattle.wf_show.specs.Shown.{frames_by}
 use Rattle.wf_show.specs.Together.{IsSettingUp}
 use Rattle.wf_show.proofs.FramesOfEvents.{one_frames, one_setting}

@@ -14,8 +14,9 @@ use Rattle.wf_turn.specs.Going.{GoesOn, GoesOnAfter, IsNextCall}
 use Rattle.wf_turn.specs.Program.{Program, next}
 use Rattle.wf_turn.specs.Quota.{left}
 use Rattle.wf_turn.specs.Ready.{IsFit}
-use Rattle.wf_show.specs.Played.{Happening, IsPlayed, gone_on, program_after}
-use Rattle.wf_show.specs.Running.{IsReadyFor, PlainPass, RunsSoFar}
+use Rattle.wf_show.specs.Played.{IsPlayed, gone_on, program_after}
+use Rattle.wf_machine.specs.Histories.{Happening, PlainPass}
+use Rattle.wf_show.specs.Running.{IsReadyFor, RunsSoFar}
 use Rattle.wf_show.proofs.Histories.{one_played, one_program, untouched}
 
 -- where the machine is ready for a call, it may be made

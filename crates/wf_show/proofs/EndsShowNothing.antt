@@ -15,7 +15,9 @@ use Rattle.wf_turn.specs.declared.stage.Phase.{Phase}
 use Rattle.wf_turn.specs.declared.stage.Phase.TheVariants as phase
 use Rattle.wf_turn.specs.declared.stage.Stage.{Stage}
 use Rattle.wf_turn.specs.declared.stage.Stage.TheVariants as stage
-use Rattle.wf_turn.specs.Program.{Program, answered, first_line, given_canvas, go_on, in_setup, is_work, line_done, painted_job, place_of}
+use Rattle.wf_turn.specs.Program.{Program, answered, first_line, go_on, in_setup, is_work, line_done, place_of}
+use Rattle.wf_model.specs.Picture.{painted_job}
+use Rattle.wf_calls.specs.Replies.{given_canvas}
 use Rattle.wf_turn.specs.Program.{ticking, took, took_at, took_canvas, took_first, took_frame, took_job, unheld}
 use Rattle.wf_turn.specs.Turns.{frames_of}
 use Rattle.wf_turn.proofs.AnswersKeep.{same_script}

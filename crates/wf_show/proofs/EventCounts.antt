@@ -5,7 +5,7 @@ use Rattle.std.proofs.Common.{arith}
 use Rattle.std.specs.Prelude.{nat_lt}
 use Rattle.std.proofs.lemmas.Bool.{eq-eqb, eqb-true, ltb-false, ltb-true}
 use Rattle.wf_desk.specs.History.{events_of}
-use Rattle.wf_show.specs.Played.{Happening}
+use Rattle.wf_machine.specs.Histories.{Happening}
 use Rattle.wf_show.specs.Together.{AllBelow}
 
 abbrev one_if : Bool → ℕ

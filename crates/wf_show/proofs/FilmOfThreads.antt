@@ -18,7 +18,8 @@ use Rattle.wf_turn.specs.Program.{Program, program}
 use Rattle.wf_show.specs.declared.player.Player.{Player}
 use Rattle.wf_show.specs.Clocks.{Cuts, shown_to}
 use Rattle.wf_show.specs.Ends.{IsCutLate, IsFilmed}
-use Rattle.wf_show.specs.Played.{Happening, program_after}
+use Rattle.wf_show.specs.Played.{program_after}
+use Rattle.wf_machine.specs.Histories.{Happening}
 use Rattle.wf_show.specs.Shown.{frames_by, order_of}
 use Rattle.wf_show.proofs.FramesOfEvents.{frames_untouched}
 use Rattle.wf_show.proofs.FrontsAreLegal.{EachFront}

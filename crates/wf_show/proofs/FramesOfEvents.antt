@@ -7,7 +7,8 @@ use Rattle.wf_film.specs.Film.{Frame}
 use Rattle.wf_model.specs.State.{State}
 use Rattle.wf_turn.specs.Program.{Program, in_setup, took}
 use Rattle.wf_turn.specs.Turns.{frames_of}
-use Rattle.wf_show.specs.Played.{Happening, after_event, program_after}
+use Rattle.wf_show.specs.Played.{after_event, program_after}
+use Rattle.wf_machine.specs.Histories.{Happening}
 use Rattle.wf_show.specs.Shown.{frames_by, frames_in}
 use Rattle.wf_show.specs.Together.{IsSettingUp}
 use Rattle.wf_show.proofs.Histories.{none_between, reached}

@@ -29,7 +29,7 @@ use Rattle.wf_show.specs.declared.player.Player.{Player}
 use Rattle.wf_show.specs.Clocks.{Advanced, Cuts, IsClock, SetsUp, Shows, ShowsSoFar, shown_to, start}
 use Rattle.wf_show.specs.Shown.{frames_by}
 use Rattle.wf_show.specs.Ends.{IsFilmed}
-use Rattle.wf_show.specs.Played.{Happening}
+use Rattle.wf_machine.specs.Histories.{Happening}
 use Rattle.wf_show.proofs.EndsShowNothing.{at_line, end_shows, inside_still, is_ending, to_end}
 
 pub no_more : (xs : List Happening) → IsPrefix xs xs

@@ -11,7 +11,8 @@ use Rattle.wf_script.specs.Script.{PlainScript}
 use Rattle.wf_turn.specs.Play.{IsLegal as IsLegalOrder, frames_after, replay}
 use Rattle.wf_turn.specs.Program.{Program, program}
 use Rattle.wf_turn.specs.Turns.{opening_show}
-use Rattle.wf_show.specs.Played.{Happening, IsPlayed, gone_on}
+use Rattle.wf_show.specs.Played.{IsPlayed, gone_on}
+use Rattle.wf_machine.specs.Histories.{Happening}
 use Rattle.wf_show.specs.Shown.{frames_by, order_of}
 use Rattle.wf_show.specs.Together.{AllBelow, IsSetup, IsSettingUp, IsTogether, program_in}
 use Rattle.wf_show.proofs.HistoryInParts.{legal_parts, played_parts}

@@ -6,7 +6,8 @@ use Rattle.wf_machine.specs.Object.{after}
 use Rattle.wf_model.specs.State.{State}
 use Rattle.wf_turn.specs.Going.{IsNextCall}
 use Rattle.wf_turn.specs.Program.{Program}
-use Rattle.wf_show.specs.Played.{Happening, IsPlayed, after_event, gone_on, program_after}
+use Rattle.wf_show.specs.Played.{IsPlayed, after_event, gone_on, program_after}
+use Rattle.wf_machine.specs.Histories.{Happening}
 
 -- one history behind another
 

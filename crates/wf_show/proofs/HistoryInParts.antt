@@ -6,7 +6,8 @@ use Rattle.wf_film.specs.Film.{Frame}
 use Rattle.wf_machine.specs.Object.{MayAnswer, after}
 use Rattle.wf_model.specs.State.{State}
 use Rattle.wf_turn.specs.Program.{Program}
-use Rattle.wf_show.specs.Played.{Happening, IsPlayed, after_event, program_after}
+use Rattle.wf_show.specs.Played.{IsPlayed, after_event, program_after}
+use Rattle.wf_machine.specs.Histories.{Happening}
 use Rattle.wf_show.specs.Shown.{frames_by, frames_in, order_of}
 
 pub order_of-append : (xs ys : List Happening) → order_of (xs ++ ys) ≡ order_of xs ++ order_of ys

@@ -19,9 +19,9 @@ use Rattle.wf_turn.specs.Turns.{Show, all_taught, is_setting_up, opening_show}
 use Rattle.wf_show.specs.declared.player.Player.{Player}
 use Rattle.wf_show.specs.Clocks.{IsClock, shown_to, start}
 use Rattle.wf_show.specs.Ends.{AllPlay, AreEnded, IsAlone, IsHistory}
-use Rattle.wf_show.specs.Played.{Happening, IsPlayed, program_after}
+use Rattle.wf_show.specs.Played.{IsPlayed, program_after}
+use Rattle.wf_machine.specs.Histories.{Happening, PlainPass}
 use Rattle.wf_show.specs.Players.{AreFresh}
-use Rattle.wf_show.specs.Running.{PlainPass}
 use Rattle.wf_show.specs.Shown.{frames_by, order_of}
 use Rattle.wf_show.specs.Together.{AllBelow, IsSetup, IsSettingUp, IsTogether, program_in}
 use Rattle.wf_show.proofs.FramesOfEvents.{frames_untouched, setting-append, setting_untouched}

@@ -20,7 +20,8 @@ use Rattle.wf_show.proofs.LinesThatAreLeft.{behind, behind_on, stays_past}
 use Rattle.wf_turn.proofs.Serials.{nothing_replayed, replay_next}
 use Rattle.wf_show.proofs.NoTickNoFrame.{IsStill, stays_still}
 use Rattle.wf_show.proofs.NextTurns.{turn_is}
-use Rattle.wf_show.specs.Played.{Happening, IsPlayed, after_event, gone_on, program_after}
+use Rattle.wf_show.specs.Played.{IsPlayed, after_event, gone_on, program_after}
+use Rattle.wf_machine.specs.Histories.{Happening}
 use Rattle.wf_show.specs.Shown.{frames_by, frames_in, order_of}
 use Rattle.wf_show.specs.Together.{AllBelow}
 

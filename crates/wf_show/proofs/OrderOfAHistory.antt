@@ -17,7 +17,8 @@ use Rattle.wf_turn.proofs.AnswersKeep.{same_script}
 use Rattle.wf_show.proofs.LinesThatAreLeft.{IsRising, behind, opening_rise, past_setup, rise_on}
 use Rattle.wf_show.proofs.NoTickNoFrame.{opening_still}
 use Rattle.wf_show.proofs.NextTurns.{replays_both}
-use Rattle.wf_show.specs.Played.{Happening, IsPlayed, after_event, gone_on, program_after}
+use Rattle.wf_show.specs.Played.{IsPlayed, after_event, gone_on, program_after}
+use Rattle.wf_machine.specs.Histories.{Happening}
 use Rattle.wf_show.specs.Shown.{frames_by, order_of}
 use Rattle.wf_show.specs.Together.{AllBelow, IsOrderOf, IsSetup, IsTogether, program_in}
 use Rattle.wf_show.proofs.Histories.{program_after-append, untouched}

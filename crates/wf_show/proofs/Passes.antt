@@ -20,7 +20,7 @@ use Rattle.wf_turn.specs.Ready.{IsFit}
 use Rattle.wf_show.specs.declared.player.Player.{Player}
 use Rattle.wf_show.specs.Opened.{passes_from}
 use Rattle.wf_show.specs.Players.{AreFresh, IsFresh, first_pass}
-use Rattle.wf_show.specs.Running.{PlainPass}
+use Rattle.wf_machine.specs.Histories.{PlainPass}
 use Rattle.wf_script.specs.declared.TheConstants.{MOST_LINES}
 
 -- a client makes so many events at most

@@ -13,9 +13,8 @@ use Rattle.wf_show.specs.declared.player.Player.{Player}
 use Rattle.wf_show.specs.Opened.{AreSeated, passes_of}
 use Rattle.wf_show.specs.Clocks.{IsClock}
 use Rattle.wf_show.specs.Ends.{AreEnded, IsHistory}
-use Rattle.wf_show.specs.Played.{Happening}
+use Rattle.wf_machine.specs.Histories.{Happening, PlainPass}
 use Rattle.wf_show.specs.Players.{AreFresh, IsFresh, IsPlayer}
-use Rattle.wf_show.specs.Running.{PlainPass}
 use Rattle.wf_show.specs.Shown.{order_of}
 use Rattle.wf_show.proofs.HistoryIsAnOrder.{all_below}
 use Rattle.wf_show.proofs.EventCounts.{few_events}

@@ -15,7 +15,8 @@ use Rattle.wf_show.specs.declared.player.Player.{Player}
 use Rattle.wf_show.specs.Clocks.{IsClock, start}
 use Rattle.wf_show.specs.Ends.{AllPlay}
 use Rattle.wf_show.specs.Players.{AllPlayers, AllTold, AllWorked, AreFresh, IsFresh, IsTold, IsWaiting, first_pass}
-use Rattle.wf_show.specs.Running.{PlainPass, RunsSoFar}
+use Rattle.wf_show.specs.Running.{RunsSoFar}
+use Rattle.wf_machine.specs.Histories.{PlainPass}
 use Rattle.wf_show.specs.Together.{IsSettingUp}
 use Rattle.wf_show.proofs.CallThroughAPass.{starts}
 

@@ -10,7 +10,8 @@ use Rattle.wf_machine.specs.Object.{IsPaintable}
 use Rattle.wf_turn.specs.Playing.{frames_if}
 use Rattle.wf_turn.specs.Program.{Program, in_setup, is_work, program, took}
 use Rattle.wf_show.specs.declared.player.Player.{Player}
-use Rattle.wf_show.specs.Played.{Happening, gone_on}
+use Rattle.wf_show.specs.Played.{gone_on}
+use Rattle.wf_machine.specs.Histories.{Happening}
 use Rattle.wf_show.specs.Players.{first_pass}
 use Rattle.wf_show.specs.Running.{RunsSoFar}
 use Rattle.wf_show.specs.Shown.{frames_by}

@@ -19,7 +19,7 @@ use Rattle.wf_turn.specs.Program.{Program, in_setup, place_of}
 use Rattle.wf_turn.specs.Turns.{Show, is_setting_up}
 use Rattle.wf_show.specs.declared.player.Player.{Player}
 use Rattle.wf_show.specs.Clocks.{Cuts, IsClock, shown_to, start}
-use Rattle.wf_show.specs.Played.{Happening}
+use Rattle.wf_machine.specs.Histories.{Happening}
 use Rattle.wf_show.specs.Players.{AllPlayers}
 use Rattle.wf_show.specs.Together.{IsSettingUp}
 

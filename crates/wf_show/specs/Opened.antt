@@ -8,7 +8,7 @@ use Rattle.wf_turn.specs.Quota.{quota}
 use Rattle.wf_show.specs.declared.players.Players.{Players}
 use Rattle.wf_show.specs.declared.player.Player.{Player}
 use Rattle.wf_show.specs.Players.{AreFresh, IsFresh, first_pass}
-use Rattle.wf_show.specs.Running.{PlainPass}
+use Rattle.wf_machine.specs.Histories.{PlainPass}
 
 -- the passes of so many clients from one on, before their first calls
 abbrev pub passes_from : TableId → PlainScript → ℕ → ℕ → List PlainPass

@@ -1,16 +1,11 @@
 -- A client's program beside a history of the machine: which of the events are its calls, and what it makes of the answers.
 use Rattle.std.specs.Prelude.{◌≡◌, ℕ, true, ◌==◌, List, [], ◌∷◌, if◌then◌else◌}
-use Rattle.wf_calls.specs.declared.call.Call.{Call}
 use Rattle.wf_calls.specs.declared.reply.Reply.{Reply}
-use Rattle.wf_desk.specs.declared.event.Event.{Event}
+use Rattle.wf_machine.specs.Histories.{Happening}
 use Rattle.wf_machine.specs.Object.{after}
 use Rattle.wf_model.specs.State.{State}
 use Rattle.wf_turn.specs.Going.{IsNextCall}
 use Rattle.wf_turn.specs.Program.{Program, took, worked}
-
--- one call that the machine answered
-abbrev pub Happening : Type 0
-Happening = Event Call Reply
 
 -- a program after an answer, with the Job that came painted
 abbrev pub gone_on : Program → Reply → Program

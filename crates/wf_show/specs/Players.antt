@@ -10,7 +10,8 @@ use Rattle.wf_turn.specs.Program.{place_of, program, taught}
 use Rattle.wf_turn.specs.Quota.{left}
 use Rattle.wf_turn.specs.Ready.{IsFit}
 use Rattle.wf_show.specs.declared.player.Player.{Player}
-use Rattle.wf_show.specs.Running.{PlainPass, Runs}
+use Rattle.wf_show.specs.Running.{Runs}
+use Rattle.wf_machine.specs.Histories.{PlainPass}
 
 -- the pass of a client of a script before its first call
 abbrev pub first_pass : TableId → PlainScript → ℕ → ℕ → PlainPass

@@ -1,9 +1,8 @@
 -- What playing a program makes of its pass.
 use Rattle.std.specs.Prelude.{◌≡◌, ◌+◌, ◌≤◌, IsTrue, Some, length}
-use Rattle.wf_calls.specs.declared.call.Call.{Call}
-use Rattle.wf_calls.specs.declared.reply.Reply.{Reply}
 use Rattle.wf_desk.specs.History.{IsPrefix}
-use Rattle.wf_desk.specs.Pass.{IsOwn, Known}
+use Rattle.wf_desk.specs.Pass.{IsOwn}
+use Rattle.wf_machine.specs.Histories.{PlainPass}
 use Rattle.wf_machine.specs.Object.{MayAnswer, after, is_ready}
 use Rattle.wf_model.specs.State.{State}
 use Rattle.wf_turn.specs.declared.stage.Wanted.{Wanted}
@@ -11,10 +10,6 @@ use Rattle.wf_turn.specs.Program.{Program}
 use Rattle.wf_turn.specs.Quota.{left}
 use Rattle.wf_turn.specs.Ready.{IsFit}
 use Rattle.wf_show.specs.Played.{IsPlayed, program_after}
-
--- a pass of a machine's desk, as contracts see it
-abbrev pub PlainPass : Type 0
-PlainPass = Known State Call Reply
 
 -- the machine is ready for a call that a program wants, where that waits
 abbrev pub IsReadyFor : Wanted → State → Type 0

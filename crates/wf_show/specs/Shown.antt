@@ -6,7 +6,8 @@ use Rattle.wf_desk.specs.History.{entries}
 use Rattle.wf_film.specs.Film.{Frame}
 use Rattle.wf_turn.specs.Program.{Program, took}
 use Rattle.wf_turn.specs.Turns.{frames_of}
-use Rattle.wf_show.specs.Played.{Happening, after_event}
+use Rattle.wf_show.specs.Played.{after_event}
+use Rattle.wf_machine.specs.Histories.{Happening}
 
 -- the journal's entries, one of each event
 abbrev pub order_of : List Happening → List Turn

@@ -7,7 +7,8 @@ use Rattle.wf_model.specs.State.{opening}
 use Rattle.wf_script.specs.Script.{PlainScript, may_tick}
 use Rattle.wf_turn.specs.Play.{IsComplete, IsLegal as IsLegalOrder, frames_after, replay}
 use Rattle.wf_turn.specs.Program.{Program, in_setup, place_of, program, taught}
-use Rattle.wf_show.specs.Played.{Happening, IsPlayed, after_event, gone_on, program_after}
+use Rattle.wf_show.specs.Played.{IsPlayed, after_event, gone_on, program_after}
+use Rattle.wf_machine.specs.Histories.{Happening}
 use Rattle.wf_show.specs.Shown.{frames_by, order_of}
 
 -- each event is of the setup: it is client 0's, and a line of the setup is not through before it

@@ -6,7 +6,7 @@ ghost use Rattle.wf_calls.specs.Orders.{IsEntry};
 ghost use Rattle.wf_model.specs.State.{opening};
 ghost use Rattle.wf_show.specs.Opened.{AreSeated, passes_of};
 ghost use Rattle.wf_show.specs.Ends.{IsHistory};
-ghost use Rattle.wf_show.specs.Played.{Happening};
+ghost use Rattle.wf_machine.specs.Histories.{Happening};
 ghost use Rattle.wf_show.specs.Shown.{order_of};
 
 use crate::player::Player;

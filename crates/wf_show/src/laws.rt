@@ -2,7 +2,7 @@
 
 ghost use Rattle.std.specs.Prelude.{List, ◌++◌};
 ghost use Rattle.wf_script.specs.Script.{PlainScript};
-ghost use Rattle.wf_show.specs.Played.{Happening};
+ghost use Rattle.wf_machine.specs.Histories.{Happening};
 ghost use Rattle.wf_show.specs.Together.{IsOrderOf, IsTogether};
 
 /// However the events of a script's clients stand beside one another, their one history is an order of the script: it is legal, its

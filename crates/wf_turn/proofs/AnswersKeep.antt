@@ -8,7 +8,7 @@ use Rattle.wf_calls.specs.declared.reply.Payload.TheVariants as payload
 use Rattle.wf_script.specs.declared.line.Verb.TheVariants as verb
 use Rattle.wf_turn.specs.declared.stage.Phase.TheVariants as phase
 use Rattle.wf_turn.specs.declared.stage.Stage.TheVariants as stage
-use Rattle.wf_turn.specs.Program.{painted_canvas}
+use Rattle.wf_image.specs.Paints.{painted_canvas}
 use Rattle.wf_model.specs.declared.TheConstants.{MOST_CONTEXTS}
 
 -- a program whose changing parts are these

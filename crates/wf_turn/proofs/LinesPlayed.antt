@@ -12,7 +12,8 @@ use Rattle.wf_calls.specs.declared.call.JobKind.TheVariants as kind
 use Rattle.wf_calls.specs.Replies.{done, gives_canvas, gives_job}
 use Rattle.wf_script.specs.declared.line.Verb.TheVariants as verb
 use Rattle.wf_script.specs.Generator.{made_ports, plain_line}
-use Rattle.wf_turn.specs.Program.{handle, painted_canvas}
+use Rattle.wf_turn.specs.Program.{handle}
+use Rattle.wf_image.specs.Paints.{painted_canvas}
 use Rattle.wf_turn.specs.declared.stage.Phase.TheVariants as phase
 use Rattle.wf_turn.specs.declared.stage.Stage.TheVariants as stage
 use Rattle.wf_turn.proofs.TurnsOfLines.{Here, all_wait, events, here_now, here_put, next_turn, none_skipped, own_lines, program_now}

@@ -4,14 +4,15 @@ use Rattle.std.specs.Prelude.{take, Option, Some, None, is_some, unwrap_or, opti
 use Rattle.std.specs.List.{enumerate_from}
 use Rattle.wf_image.specs.declared.canvas.Canvas.{Canvas}
 use Rattle.wf_image.specs.declared.paint.Paint.{Paint}
-use Rattle.wf_image.specs.Paints.{painted}
+use Rattle.wf_image.specs.Paints.{painted_canvas}
 use Rattle.wf_calls.specs.declared.call.Call.{Call}
 use Rattle.wf_calls.specs.declared.call.Call.TheVariants as call
 use Rattle.wf_calls.specs.declared.call.Job.{Job}
 use Rattle.wf_calls.specs.declared.reply.Payload.{Payload}
 use Rattle.wf_calls.specs.declared.reply.Payload.TheVariants as payload
 use Rattle.wf_calls.specs.declared.reply.Reply.{Reply}
-use Rattle.wf_model.specs.Picture.{picture}
+use Rattle.wf_calls.specs.Replies.{given_canvas}
+use Rattle.wf_model.specs.Picture.{painted_job}
 use Rattle.wf_script.specs.declared.line.Line.{Line}
 use Rattle.wf_script.specs.declared.line.Verb.{Verb}
 use Rattle.wf_script.specs.declared.line.Verb.TheVariants as verb
@@ -126,10 +127,6 @@ issued p = record p { canvas = kept_canvas (first_line p) p.stage p.canvas; job 
 
 -- lines that are through
 
--- a canvas after a paint
-abbrev pub painted_canvas : Paint → Canvas → Canvas
-painted_canvas paint canvas = record canvas { image = painted canvas.image paint }
-
 -- what a line that makes no event does to the canvas
 abbrev pub silent : Verb → Option Canvas → Option Canvas
 silent (verb.Paint paint) canvas = option_map (painted_canvas paint) canvas
@@ -196,11 +193,6 @@ abbrev pub took_job : Program → Payload → Option Phase → Program
 took_job p (payload.Job job) l = record p { job = Some job; unpainted = true; stage = stage.Ending l }
 took_job p _ l = go_on (unheld p) l
 
--- the canvas that comes with a reply
-abbrev pub given_canvas : Payload → Option Canvas
-given_canvas (payload.Canvas canvas) = Some canvas
-given_canvas _ = None
-
 -- the line is through, with the canvas that came
 abbrev pub took_canvas : Program → Payload → Program
 took_canvas p given = line_done (record p { canvas = given_canvas given }) 0
@@ -250,10 +242,6 @@ took p reply = of_line (first_line p)
     of_line : Option Line → Program
     of_line None = p
     of_line (Some l) = took_at p l reply p.stage
-
--- the Job with its picture
-abbrev pub painted_job : Job → Job
-painted_job job = record job { image = picture job.scene job.contents job.image.format }
 
 -- a Job is held that was not painted yet
 abbrev pub is_work : Program → Bool

@@ -15,7 +15,8 @@ use Rattle.wf_model.specs.Frames.{is_running}
 use Rattle.wf_model.specs.Step.{step}
 use Rattle.wf_script.specs.Script.{PlainScript}
 use Rattle.wf_turn.specs.declared.stage.Wanted.{Wanted}
-use Rattle.wf_turn.specs.Program.{Program, in_setup, next, painted_job, place_of, program, taught, tick_of, took}
+use Rattle.wf_turn.specs.Program.{Program, in_setup, next, place_of, program, taught, tick_of, took}
+use Rattle.wf_model.specs.Picture.{painted_job}
 use Rattle.wf_turn.specs.Program.{worked}
 
 -- the state, the eight programs by client, the frames so far, and how many turns there were

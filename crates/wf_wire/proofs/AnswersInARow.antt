@@ -6,7 +6,8 @@ use Rattle.wf_image.specs.declared.canvas.Canvas.{Canvas}
 use Rattle.wf_calls.specs.declared.call.Call.{Call}
 use Rattle.wf_calls.specs.declared.call.Job.{Job}
 use Rattle.wf_wire.specs.declared.message.Message.{Message}
-use Rattle.wf_wire.specs.Answers.{AnswersAll, AreEnds, Answers, Happening, begun}
+use Rattle.wf_wire.specs.Answers.{AnswersAll, AreEnds, Answers, begun}
+use Rattle.wf_machine.specs.Histories.{Happening}
 use Rattle.wf_wire.specs.Asked.{asked}
 
 -- a message makes two events at most

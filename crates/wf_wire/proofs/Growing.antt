@@ -12,8 +12,9 @@ use Rattle.wf_desk.specs.History.{IsPrefix, event}
 use Rattle.wf_desk.specs.Pass.{IsOwn, Made}
 use Rattle.wf_machine.specs.Object.{CarriesPaintable, IsPaintable, MayAnswer, after, is_ready}
 use Rattle.wf_model.specs.State.{State}
-use Rattle.wf_wire.specs.Answers.{Happening, job_in}
-use Rattle.wf_wire.specs.Grown.{AreReady, Grew, PlainPass}
+use Rattle.wf_wire.specs.Answers.{job_in}
+use Rattle.wf_machine.specs.Histories.{Happening, PlainPass}
+use Rattle.wf_wire.specs.Grown.{AreReady, Grew}
 
 -- histories that go on
 

@@ -15,8 +15,9 @@ use Rattle.wf_machine.specs.Object.{MayAnswer, after, is_ready}
 use Rattle.wf_wire.specs.declared.message.Message.{Message}
 use Rattle.wf_wire.specs.declared.stop.ServeStop.{ServeStop}
 use Rattle.wf_wire.specs.declared.stop.ServeStop.TheVariants as stop
-use Rattle.wf_wire.specs.Answers.{Answers, Closes, Happening}
-use Rattle.wf_wire.specs.Grown.{Grew, PlainPass}
+use Rattle.wf_wire.specs.Answers.{Answers, Closes}
+use Rattle.wf_machine.specs.Histories.{Happening, PlainPass}
+use Rattle.wf_wire.specs.Grown.{Grew}
 use Rattle.wf_wire.specs.Heard.{Discards, Heard}
 use Rattle.wf_wire.specs.Messages.{next}
 use Rattle.wf_wire.specs.Served.{Closed, HeardAll, PutsOf, Served}

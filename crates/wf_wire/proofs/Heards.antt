@@ -10,8 +10,9 @@ use Rattle.wf_wire.specs.declared.answering.TheConstants.{ANSWER_BYTES}
 use Rattle.wf_wire.specs.declared.message.Message.{Message}
 use Rattle.wf_wire.specs.declared.message.Message.TheVariants as message
 use Rattle.wf_wire.specs.Answers.{quiet_bytes, reply_bytes}
-use Rattle.wf_wire.specs.Asked.{asked, given_canvas, lent, moves_canvas, quiet_canvas}
-use Rattle.wf_wire.specs.Grown.{PlainPass}
+use Rattle.wf_wire.specs.Asked.{asked, lent, moves_canvas, quiet_canvas}
+use Rattle.wf_calls.specs.Replies.{given_canvas}
+use Rattle.wf_machine.specs.Histories.{PlainPass}
 use Rattle.wf_wire.specs.Heard.{Called, Heard}
 use Rattle.wf_wire.specs.Putting.{Writes}
 use Rattle.wf_wire.proofs.Growing.{same_pass}

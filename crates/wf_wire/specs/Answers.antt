@@ -10,16 +10,12 @@ use Rattle.wf_calls.specs.declared.reply.Payload.{Payload}
 use Rattle.wf_calls.specs.declared.reply.Payload.TheVariants as payload
 use Rattle.wf_calls.specs.declared.reply.Reply.{Reply}
 use Rattle.wf_calls.specs.Codes.{code_number, is_ok_code}
-use Rattle.wf_desk.specs.declared.event.Event.{Event}
 use Rattle.wf_desk.specs.History.{event}
-use Rattle.wf_model.specs.Picture.{picture}
+use Rattle.wf_machine.specs.Histories.{Happening}
+use Rattle.wf_model.specs.Picture.{painted_job}
 use Rattle.wf_wire.specs.declared.message.Message.{Message}
 use Rattle.wf_wire.specs.declared.message.Message.TheVariants as message
 use Rattle.wf_wire.specs.Asked.{asked, held_after, is_show, quiet_canvas}
-
--- a call to the machine and its answer, in a history
-abbrev pub Happening : Type 0
-Happening = Event Call Reply
 
 -- bytes
 
@@ -30,10 +26,6 @@ answer_bytes code value = code ∷ big_bytes 4 value
 -- an image: its width, its height and its pixels
 abbrev pub image_bytes : Bitmap → List ℕ
 image_bytes image = big_bytes 2 image.size.w ++ big_bytes 2 image.size.h ++ image.bytes
-
--- the Job with its picture
-abbrev pub painted_job : Job → Job
-painted_job job = record job { image = picture job.scene job.contents job.image.format }
 
 -- an image that is shown or not
 abbrev pub frame_bytes : Bool → Bitmap → List ℕ

@@ -2,15 +2,13 @@
 use Rattle.std.specs.Prelude.{Bool, true, false, ◌&&◌, Option, Some, None, is_some, option_map, if◌then◌else◌}
 use Rattle.wf_calls.specs.declared.call.Call.{Call}
 use Rattle.wf_calls.specs.declared.call.Call.TheVariants as call
-use Rattle.wf_calls.specs.declared.reply.Payload.{Payload}
-use Rattle.wf_calls.specs.declared.reply.Payload.TheVariants as payload
 use Rattle.wf_calls.specs.declared.reply.Reply.{Reply}
 use Rattle.wf_calls.specs.declared.request.Request.{Request}
 use Rattle.wf_calls.specs.declared.request.Request.TheVariants as request
+use Rattle.wf_calls.specs.Replies.{given_canvas}
 use Rattle.wf_calls.specs.Requests.{call_of}
 use Rattle.wf_image.specs.declared.canvas.Canvas.{Canvas}
-use Rattle.wf_image.specs.declared.paint.Paint.{Paint}
-use Rattle.wf_image.specs.Paints.{painted}
+use Rattle.wf_image.specs.Paints.{painted_canvas}
 use Rattle.wf_wire.specs.declared.message.Message.{Message}
 use Rattle.wf_wire.specs.declared.message.Message.TheVariants as message
 
@@ -36,11 +34,6 @@ lent message.Post held = None
 lent message.Discard held = None
 lent _ held = held
 
--- the canvas that comes with an answer
-abbrev pub given_canvas : Payload → Option Canvas
-given_canvas (payload.Canvas canvas) = Some canvas
-given_canvas _ = None
-
 -- what comes with the answer takes the place of the canvas that was held
 abbrev pub moves_canvas : Message → Bool
 moves_canvas (message.Ask r) = is_acquire r
@@ -49,9 +42,6 @@ moves_canvas _ = true
 -- the canvas that is held after the answer to the call
 abbrev pub held_after : Message → Option Canvas → Reply → Option Canvas
 held_after m held reply = if moves_canvas m then given_canvas reply.payload else held
-
-abbrev pub painted_canvas : Paint → Canvas → Canvas
-painted_canvas paint canvas = record canvas { image = painted canvas.image paint }
 
 -- and after a message that makes no call
 abbrev pub quiet_canvas : Message → Option Canvas → Option Canvas

@@ -1,16 +1,10 @@
 -- What the events of a session make of its pass.
 use Rattle.std.specs.Prelude.{◌≡◌, ◌+◌, List, [], ◌∷◌, ◌++◌, length, Some, IsTrue}
-use Rattle.wf_calls.specs.declared.call.Call.{Call}
-use Rattle.wf_calls.specs.declared.reply.Reply.{Reply}
 use Rattle.wf_desk.specs.History.{IsPrefix, replay}
-use Rattle.wf_desk.specs.Pass.{IsOwn, Known}
+use Rattle.wf_desk.specs.Pass.{IsOwn}
 use Rattle.wf_machine.specs.Object.{MayAnswer, after, is_ready}
 use Rattle.wf_model.specs.State.{State}
-use Rattle.wf_wire.specs.Answers.{Happening}
-
--- a pass of a machine's desk
-abbrev pub PlainPass : Type 0
-PlainPass = Known State Call Reply
+use Rattle.wf_machine.specs.Histories.{Happening, PlainPass}
 
 -- These events stand in a history `seen` in this order, all after `from`, and the machine is ready for the call of each: no frame runs
 -- that it would begin beside. `h` is the machine before the history.

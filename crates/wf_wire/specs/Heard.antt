@@ -7,9 +7,11 @@ use Rattle.wf_image.specs.declared.canvas.Canvas.{Canvas}
 use Rattle.wf_io.specs.declared.writing.WriteStop.{WriteStop}
 use Rattle.wf_wire.specs.declared.answering.TheConstants.{ANSWER_BYTES}
 use Rattle.wf_wire.specs.declared.message.Message.{Message}
-use Rattle.wf_wire.specs.Answers.{AreEnds, Answers, Closes, Happening, begun, reply_bytes}
-use Rattle.wf_wire.specs.Asked.{given_canvas, moves_canvas}
-use Rattle.wf_wire.specs.Grown.{Grew, PlainPass}
+use Rattle.wf_wire.specs.Answers.{AreEnds, Answers, Closes, begun, reply_bytes}
+use Rattle.wf_machine.specs.Histories.{Happening, PlainPass}
+use Rattle.wf_wire.specs.Asked.{moves_canvas}
+use Rattle.wf_calls.specs.Replies.{given_canvas}
+use Rattle.wf_wire.specs.Grown.{Grew}
 use Rattle.wf_wire.specs.Putting.{Writes}
 
 module _ {K : Type 0} (took : K → List ℕ → Type 0) where

@@ -5,8 +5,9 @@ use Rattle.wf_io.specs.Bytes.{Puts, PutsPart}
 use Rattle.wf_wire.specs.declared.message.Message.{Message}
 use Rattle.wf_wire.specs.declared.stop.ServeStop.{ServeStop}
 use Rattle.wf_wire.specs.declared.stop.ServeStop.TheVariants as stop
-use Rattle.wf_wire.specs.Answers.{Answers, AnswersAll, Closes, Happening}
-use Rattle.wf_wire.specs.Grown.{Grew, PlainPass}
+use Rattle.wf_wire.specs.Answers.{Answers, AnswersAll, Closes}
+use Rattle.wf_machine.specs.Histories.{Happening, PlainPass}
+use Rattle.wf_wire.specs.Grown.{Grew}
 use Rattle.wf_wire.specs.Messages.{next}
 use Rattle.wf_wire.specs.Reading.{Cursor, broken, cursor}
 use Rattle.wf_wire.specs.Session.{Told, fault, told}

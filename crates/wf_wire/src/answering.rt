@@ -6,8 +6,9 @@ ghost use Rattle.wf_calls.specs.declared.reply.Reply.{Reply as PlainReply};
 ghost use Rattle.wf_desk.specs.Pass.{IsOwn, Made};
 ghost use Rattle.wf_machine.specs.Object.{IsPaintable, MayAnswer, after, is_ready};
 ghost use Rattle.wf_pixel.specs.Choice.{has_sides};
-ghost use Rattle.wf_wire.specs.Answers.{answer_bytes, frame_bytes, image_bytes, job_in, painted_job, shown_bytes};
-ghost use Rattle.wf_wire.specs.Asked.{given_canvas};
+ghost use Rattle.wf_wire.specs.Answers.{answer_bytes, frame_bytes, image_bytes, job_in, shown_bytes};
+ghost use Rattle.wf_model.specs.Picture.{painted_job};
+ghost use Rattle.wf_calls.specs.Replies.{given_canvas};
 ghost use Rattle.wf_wire.specs.Putting.{Writes};
 
 use crate::asking::make;

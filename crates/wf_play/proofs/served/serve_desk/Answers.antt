@@ -1,5 +1,5 @@
 use Rattle.std.proofs.Common.{◌≡◌, ◌∙◌, List, [], ◌∷◌, ◌++◌, ap, subst}
-use Rattle.wf_wire.specs.Grown.{PlainPass}
+use Rattle.wf_machine.specs.Histories.{PlainPass}
 use Rattle.wf_wire.specs.Served.{Closed}
 use Rattle.wf_play.specs.Serving.{IsClosed, first_pass}
 use Rattle.wf_play.proofs.Sessions.{says_all}

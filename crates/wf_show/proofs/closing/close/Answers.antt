@@ -3,7 +3,7 @@ use Rattle.wf_calls.specs.Codes.{entry}
 use Rattle.wf_desk.specs.Desk.{AreAll, IsClosing}
 use Rattle.wf_machine.specs.Object.{MayAnswer, after}
 use Rattle.wf_show.specs.Opened.{passes_of}
-use Rattle.wf_show.specs.Running.{PlainPass}
+use Rattle.wf_machine.specs.Histories.{PlainPass}
 use Rattle.wf_show.proofs.PassesAtTheEnd.{all_passes, history_is}
 use Rattle.wf_show.proofs.closing.close.Goals as goal
 

@@ -2,7 +2,7 @@ use Rattle.std.proofs.Common.{◌∙◌, inl, inr, length, sym, ap, subst}
 use Rattle.wf_film.specs.Film.{Writing, magic}
 use Rattle.wf_show.specs.Clocks.{Cuts, IsClock, Shows}
 use Rattle.wf_show.specs.declared.player.Player.{Player}
-use Rattle.wf_show.specs.Running.{PlainPass}
+use Rattle.wf_machine.specs.Histories.{PlainPass}
 use Rattle.wf_show.proofs.FramesOfTheClock.{all_filmed, both_shown, cut_later, cut_script, cut_sees}
 use Rattle.wf_show.proofs.PlayersAtTheStart.{all_play, first_clock, first_setting}
 use Rattle.wf_show.proofs.playing.play_all.Goals as goal
