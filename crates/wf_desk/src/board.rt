@@ -13,6 +13,7 @@ ghost use Rattle.wf_desk.specs.Plays.{AllMine, Finds, at_stage, grown, starting}
 
 use crate::NoMemory;
 use crate::object::Object;
+use crate::operation::Operation;
 use crate::plays::{Draw, Grow, Rest, Take};
 use crate::rule::Law;
 use crate::view::{Happened, Home, Key, View};
@@ -121,24 +122,24 @@ impl<O: Object> Board<O> {
     }
 
     /// The event takes its place in the history, which is the result.
-    pub(crate) fn record<H: Happened<O::Call, O::Reply>>(
+    pub(crate) fn record<P: Operation<O>, H: Happened<O::Call, O::Reply>>(
         &self,
         seat: &mut Place<O>,
         client: u8,
-        call: &Snapshot<O::Call>,
-        reply: &O::Reply,
+        asked: &Snapshot<P>,
+        answer: &P::Answer,
     ) -> u32
         requires place { seat.old.table_id ≡ self.now.table.shared.table_id }
         requires turn { (ticket : ℕ) × (seat.old.me.0.stage ≡ Has ticket) }
-        requires event { H.event ≡ event client call.now.value reply.now ∷ [] }
+        requires event { H.event ≡ event client (P.call asked.now.value) (P.reply answer.now) ∷ [] }
         requires hand { (hand : Hand O.Call O.Reply) × (seat.old.me.0.hands ≡ hand ∷ [])
             × (hand.client ≡ client) }
         requires left { 0 < seat.old.me.0.left }
         requires may { (k : Key O) × (seat.old.me.0.key ≡ Some k)
-            × O.may (replay O.after k.opening.value seat.old.me.0.seen) client call.now.value reply.now }
+            × O.may (replay O.after k.opening.value seat.old.me.0.seen) client (P.call asked.now.value) (P.reply answer.now) }
         ensures place { (seat.new.table_id ≡ seat.old.table_id) × (seat.new.id ≡ seat.old.id) }
         ensures grown { seat.new.me
-            ≡ (grown seat.old.me.0 (event client call.now.value reply.now), seat.old.me.1) }
+            ≡ (grown seat.old.me.0 (event client (P.call asked.now.value) (P.reply answer.now)), seat.old.me.1) }
         ensures at { result ≡ length seat.old.me.0.seen }
     {
         self.table.shared.fetch_add::<Grow<H>>(seat, HISTORY, 1) as u32

@@ -9,6 +9,7 @@ use crate::NoMemory;
 use crate::board::{Board, HISTORY};
 use crate::journal::Journal;
 use crate::object::Object;
+use crate::operation::{Operation, Whole};
 use crate::pass::Pass;
 use crate::plays::{Catch, Show, Tell};
 use crate::view::Key;
@@ -79,7 +80,8 @@ impl<O: Object> Desk<O> {
         ensures own { IsOwn O.after O.may pass.new }
     {
         let client = pass.client;
-        let (reply, place) = self.board.make(rt, &mut pass.seat, client, call);
+        let op = Whole { call };
+        let (reply, place) = self.board.make(rt, &mut pass.seat, client, op);
         pass.left -= 1;
         pass.place = place;
         reply
@@ -94,11 +96,27 @@ impl<O: Object> Desk<O> {
             pass.old call result pass.new }
         ensures own { IsOwn O.after O.may pass.new }
     {
+        self.perform_when(rt, pass, Whole { call })
+    }
+
+    /// Performs `op` for the client of `pass`, as `call_when` runs the call that it stands for.
+    pub fn perform_when<R: Wait, P: Operation<O>>(
+        &self,
+        rt: &R,
+        pass: &mut Pass<O>,
+        op: P,
+    ) -> P::Answer
+        requires desk { pass.old.desk ≡ self.now.id }
+        requires left { 0 < pass.old.left }
+        ensures made { Made O.after O.may (λ object. IsTrue (O.is_ready object (P.call op)))
+            pass.old (P.call op) (P.reply result) pass.new }
+        ensures own { IsOwn O.after O.may pass.new }
+    {
         let client = pass.client;
-        let (reply, place) = self.board.make_when(rt, &mut pass.seat, client, call);
+        let (answer, place) = self.board.make_when(rt, &mut pass.seat, client, op);
         pass.left -= 1;
         pass.place = place;
-        reply
+        answer
     }
 
     /// Tells `to` all that `from` has seen. It is no event, and waits for nobody.

@@ -12,3 +12,4 @@ pub mod Fitting
 pub mod Naming
 pub mod Inside
 pub mod Starting
+pub mod SmallCalls

@@ -15,9 +15,11 @@ mod parts;
 mod port;
 mod replies;
 mod screens;
+mod small_call;
 mod streams;
 mod table;
 
 pub use laws::{frames_are_left_alone, frames_take_each_image_once};
 pub use machine::Machine;
+pub use small_call::SmallCall;
 pub use wf_words::NoMemory;

@@ -1,6 +1,6 @@
 //! The machine.
 
-ghost use Rattle.std.specs.Prelude.{◌≡◌, ◌<◌, ◌≤◌, ◌&&◌, IfOk, IfSome, IsSome, IsTrue, None, length, not, true};
+ghost use Rattle.std.specs.Prelude.{◌≡◌, ◌<◌, ◌≤◌, ◌&&◌, IfOk, IfSome, IsSome, IsTrue, None, false, length, not, true};
 ghost use Rattle.std.specs.Option.{IfNone};
 ghost use Rattle.wf_stream.specs.Streams.{held};
 ghost use Rattle.wf_calls.specs.Creations.{is_creation};
@@ -130,14 +130,39 @@ impl Machine {
         Reply::with_job(answer, place.take())
     }
 
+    /// Takes the write buffer that a client's call asks for.
+    fn take(&mut self, client: u8, call: &Request) -> (Answer, Option<Canvas>)
+        requires carries { IsTrue (carries (part_of (call_of call.now))) }
+        requires small { is_begin (call_of call.now) ≡ false }
+        ensures step { IsStep self.old client (call_of call.now) self.new (with_canvas result) }
+    {
+        match call {
+            Request::Acquire { stream } => self.acquire(client, *stream),
+            // Nothing else takes something and begins no frame, as the proof shows.
+            _ => unreachable!(),
+        }
+    }
+
     /// Runs a client's call that brings nothing, and may take a write buffer or a Job.
     fn run_taking(&mut self, client: u8, call: &Request) -> Reply
         requires { IsTrue (carries (part_of (call_of call.now))) }
         ensures step { IsStep self.old client (call_of call.now) self.new result }
     {
-        match call {
-            Request::Acquire { stream } => with_canvas(self.acquire(client, *stream)),
-            _ => self.run_begin(client, call),
+        if call.is_begin() {
+            self.run_begin(client, call)
+        } else {
+            with_canvas(self.take(client, call))
+        }
+    }
+
+    /// Runs a client's call that brings nothing and begins no frame, as `run` does.
+    pub(crate) fn run_small(&mut self, client: u8, call: &Request) -> (Answer, Option<Canvas>)
+        requires { is_begin (call_of call.now) ≡ false }
+        ensures step { IsStep self.old client (call_of call.now) self.new (with_canvas result) }
+    {
+        match self.answer(client, call) {
+            Some(answer) => (answer, None),
+            None => self.take(client, call),
         }
     }
 

@@ -1,5 +1,5 @@
 -- A call that was made, with the end of the frame that it began, or without one.
-use Rattle.std.proofs.Common.{◌≡◌, ◌∙◌, ℕ, ◌≤◌, Bool, List, [], ◌∷◌, ◌++◌, length, Option, Some, None, Result, subst, sym, ap, refl}
+use Rattle.std.proofs.Common.{◌≡◌, ◌∙◌, ℕ, ◌≤◌, Bool, true, false, List, [], ◌∷◌, ◌++◌, length, Option, Some, None, Result, subst, sym, ap, refl}
 use Rattle.std.proofs.lemmas.List.{append-nil}
 use Rattle.std.specs.Prelude.{IsTrue, if◌then◌else◌}
 use Rattle.wf_image.specs.declared.canvas.Canvas.{Canvas}
@@ -18,11 +18,23 @@ use Rattle.wf_wire.specs.Answers.{AreEnds, answer_bytes, begun, job_in, reply_by
 use Rattle.wf_machine.specs.Histories.{Happening, PlainPass}
 use Rattle.wf_model.specs.Picture.{painted_job}
 use Rattle.wf_wire.specs.Asked.{is_show, moves_canvas}
-use Rattle.wf_calls.specs.Replies.{given_canvas}
+use Rattle.wf_calls.specs.Replies.{canvas_payload, given_canvas}
 use Rattle.wf_wire.specs.Grown.{Grew}
 use Rattle.wf_wire.specs.Heard.{Called}
 use Rattle.wf_wire.specs.Putting.{Writes}
 use Rattle.wf_wire.proofs.Growing.{grew_more, grew_once, paintable}
+
+-- an answer with which a canvas comes, or nothing, brings no frame
+pub no_job : (ok : Bool) (given : Option Canvas) → None ≡ job_in ok (canvas_payload given)
+no_job true None = refl
+no_job false None = refl
+no_job true (Some canvas) = refl
+no_job false (Some canvas) = refl
+
+-- and brings that canvas
+pub given_again : (given : Option Canvas) → given ≡ given_canvas (canvas_payload given)
+given_again None = refl
+given_again (Some canvas) = refl
 
 -- `reply` answers the call `c` of the message `m`, with the frame `job` or none
 module _ (old middle : PlainPass) (m : Message) (c : Call) (held now : Option Canvas) (reply : Reply)

@@ -9,6 +9,8 @@ use Rattle.wf_calls.specs.Replies.{given_canvas}
 use Rattle.wf_calls.specs.Requests.{call_of}
 use Rattle.wf_image.specs.declared.canvas.Canvas.{Canvas}
 use Rattle.wf_image.specs.Paints.{painted_canvas}
+use Rattle.wf_wire.specs.declared.asking.Wanted.{Wanted}
+use Rattle.wf_wire.specs.declared.asking.Wanted.TheVariants as wanted
 use Rattle.wf_wire.specs.declared.message.Message.{Message}
 use Rattle.wf_wire.specs.declared.message.Message.TheVariants as message
 
@@ -27,6 +29,11 @@ asked held (message.Ask r) = if is_some held && is_acquire r then None else Some
 asked held message.Post = option_map call.Post held
 asked held message.Discard = option_map call.Discard held
 asked held (message.Paint paint) = None
+
+-- the call that is wanted of a desk
+abbrev pub wanted_call : Wanted → Call
+wanted_call (wanted.Small small) = small
+wanted_call (wanted.Frame r) = call_of r
 
 -- the canvas that stays while the call is made
 abbrev pub lent : Message → Option Canvas → Option Canvas

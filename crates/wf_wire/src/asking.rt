@@ -1,16 +1,17 @@
 //! What a message asks a desk for.
 
-ghost use Rattle.std.specs.Prelude.{◌≡◌, ◌<◌, IsTrue, if◌then◌else◌};
+ghost use Rattle.std.specs.Prelude.{◌≡◌, ◌<◌, IsTrue, if◌then◌else◌, option_map};
+ghost use Rattle.wf_calls.specs.Requests.{call_of};
 ghost use Rattle.wf_desk.specs.Pass.{IsOwn, Made};
 ghost use Rattle.wf_machine.specs.Object.{MayAnswer, after, is_ready};
-ghost use Rattle.wf_wire.specs.Asked.{asked, is_acquire, is_show, lent, moves_canvas};
+ghost use Rattle.wf_wire.specs.Asked.{asked, is_acquire, is_show, lent, moves_canvas, wanted_call};
 
 use crate::message::Message;
 use std::sync::Wait;
 use wf_calls::{Call, Reply, Request};
 use wf_desk::{Desk, Pass};
 use wf_image::Canvas;
-use wf_machine::Machine;
+use wf_machine::{Machine, SmallCall};
 
 /// Tells whether a request is for a write buffer.
 fn is_acquire(request: &Request) -> bool
@@ -42,9 +43,25 @@ pub(crate) fn keep(held: &mut Option<Canvas>, message: &Message, given: Option<C
     }
 }
 
-/// Makes the call of `message`, which takes the canvas with it that it needs, or returns `None` where it makes none.
-pub(crate) fn asked(held: &mut Option<Canvas>, message: &Message) -> Option<Call>
-    ensures call { result ≡ asked held.old message.now }
+/// What a message asks a desk for: a call in which no frame begins, or one that may begin a frame.
+pub(crate) enum Wanted {
+    Small(SmallCall),
+    Frame(Request),
+}
+
+/// Tells what a request asks a desk for.
+fn wanted(request: Request) -> Wanted
+    ensures { wanted_call result ≡ call_of request }
+{
+    match SmallCall::of(request) {
+        Some(small) => Wanted::Small(small),
+        None => Wanted::Frame(request),
+    }
+}
+
+/// Tells what `message` asks a desk for, which takes the canvas with it that it needs, or returns `None` where it makes no call.
+pub(crate) fn asked(held: &mut Option<Canvas>, message: &Message) -> Option<Wanted>
+    ensures call { option_map wanted_call result ≡ asked held.old message.now }
     ensures held { held.new ≡ lent message.now held.old }
 {
     match message {
@@ -52,15 +69,15 @@ pub(crate) fn asked(held: &mut Option<Canvas>, message: &Message) -> Option<Call
             if held.is_some() && is_acquire(request) {
                 None
             } else {
-                Some(request.call())
+                Some(wanted(*request))
             }
         }
         Message::Post => match held.take() {
-            Some(canvas) => Some(Call::Post(canvas)),
+            Some(canvas) => Some(Wanted::Small(SmallCall::post(canvas))),
             None => None,
         },
         Message::Discard => match held.take() {
-            Some(canvas) => Some(Call::Discard(canvas)),
+            Some(canvas) => Some(Wanted::Small(SmallCall::discard(canvas))),
             None => None,
         },
         Message::Paint(_) => None,

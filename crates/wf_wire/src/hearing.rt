@@ -5,20 +5,20 @@ ghost use Rattle.wf_io.specs.Causes.{HasCause};
 ghost use Rattle.wf_desk.specs.Pass.{IsOwn};
 ghost use Rattle.wf_machine.specs.Object.{MayAnswer, after};
 ghost use Rattle.wf_wire.specs.Answers.{quiet_bytes};
-ghost use Rattle.wf_wire.specs.Asked.{quiet_canvas};
+ghost use Rattle.wf_wire.specs.Asked.{quiet_canvas, wanted_call};
 ghost use Rattle.wf_wire.specs.Heard.{Called, Heard};
 ghost use Rattle.wf_wire.specs.Messages.{may_paint};
 ghost use Rattle.wf_wire.specs.Putting.{Writes};
 
 use crate::answering::{ANSWER_BYTES, finish, parts_of, put_answer};
-use crate::asking::{asked, is_show, keep, make};
+use crate::asking::{Wanted, asked, is_show, keep, make};
 use crate::message::Message;
 use std::sync::Wait;
 use wf_calls::Call;
 use wf_desk::{Desk, Pass};
 use wf_image::Canvas;
 use wf_io::{Sink, WriteStop};
-use wf_machine::Machine;
+use wf_machine::{Machine, SmallCall};
 
 /// The code of the answer to a message that lacks a canvas, or has one already.
 const NO_EVENT: u8 = 255;
@@ -47,7 +47,27 @@ fn hear_quietly<K: Sink>(
     }
 }
 
-/// Makes the `call` of `message`, and answers it.
+/// Makes the `call` of `message`, in which no frame begins, and answers it.
+fn hear_small<R: Wait, K: Sink>(
+    rt: &R,
+    desk: &Desk<Machine>,
+    pass: &mut Pass<Machine>,
+    held: &mut Option<Canvas>,
+    message: &Message,
+    call: SmallCall,
+    out: &mut K,
+) -> Result<usize, WriteStop>
+    requires desk { pass.old.desk ≡ desk.now.id }
+    requires left { 0 < pass.old.left }
+    ensures called { Called K.took pass.old pass.new message.now call held.old held.new out.old out.new result }
+    ensures cause { HasCause (K.faults out.old) (K.faults out.new) result }
+{
+    let (answer, canvas) = desk.perform_when(rt, pass, call);
+    keep(held, message, canvas);
+    put_answer(out, answer.code.number(), answer.value)
+}
+
+/// Makes the `call` of `message`, which may begin a frame, and answers it.
 fn hear_call<R: Wait, K: Sink>(
     rt: &R,
     desk: &Desk<Machine>,
@@ -83,6 +103,28 @@ fn hear_call<R: Wait, K: Sink>(
     }
 }
 
+/// Makes the call that is `wanted` of `message`, and answers it.
+fn hear_wanted<R: Wait, K: Sink>(
+    rt: &R,
+    desk: &Desk<Machine>,
+    pass: &mut Pass<Machine>,
+    held: &mut Option<Canvas>,
+    message: &Message,
+    wanted: Wanted,
+    out: &mut K,
+) -> Result<usize, WriteStop>
+    requires desk { pass.old.desk ≡ desk.now.id }
+    requires left { 2 ≤ pass.old.left }
+    requires own { IsOwn after MayAnswer pass.old }
+    ensures called { Called K.took pass.old pass.new message.now (wanted_call wanted) held.old held.new out.old out.new result }
+    ensures cause { HasCause (K.faults out.old) (K.faults out.new) result }
+{
+    match wanted {
+        Wanted::Small(small) => hear_small(rt, desk, pass, held, message, small, out),
+        Wanted::Frame(request) => hear_call(rt, desk, pass, held, message, request.call(), out),
+    }
+}
+
 /// Answers `message` by its call, or by none.
 fn hear_either<R: Wait, K: Sink>(
     rt: &R,
@@ -100,7 +142,7 @@ fn hear_either<R: Wait, K: Sink>(
     ensures cause { HasCause (K.faults out.old) (K.faults out.new) result }
 {
     match asked(held, message) {
-        Some(call) => hear_call(rt, desk, pass, held, message, call, out),
+        Some(wanted) => hear_wanted(rt, desk, pass, held, message, wanted, out),
         None => hear_quietly(held, message, out),
     }
 }
