@@ -32,45 +32,35 @@ mode_word mode.Session = codes "session"
 abbrev pub mode_rule : Rule
 mode_rule = record (new_rule (codes "mode")) { required = true }
 
--- `--film N`, N from 1 to 2, by default 2
-abbrev pub film_rule : Rule
-film_rule = record (new_rule (codes "film")) {
-  long = Some (codes "film");
-  parser = Some (parser.Signed (pos 1) (pos 2));
-  defaults = codes "2" ∷ [];
+-- an option of this name with a number from 1 to a last one, and a default
+abbrev pub number_rule : Text → ℕ → Text → Rule
+number_rule name last default = record (new_rule name) {
+  long = Some name;
+  parser = Some (parser.Signed (pos 1) (pos last));
+  defaults = default ∷ [];
 }
 
--- the flag `--threads`
+-- a flag of this name
+abbrev pub flag_rule : Text → Rule
+flag_rule name = record (new_rule name) { long = Some name; action = Some SetTrue }
+
 abbrev pub threads_rule : Rule
-threads_rule = record (new_rule (codes "threads")) { long = Some (codes "threads"); action = Some SetTrue }
+threads_rule = flag_rule (codes "threads")
 
--- `--rows N`, N from 1 to 16, by default 1
 abbrev pub rows_rule : Rule
-rows_rule = record (new_rule (codes "rows")) {
-  long = Some (codes "rows");
-  parser = Some (parser.Signed (pos 1) (pos 16));
-  defaults = codes "1" ∷ [];
-}
+rows_rule = number_rule (codes "rows") 16 (codes "1")
 
--- `--size N`, N from 1 to 1000, by default 1
+abbrev pub film_rule : Rule
+film_rule = number_rule (codes "film") 2 (codes "2")
+
 abbrev pub size_rule : Rule
-size_rule = record (new_rule (codes "size")) {
-  long = Some (codes "size");
-  parser = Some (parser.Signed (pos 1) (pos 1000));
-  defaults = codes "1" ∷ [];
-}
+size_rule = number_rule (codes "size") 1000 (codes "1")
 
--- `--depth N`, N from 1 to 64, by default 64
 abbrev pub depth_rule : Rule
-depth_rule = record (new_rule (codes "depth")) {
-  long = Some (codes "depth");
-  parser = Some (parser.Signed (pos 1) (pos 64));
-  defaults = codes "64" ∷ [];
-}
+depth_rule = number_rule (codes "depth") 64 (codes "64")
 
--- the flag `--repaint`
 abbrev pub repaint_rule : Rule
-repaint_rule = record (new_rule (codes "repaint")) { long = Some (codes "repaint"); action = Some SetTrue }
+repaint_rule = flag_rule (codes "repaint")
 
 -- the words stand without the program's name, and none asks for help
 abbrev pub bare : App

@@ -1,11 +1,11 @@
 //! The words as a simple command of `clap`.
 
-ghost use Rattle.std.specs.Prelude.{◌≡◌, ◌≢◌, IfErr, IfOk, IfSome, codes, false};
+ghost use Rattle.std.specs.Prelude.{◌≡◌, ◌≢◌, ◌≤◌, IfErr, IfOk, IfSome, codes, false};
 ghost use Rattle.std.specs.Option.{IfNone};
 ghost use Rattle.clap.specs.Words.{app_of, first_value, found_of, kind_of, one_text, rule_of, with_rule};
 ghost use Rattle.wf_command.specs.Words.{bare};
-ghost use Rattle.wf_command.specs.Words.{AreAccepted, AskFor, IsCount, IsForm, IsMeant, IsSet, command, depth_rule, film_rule, mode_rule};
-ghost use Rattle.wf_command.specs.Words.{mode_word, repaint_rule, rows_rule, size_rule, texts_in, threads_rule};
+ghost use Rattle.wf_command.specs.Words.{AreAccepted, AskFor, IsCount, IsForm, IsMeant, IsSet, command, flag_rule, mode_rule, mode_word};
+ghost use Rattle.wf_command.specs.Words.{number_rule, rows_rule, texts_in, threads_rule};
 
 use crate::asked::{Asked, Mode, WordsStop};
 use clap::error::ErrorKind;
@@ -21,68 +21,23 @@ fn mode_arg<'a>(alloc: Global) -> Arg<'a>
     Arg::new(alloc, "mode").required(true)
 }
 
-/// Whether each client plays on a thread of its own.
-fn threads_arg<'a>(alloc: Global) -> Arg<'a>
-    ensures rule { rule_of result ≡ threads_rule }
+/// The flag `name`.
+fn flag_arg<'a>(alloc: Global, name: &'a str) -> Arg<'a>
+    ensures rule { rule_of result ≡ flag_rule name.now }
     ensures own { result.global ≡ false }
 {
-    Arg::new(alloc, "threads")
-        .long("threads")
-        .action(ArgAction::SetTrue)
+    Arg::new(alloc, name).long(name).action(ArgAction::SetTrue)
 }
 
-/// In how many bands of rows a frame is painted at most.
-fn rows_arg<'a>(alloc: Global) -> Arg<'a>
-    ensures rule { rule_of result ≡ rows_rule }
+/// The option `name`, a number from 1 to `last`, by default `default`.
+fn number_arg<'a>(alloc: Global, name: &'a str, last: u16, default: &'a str) -> Arg<'a>
+    ensures rule { rule_of result ≡ number_rule name.now last default.now }
     ensures own { result.global ≡ false }
 {
-    Arg::new(alloc, "rows")
-        .long("rows")
-        .value_parser(value_parser!(u8).range(1..=16))
-        .default_value("1")
-}
-
-/// The form of the film.
-fn film_arg<'a>(alloc: Global) -> Arg<'a>
-    ensures rule { rule_of result ≡ film_rule }
-    ensures own { result.global ≡ false }
-{
-    Arg::new(alloc, "film")
-        .long("film")
-        .value_parser(value_parser!(u8).range(1..=2))
-        .default_value("2")
-}
-
-/// How many rounds the script has that is made.
-fn size_arg<'a>(alloc: Global) -> Arg<'a>
-    ensures rule { rule_of result ≡ size_rule }
-    ensures own { result.global ≡ false }
-{
-    Arg::new(alloc, "size")
-        .long("size")
-        .value_parser(value_parser!(u16).range(1..=1000))
-        .default_value("1")
-}
-
-/// For how many happenings of a stretch the log has room.
-fn depth_arg<'a>(alloc: Global) -> Arg<'a>
-    ensures rule { rule_of result ≡ depth_rule }
-    ensures own { result.global ≡ false }
-{
-    Arg::new(alloc, "depth")
-        .long("depth")
-        .value_parser(value_parser!(u8).range(1..=64))
-        .default_value("64")
-}
-
-/// Whether a frame is painted over the last one.
-fn repaint_arg<'a>(alloc: Global) -> Arg<'a>
-    ensures rule { rule_of result ≡ repaint_rule }
-    ensures own { result.global ≡ false }
-{
-    Arg::new(alloc, "repaint")
-        .long("repaint")
-        .action(ArgAction::SetTrue)
+    Arg::new(alloc, name)
+        .long(name)
+        .value_parser(value_parser!(u16).range(1..=i64::from(last)))
+        .default_value(default)
 }
 
 /// The command so far: a mode, and how a script is played.
@@ -93,8 +48,8 @@ fn command_of_mode<'a>(alloc: Global) -> Result<Command<'a>, AllocError>
         .no_binary_name(true)
         .disable_help_flag(true)
         .arg(mode_arg(alloc))?
-        .arg(threads_arg(alloc))?
-        .arg(rows_arg(alloc))
+        .arg(flag_arg(alloc, "threads"))?
+        .arg(number_arg(alloc, "rows", 16, "1"))
 }
 
 /// The command: a mode, and its options.
@@ -102,10 +57,10 @@ fn command<'a>(alloc: Global) -> Result<Command<'a>, AllocError>
     ensures { IfOk result (λ c. app_of c ≡ command) }
 {
     command_of_mode(alloc)?
-        .arg(film_arg(alloc))?
-        .arg(size_arg(alloc))?
-        .arg(depth_arg(alloc))?
-        .arg(repaint_arg(alloc))
+        .arg(number_arg(alloc, "film", 2, "2"))?
+        .arg(number_arg(alloc, "size", 1000, "1"))?
+        .arg(number_arg(alloc, "depth", 64, "64"))?
+        .arg(flag_arg(alloc, "repaint"))
 }
 
 /// The mode that a word names.
@@ -128,7 +83,7 @@ fn mode_named(word: &str) -> Option<Mode>
 fn form_in(matches: &ArgMatches) -> FilmForm
     ensures { IsForm (one_text (found_of matches.now) (codes "film")) result }
 {
-    match matches.get_one::<u8>("film") {
+    match matches.get_one::<u16>("film") {
         Some(1) => FilmForm::One,
         _ => FilmForm::Two,
     }
@@ -144,33 +99,15 @@ fn flag_in(matches: &ArgMatches, name: &str) -> bool
     }
 }
 
-/// How many bands a frame is painted in at most, by `--rows`.
-fn rows_in(matches: &ArgMatches) -> u8
-    ensures { IsCount 16 1 (one_text (found_of matches.now) (codes "rows")) result }
+/// The number of the option `name`, from 1 to `last`, or `default`.
+fn count_in(matches: &ArgMatches, name: &str, last: u16, default: u16) -> u16
+    requires { default ≤ last }
+    ensures count { IsCount last default (one_text (found_of matches.now) name.now) result }
+    ensures most { result ≤ last }
 {
-    match matches.get_one::<u8>("rows") {
-        Some(rows) if 1 <= rows && rows <= 16 => rows,
-        _ => 1,
-    }
-}
-
-/// How many rounds a made script has, by `--size`.
-fn size_in(matches: &ArgMatches) -> u16
-    ensures { IsCount 1000 1 (one_text (found_of matches.now) (codes "size")) result }
-{
-    match matches.get_one::<u16>("size") {
-        Some(size) if 1 <= size && size <= 1000 => size,
-        _ => 1,
-    }
-}
-
-/// For how many happenings of a stretch the log has room, by `--depth`.
-fn depth_in(matches: &ArgMatches) -> u8
-    ensures { IsCount 64 64 (one_text (found_of matches.now) (codes "depth")) result }
-{
-    match matches.get_one::<u8>("depth") {
-        Some(depth) if 1 <= depth && depth <= 64 => depth,
-        _ => 64,
+    match matches.get_one::<u16>(name) {
+        Some(n) if 1 <= n && n <= last => n,
+        _ => default,
     }
 }
 
@@ -179,9 +116,12 @@ fn asked_in(matches: &ArgMatches) -> Option<Asked>
     ensures asked { IfSome result (IsMeant (texts_in (found_of matches.now))) }
     ensures none { IfNone result ((a : Asked) → ¬ (IsMeant (texts_in (found_of matches.now)) a)) }
 {
-    let (threads, rows) = (flag_in(matches, "threads"), rows_in(matches));
-    let (form, size) = (form_in(matches), size_in(matches));
-    let (depth, repaint) = (depth_in(matches), flag_in(matches, "repaint"));
+    let threads = flag_in(matches, "threads");
+    let rows = count_in(matches, "rows", 16, 1) as u8;
+    let form = form_in(matches);
+    let size = count_in(matches, "size", 1000, 1);
+    let depth = count_in(matches, "depth", 64, 64) as u8;
+    let repaint = flag_in(matches, "repaint");
     match matches.get_str("mode") {
         Some(word) => match mode_named(word) {
             Some(mode) => Some(Asked {
