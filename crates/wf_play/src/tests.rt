@@ -5,7 +5,10 @@ use crate::row::{
     COUNTED_OF_ONE, DONE, FILM, FILM_OF_TWO, HUNDRED, LOGGED, MADE, ONE_TICK, PRINTED, Row, SAME,
     SERVED, TOO_LONG, first_wrong, judged, of_one, read_fault, refused, usage, write_fault,
 };
+use std::process::Abort;
+use std::sync::Wait;
 use std::test::Fail;
+use std::thread::Threads;
 
 /// Films, line by line and with clients on threads.
 fn films() -> [Row; 18] {
@@ -346,58 +349,49 @@ fn made() -> [Row; 5] {
     ]
 }
 
-#[test]
-fn films_are_played(rt: HostRuntime) -> Result<(), Fail> {
-    let wrong = first_wrong(&rt, &films())?;
+/// Plays each of the rows, and stops at the first that ends otherwise.
+fn judge<R: Threads + Wait + Sync + AllocGlobal + Abort>(rt: &R, rows: &[Row]) -> Result<(), Fail> {
+    let wrong = first_wrong(rt, rows)?;
     assert!(rt; wrong.is_none(), "row {:?}", wrong);
     Ok(())
+}
+
+#[test]
+fn films_are_played(rt: HostRuntime) -> Result<(), Fail> {
+    judge(&rt, &films())
 }
 
 #[test]
 fn words_that_are_no_command_are_usage(rt: HostRuntime) -> Result<(), Fail> {
-    let wrong = first_wrong(&rt, &words_refused())?;
-    assert!(rt; wrong.is_none(), "row {:?}", wrong);
-    Ok(())
+    judge(&rt, &words_refused())
 }
 
 #[test]
 fn stops_are_told(rt: HostRuntime) -> Result<(), Fail> {
-    let wrong = first_wrong(&rt, &stops())?;
-    assert!(rt; wrong.is_none(), "row {:?}", wrong);
-    Ok(())
+    judge(&rt, &stops())
 }
 
 #[test]
 fn scripts_are_printed(rt: HostRuntime) -> Result<(), Fail> {
-    let wrong = first_wrong(&rt, &prints())?;
-    assert!(rt; wrong.is_none(), "row {:?}", wrong);
-    Ok(())
+    judge(&rt, &prints())
 }
 
 #[test]
 fn films_are_checked(rt: HostRuntime) -> Result<(), Fail> {
-    let wrong = first_wrong(&rt, &checks())?;
-    assert!(rt; wrong.is_none(), "row {:?}", wrong);
-    Ok(())
+    judge(&rt, &checks())
 }
 
 #[test]
 fn films_are_logged(rt: HostRuntime) -> Result<(), Fail> {
-    let wrong = first_wrong(&rt, &logs())?;
-    assert!(rt; wrong.is_none(), "row {:?}", wrong);
-    Ok(())
+    judge(&rt, &logs())
 }
 
 #[test]
 fn sessions_are_answered(rt: HostRuntime) -> Result<(), Fail> {
-    let wrong = first_wrong(&rt, &sessions())?;
-    assert!(rt; wrong.is_none(), "row {:?}", wrong);
-    Ok(())
+    judge(&rt, &sessions())
 }
 
 #[test]
 fn scripts_are_made(rt: HostRuntime) -> Result<(), Fail> {
-    let wrong = first_wrong(&rt, &made())?;
-    assert!(rt; wrong.is_none(), "row {:?}", wrong);
-    Ok(())
+    judge(&rt, &made())
 }
