@@ -7,11 +7,10 @@ ghost use Rattle.wf_events.specs.Queue.{AreTold, IsFlushed, Queues};
 ghost use Rattle.wf_events.specs.Text.{bit, line_of, text_of};
 
 use crate::happening::Happening;
-use arrayvec::ArrayVec;
-use itoa::Buffer;
 use std::alloc::Global;
 use std::marker::Model;
 use wf_io::{Sink, WriteStop, write_all};
+use wf_text::{MOST, Text, add, add_number};
 use wf_words::NoMemory;
 
 /// The text of a log: a line for each happening that found room in the queue, and one that counts those that did not, for each stretch
@@ -40,53 +39,31 @@ impl Log {
     }
 }
 
-/// A line while it is made, on the stack: at most three numbers of ten digits, a word of ten letters, three spaces and the end.
-type Line = ArrayVec<u8, 64>;
-
-/// Adds `text` to a line.
-fn add(line: &mut Line, text: &[u8])
-    requires { length line.old.items + length text.now ≤ 64 }
-    ensures { line.new.items ≡ line.old.items ++ text.now }
-{
-    for byte in text {
-        line.push(*byte);
-    }
-}
-
-/// Adds a number to a line.
-fn add_number(line: &mut Line, number: u32)
-    requires { length line.old.items + 10 ≤ 64 }
-    ensures number { line.new.items ≡ line.old.items ++ decimal number }
-    ensures most { length line.new.items ≤ length line.old.items + 10 }
-{
-    add(line, Buffer::new().format(number).as_bytes());
-}
-
 /// Adds a number after a word.
-fn add_counted(line: &mut Line, word: &[u8], number: u32)
-    requires { length line.old.items + length word.now + 10 ≤ 64 }
+fn add_counted(line: &mut Text, word: &[u8], number: u32)
+    requires { length line.old.items + length word.now + 20 ≤ MOST }
     ensures text { line.new.items ≡ line.old.items ++ word.now ++ decimal number }
-    ensures most { length line.new.items ≤ length line.old.items + length word.now + 10 }
+    ensures most { length line.new.items ≤ length line.old.items + length word.now + 20 }
 {
     add(line, word);
-    add_number(line, number);
+    add_number(line, u64::from(number));
 }
 
 /// Adds an attachment to a line.
-fn add_attachment(line: &mut Line, port: u32, on: bool)
-    requires { length line.old.items + 28 ≤ 64 }
+fn add_attachment(line: &mut Text, port: u32, on: bool)
+    requires { length line.old.items + 48 ≤ MOST }
     ensures text { line.new.items ≡ line.old.items ++ codes "attach " ++ decimal port ++ codes " " ++ decimal (bit on) }
-    ensures most { length line.new.items ≤ length line.old.items + 28 }
+    ensures most { length line.new.items ≤ length line.old.items + 48 }
 {
     add_counted(line, b"attach ", port);
     add_counted(line, b" ", u32::from(on));
 }
 
 /// Adds a happening to a line.
-fn add_happening(line: &mut Line, happening: Happening)
-    requires { length line.old.items + 28 ≤ 64 }
+fn add_happening(line: &mut Text, happening: Happening)
+    requires { length line.old.items + 48 ≤ MOST }
     ensures text { line.new.items ≡ line.old.items ++ text_of happening }
-    ensures most { length line.new.items ≤ length line.old.items + 28 }
+    ensures most { length line.new.items ≤ length line.old.items + 48 }
 {
     match happening {
         Happening::Bind { pipe } => add_counted(line, b"bind ", pipe),
@@ -96,11 +73,11 @@ fn add_happening(line: &mut Line, happening: Happening)
 }
 
 /// Makes the line of a happening in the turn of a place of the order.
-fn line_of(place: u32, happening: Happening) -> Line
+fn line_of(place: u32, happening: Happening) -> Text
     ensures { result.items ≡ line_of (place, happening) }
 {
-    let mut line = Line::new();
-    add_number(&mut line, place);
+    let mut line = Text::new();
+    add_number(&mut line, u64::from(place));
     add(&mut line, b" ");
     add_happening(&mut line, happening);
     add(&mut line, b"\n");
@@ -166,7 +143,7 @@ impl Queue {
         ensures none { OnOk result (self.new.lost ≡ 0) }
     {
         if self.lost > 0 {
-            let mut line = Line::new();
+            let mut line = Text::new();
             add_counted(&mut line, b"lost ", self.lost);
             add(&mut line, b"\n");
             self.text.extend_from_slice(line.as_slice())?;

@@ -8,12 +8,12 @@ ghost use Rattle.wf_script.specs.Generator.{made};
 ghost use Rattle.wf_turn.specs.Play.{film};
 
 use crate::report::{Report, Status, without_order};
-use crate::text::{Text, add, add_number};
 use std::alloc::Global;
 use wf_calls::Order;
 use wf_film::FilmForm;
 use wf_io::{Sink, Tally, write_all};
 use wf_script::make;
+use wf_text::{Text, add, add_number};
 use wf_turn::{PlayStop, serial};
 
 /// Returns the line that `wfplay big` prints: rounds, events, and the film's size and sum.

@@ -9,7 +9,6 @@ mod notes;
 mod parts;
 mod report;
 mod served;
-mod text;
 mod top;
 
 pub use laws::one_film;

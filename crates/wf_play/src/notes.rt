@@ -4,9 +4,9 @@ ghost use Rattle.std.specs.Prelude.{◌≡◌, ◌≤◌, ◌++◌, codes, decim
 ghost use Rattle.wf_play.specs.Notes.{PutsOrFront, note_in, note_of};
 
 use crate::report::Status;
-use crate::text::{MOST, Text, add, add_number};
 use wf_command::Mode;
 use wf_io::{Sink, write_all};
+use wf_text::{MOST, Text, add, add_number};
 
 /// The line of a script that was refused.
 fn refusal(line: u32, rule: u32) -> Text
