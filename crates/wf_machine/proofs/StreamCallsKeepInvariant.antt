@@ -19,12 +19,40 @@ use Rattle.wf_calls.specs.declared.code.Code.TheVariants as code
 use Rattle.wf_calls.specs.declared.call.JobKind.TheVariants as kind
 use Rattle.wf_model.specs.Streams.{is_buffer_count, is_wide_side, may_make, stream_made}
 use Rattle.wf_machine.proofs.ImageOfRunningFrame.{frame_unnamed}
-use Rattle.wf_machine.proofs.StreamsMapped.{bytes_mapped, changed_at, changed_keeps, numbered_mapped, seen_mapped, unnamed_keeps}
+use Rattle.wf_machine.specs.Fitting.{AllFit}
+use Rattle.wf_machine.proofs.StreamsMapped.{KeepsStream, bytes_mapped, changed_at, changed_keeps, numbered_mapped, seen_mapped, unnamed_keeps}
 use Rattle.wf_machine.proofs.StreamsStillFit.{KeepsRead, all_kept, all_push, all_unnamed, known_more, new_fits, numbered_push, shape_kept}
 use Rattle.wf_model.specs.Named.{SeenSame}
 use Rattle.wf_objects.specs.Named.{still_fits}
 use Rattle.wf_display.specs.Named.{still_shown, zero_unseen}
 use Rattle.wf_stream.specs.declared.TheConstants.{MOST_BYTES, MOST_STREAMS}
+
+-- the machine with a change of each of its streams, whatever its store counts then
+abbrev pub with_mapped : (KeptStream → KeptStream) → Counts → Inside → Inside
+with_mapped g counts m = record m { store = record m.store { streams = map g m.store.streams; counts = counts } }
+
+-- where each stream keeps its shape, only what the running frame has to do with them is left to be said
+holds_mapped : (g : KeptStream → KeptStream) (counts : Counts) (m : Inside) → KeepsStream g
+    → AllFit (contents_of (option_map running_of m.frame)) (map g m.store.streams)
+    → IfSome m.frame (FrameFits (map sizes_of m.ports.items) (map g m.store.streams)) → Holds m → Holds (with_mapped g counts m)
+holds_mapped g counts m keeps streams frame holds =
+    let seen : (n : ℕ) → SeenSame (buffers_at n m.store.streams) (buffers_at n (map g m.store.streams)) =
+    λ n. seen_mapped g keeps n m.store.streams in
+    let store : StoreView = (with_mapped g counts m).store in
+    record {
+      fits = still_fits m.core m.store store refl (omega arith) (λ n within. seen n) holds.fits;
+      shows = still_shown m.display m.store store refl (omega arith)
+          (zero_unseen 0 m.store.numbered m.store.streams (map g m.store.streams) holds.numbered) (λ n within. seen n) holds.shows;
+      numbered = numbered_mapped g keeps 0 m.store.numbered m.store.streams holds.numbered;
+      few = holds.few;
+      modes = holds.modes;
+      ports = holds.ports;
+      small = omega (arith, holds.small, bytes_mapped g keeps m.store.streams);
+      streams = streams;
+      frame = frame;
+      once = holds.once;
+      known = holds.known;
+    }
 
 -- the machine with other buffers of a stream
 abbrev pub with_buffers : Inside → ℕ → (Buffers → Buffers) → Inside
@@ -33,49 +61,19 @@ with_buffers m n f = record m { store = record m.store { streams = change_stream
 pub sound_kept : (m : Inside) (n : ℕ) (f : Buffers → Buffers) → KeepsRead f
     → IfSome m.frame (FrameFits (map sizes_of m.ports.items) (change_stream n f m.store.streams)) → Holds m
     → Holds (with_buffers m n f)
-sound_kept m n f keeps frame sound =
-    let shape = changed_keeps n f (shape_kept f keeps) in
-    record {
-      fits = still_fits m.core m.store (with_buffers m n f).store refl (omega arith)
-          (λ k within. seen_mapped (changed_at n f) shape k m.store.streams) sound.fits;
-      shows = still_shown m.display m.store (with_buffers m n f).store refl (omega arith)
-          (zero_unseen 0 m.store.numbered m.store.streams (change_stream n f m.store.streams) sound.numbered)
-          (λ k within. seen_mapped (changed_at n f) shape k m.store.streams) sound.shows;
-      numbered = numbered_mapped (changed_at n f) shape 0 m.store.numbered m.store.streams sound.numbered;
-      few = sound.few;
-      modes = sound.modes;
-      ports = sound.ports;
-      small = omega (arith, sound.small, bytes_mapped (changed_at n f) shape m.store.streams);
-      streams = all_kept f n (contents_of (option_map running_of m.frame)) m.store.streams keeps sound.streams;
-      frame = frame;
-      once = sound.once;
-      known = sound.known;
-    }
+sound_kept m n f keeps frame holds =
+    holds_mapped (changed_at n f) m.store.counts m (changed_keeps n f (shape_kept f keeps))
+    (all_kept f n (contents_of (option_map running_of m.frame)) m.store.streams keeps holds.streams) frame holds
 
 -- the machine without a stream's handle, whatever its store counts then
 abbrev pub without_handle : Inside → ℕ → Counts → Inside
-without_handle m handle counts =
-    record m { store = record m.store { streams = map (unnamed handle) m.store.streams; counts = counts } }
+without_handle m handle counts = with_mapped (unnamed handle) counts m
 
 pub sound_unnamed : (m : Inside) (handle : ℕ) (counts : Counts) → Holds m → Holds (without_handle m handle counts)
-sound_unnamed m handle counts sound =
-    let keeps = unnamed_keeps handle in
-    record {
-      fits = still_fits m.core m.store (without_handle m handle counts).store refl (omega arith)
-          (λ k within. seen_mapped (unnamed handle) keeps k m.store.streams) sound.fits;
-      shows = still_shown m.display m.store (without_handle m handle counts).store refl (omega arith)
-          (zero_unseen 0 m.store.numbered m.store.streams (map (unnamed handle) m.store.streams) sound.numbered)
-          (λ k within. seen_mapped (unnamed handle) keeps k m.store.streams) sound.shows;
-      numbered = numbered_mapped (unnamed handle) keeps 0 m.store.numbered m.store.streams sound.numbered;
-      few = sound.few;
-      modes = sound.modes;
-      ports = sound.ports;
-      small = omega (arith, sound.small, bytes_mapped (unnamed handle) keeps m.store.streams);
-      streams = all_unnamed handle (contents_of (option_map running_of m.frame)) m.store.streams sound.streams;
-      frame = frame_unnamed handle (map sizes_of m.ports.items) m.store.streams m.frame sound.frame;
-      once = sound.once;
-      known = sound.known;
-    }
+sound_unnamed m handle counts holds =
+    holds_mapped (unnamed handle) counts m (unnamed_keeps handle)
+    (all_unnamed handle (contents_of (option_map running_of m.frame)) m.store.streams holds.streams)
+    (frame_unnamed handle (map sizes_of m.ports.items) m.store.streams m.frame holds.frame) holds
 
 room : (new : Buffers) (streams : List KeptStream) → has_no_room new streams ≡ false → (held streams).bytes + buffer_bytes new ≤ MOST_BYTES
 room new streams free =
