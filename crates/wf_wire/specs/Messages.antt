@@ -1,5 +1,6 @@
 -- The messages of a session: each is its number and its arguments, eight bytes each.
-use Rattle.std.specs.Prelude.{ℕ, ◌+◌, Bool, true, nat_lt, List, [], ◌∷◌, Option, Some, None, option_map, Ok, Err, if◌then◌else◌}
+use Rattle.std.specs.List.{list_all, zip}
+use Rattle.std.specs.Prelude.{ℕ, ◌+◌, ◌==◌, ◌&&◌, length, Bool, true, nat_lt, List, [], ◌∷◌, Option, Some, None, option_map, Ok, Err, if◌then◌else◌}
 use Rattle.wf_pixel.specs.Choice.{is_between}
 use Rattle.wf_words.specs.Keyed.{nth}
 use Rattle.std.specs.Int.{cast_signed, w64}
@@ -59,6 +60,18 @@ spelled c = (do
 -- what it asks for
 abbrev pub meaning : Spelled → Message
 meaning heard = message_of heard.form heard.bits
+
+-- these bits are those of arguments of these kinds, each in its range
+abbrev pub are_of_kinds : List Kind → List ℕ → Bool
+are_of_kinds kinds bits = length kinds == length bits && list_all (λ x. is_of_kind x.0 x.1) (zip kinds bits)
+
+-- what the message of a number with arguments of these bits asks for, if there is such a message
+abbrev pub told_by : ℕ → List ℕ → Option Message
+told_by number bits = of_form (nth number forms)
+  where
+    of_form : Option Form → Option Message
+    of_form None = None
+    of_form (Some form) = if are_of_kinds (kinds_of form) bits then Some (message_of form bits) else None
 
 -- a paint has its numbers in their ranges
 abbrev pub may_paint : Message → Bool

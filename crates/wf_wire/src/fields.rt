@@ -112,7 +112,7 @@ pub(crate) fn number_within<I: Source>(
 }
 
 /// Tells whether an argument of these bits is in the range of `kind`.
-fn is_of_kind(kind: Kind, bits: u64) -> bool
+pub(crate) fn is_of_kind(kind: Kind, bits: u64) -> bool
     ensures { result ≡ is_of_kind kind bits }
 {
     let value = bits.cast_signed();

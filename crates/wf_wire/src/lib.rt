@@ -17,6 +17,7 @@ mod paints;
 mod serving;
 mod session;
 mod stop;
+mod telling;
 mod words;
 
 pub use laws::{all_messages_are_told, answered_messages_are_told, faults_lie_in_the_input};

@@ -30,7 +30,7 @@ fn form_at(forms: &[Form], place: usize) -> Option<Form>
 }
 
 /// Returns which message has a number, or `None` where none has it.
-fn form_of(number: u8) -> Option<Form>
+pub(crate) fn form_of(number: u8) -> Option<Form>
     ensures { result ≡ nth number forms }
 {
     if number == 0 {
