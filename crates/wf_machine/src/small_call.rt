@@ -1,15 +1,14 @@
 //! Calls in which no frame begins or ends, as operations at a desk.
 
-ghost use Rattle.std.specs.Prelude.{◌≡◌, IsTrue, MatchOption};
-ghost use Rattle.wf_calls.specs.Codes.{entry};
+ghost use Rattle.std.specs.Prelude.{◌≡◌, IsTrue, MatchOption, false};
 ghost use Rattle.wf_calls.specs.Parts.{is_begin};
 ghost use Rattle.wf_calls.specs.Replies.{with_canvas};
 ghost use Rattle.wf_calls.specs.Requests.{call_of};
-ghost use Rattle.wf_machine.specs.Object.{MayAnswer, after, is_ready};
+ghost use Rattle.wf_machine.specs.SmallCalls.{call_asked};
 
 use crate::machine::Machine;
 use std::marker::Model;
-use wf_calls::{Answer, Request, Turn};
+use wf_calls::{Answer, Call, Request, Turn};
 use wf_desk::Operation;
 use wf_image::Canvas;
 
@@ -72,6 +71,13 @@ impl SmallCall {
         }
     }
 
+    /// Shows the prover that no frame begins in this call. Does nothing at run time.
+    fn prove_small(&self)
+        ensures { is_begin self.now ≡ false }
+    {
+        let _asked = &self.asked;
+    }
+
     fn into_asked(self) -> Asked
         ensures asked { call_asked result ≡ self }
         ensures small { is_begin (call_asked result) ≡ false }
@@ -89,6 +95,7 @@ impl Operation<Machine> for SmallCall {
     ghost reply = { with_canvas };
 
     fn ready(&self, _machine: &Machine) -> bool {
+        self.prove_small();
         true
     }
 

@@ -66,8 +66,10 @@ pub use Rattle.wf_turn.specs.Played.{Plays, PlaysTurn, Shows, StopsTurns, Turned
 pub use Rattle.wf_turn.specs.Playing.{Answers, Ends, EndsNext, HasNoTurn, IsCast, StandsOwn, Takes, TakesNext, Turned, frames_if}
 pub use Rattle.wf_turn.specs.Playing.{may_turn, show_of, shown_by, wanted_now, with_frames}
 pub use Rattle.wf_turn.specs.Program.{Program, asked_for, asked_next, at_port, before, bound, first_call, first_line, first_of}
-pub use Rattle.wf_turn.specs.Program.{given_canvas, go_on, issued, handle, in_setup, is_event, is_work, kept_first, line_done, lines_from}
-pub use Rattle.wf_turn.specs.Program.{next, painted_job, place_of, plain, port_count, program, setup_lines, silent, skipped, taught}
+pub use Rattle.wf_turn.specs.Program.{go_on, issued, handle, in_setup, is_event, is_work, kept_first, line_done, lines_from}
+pub use Rattle.wf_calls.specs.Replies.{given_canvas}
+pub use Rattle.wf_turn.specs.Program.{next, place_of, plain, port_count, program, setup_lines, silent, skipped, taught}
+pub use Rattle.wf_model.specs.Picture.{painted_job}
 pub use Rattle.wf_turn.specs.Program.{ticking, took, took_at, took_canvas, took_first, took_frame, took_job, took_phase, waiting, wanted_at}
 pub use Rattle.wf_turn.specs.Program.{unheld, worked}
 pub use Rattle.wf_calls.specs.Replies.{replied, with_canvas, with_job}

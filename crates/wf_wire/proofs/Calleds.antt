@@ -14,7 +14,7 @@ use Rattle.wf_desk.specs.Pass.{IsOwn, Made}
 use Rattle.wf_machine.specs.Object.{IsPaintable, MayAnswer, after, is_ready}
 use Rattle.wf_wire.specs.declared.answering.TheConstants.{ANSWER_BYTES}
 use Rattle.wf_wire.specs.declared.message.Message.{Message}
-use Rattle.wf_wire.specs.Answers.{AreEnds, answer_bytes, begun, job_in, reply_bytes, shown_bytes}
+use Rattle.wf_wire.specs.Answers.{AreEnds, answer_bytes, begun, job_in, paintable, reply_bytes, shown_bytes}
 use Rattle.wf_machine.specs.Histories.{Happening, PlainPass}
 use Rattle.wf_model.specs.Picture.{painted_job}
 use Rattle.wf_wire.specs.Asked.{is_show, moves_canvas}
@@ -22,7 +22,7 @@ use Rattle.wf_calls.specs.Replies.{canvas_payload, given_canvas}
 use Rattle.wf_wire.specs.Grown.{Grew}
 use Rattle.wf_wire.specs.Heard.{Called}
 use Rattle.wf_wire.specs.Putting.{Writes}
-use Rattle.wf_wire.proofs.Growing.{grew_more, grew_once, paintable}
+use Rattle.wf_wire.proofs.Growing.{grew_more, grew_once}
 
 -- an answer with which a canvas comes, or nothing, brings no frame
 pub no_job : (ok : Bool) (given : Option Canvas) → None ≡ job_in ok (canvas_payload given)

@@ -1,18 +1,14 @@
 -- What one call, and then another, makes of a pass.
-use Rattle.std.proofs.Common.{◌≡◌, ◌∙◌, ◌+◌, Bool, true, false, List, [], ◌∷◌, ◌++◌, length, Some, sym, ap, refl, subst, arith}
+use Rattle.std.proofs.Common.{◌≡◌, ◌∙◌, ◌+◌, List, [], ◌∷◌, ◌++◌, length, sym, ap, refl, subst, arith}
 use Rattle.std.proofs.Common.{append_assoc, length-append}
 use Rattle.std.proofs.lemmas.List.{append-nil}
 use Rattle.std.specs.Prelude.{IsTrue}
 use Rattle.wf_calls.specs.declared.call.Call.{Call}
-use Rattle.wf_calls.specs.declared.call.Job.{Job}
-use Rattle.wf_calls.specs.declared.reply.Payload.{Payload}
-use Rattle.wf_calls.specs.declared.reply.Payload.TheVariants as payload
 use Rattle.wf_calls.specs.declared.reply.Reply.{Reply}
 use Rattle.wf_desk.specs.History.{IsPrefix, event}
 use Rattle.wf_desk.specs.Pass.{IsOwn, Made}
-use Rattle.wf_machine.specs.Object.{CarriesPaintable, IsPaintable, MayAnswer, after, is_ready}
+use Rattle.wf_machine.specs.Object.{MayAnswer, after, is_ready}
 use Rattle.wf_model.specs.State.{State}
-use Rattle.wf_wire.specs.Answers.{job_in}
 use Rattle.wf_machine.specs.Histories.{Happening, PlainPass}
 use Rattle.wf_wire.specs.Grown.{AreReady, Grew}
 
@@ -81,10 +77,3 @@ same_pass p own = record {
   ready = λ h is. same_history p.seen;
   own = own;
 }
-
--- a frame that began can be painted
-pub paintable : (job : Job) (ok : Bool) (p : Payload) → CarriesPaintable ok p → job_in ok p ≡ Some job → IsPaintable job
-paintable job true (payload.Job j) carries is = let same : j ≡ job = cc in subst IsPaintable same carries
-paintable job true (payload.Canvas canvas) carries is = absurd cc
-paintable job true payload.Nothing carries is = absurd cc
-paintable job false p carries is = absurd cc

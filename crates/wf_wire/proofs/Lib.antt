@@ -17,3 +17,4 @@ pub mod ReadInARow
 pub mod HeardInARow
 pub mod ToldInARow
 mod Rows
+mod ArgumentsOfKinds

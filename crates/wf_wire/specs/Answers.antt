@@ -1,4 +1,5 @@
 -- What messages are answered, and the events that they make.
+use Rattle.std.proofs.Common.{subst}
 use Rattle.std.specs.Prelude.{◌≡◌, ℕ, ◌-◌, ◌≤◌, Bool, true, false, List, [], ◌∷◌, ◌++◌, length, Option, Some, None}
 use Rattle.byteorder.specs.Endian.{big_bytes}
 use Rattle.wf_image.specs.Bitmap.{Bitmap}
@@ -12,6 +13,7 @@ use Rattle.wf_calls.specs.declared.reply.Reply.{Reply}
 use Rattle.wf_calls.specs.Codes.{code_number, is_ok_code}
 use Rattle.wf_desk.specs.History.{event}
 use Rattle.wf_machine.specs.Histories.{Happening}
+use Rattle.wf_machine.specs.Object.{CarriesPaintable, IsPaintable}
 use Rattle.wf_model.specs.Picture.{painted_job}
 use Rattle.wf_wire.specs.declared.message.Message.{Message}
 use Rattle.wf_wire.specs.declared.message.Message.TheVariants as message
@@ -44,6 +46,13 @@ job_in _ _ = None
 
 abbrev pub begun : Reply → Option Job
 begun reply = job_in (is_ok_code reply.code) reply.payload
+
+-- a frame that began can be painted
+pub paintable : (job : Job) (ok : Bool) (p : Payload) → CarriesPaintable ok p → job_in ok p ≡ Some job → IsPaintable job
+paintable job true (payload.Job j) carries is = let same : j ≡ job = cc in subst IsPaintable same carries
+paintable job true (payload.Canvas canvas) carries is = absurd cc
+paintable job true payload.Nothing carries is = absurd cc
+paintable job false p carries is = absurd cc
 
 -- the answer to a message that made a call
 abbrev pub reply_bytes : Message → Reply → List ℕ

@@ -50,7 +50,7 @@ pub(crate) enum Wanted {
 }
 
 /// Tells what a request asks a desk for.
-fn wanted(request: Request) -> Wanted
+fn want(request: Request) -> Wanted
     ensures { wanted_call result ≡ call_of request }
 {
     match SmallCall::of(request) {
@@ -69,7 +69,7 @@ pub(crate) fn asked(held: &mut Option<Canvas>, message: &Message) -> Option<Want
             if held.is_some() && is_acquire(request) {
                 None
             } else {
-                Some(wanted(*request))
+                Some(want(*request))
             }
         }
         Message::Post => match held.take() {

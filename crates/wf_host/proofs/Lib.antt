@@ -1,0 +1,4 @@
+mod Taken
+mod Ended
+mod RowsCopied
+mod NextPort

@@ -1,0 +1,23 @@
+-- The canvas that is taken out.
+use Rattle.std.proofs.Common.{◌≡◌, ◌∙◌, ℕ, ◌<◌, ◌==◌, List, length, Option, Some, None, find, option_map, option_and_then, refl, sym, ap, subst}
+use Rattle.std.proofs.Common.{slice_get, slice_index_or}
+use Rattle.std.proofs.lemmas.Option.{slice_get_read}
+use Rattle.std.specs.List.{position}
+use Rattle.wf_words.specs.Found.{get_position}
+use Rattle.wf_host.specs.declared.canvases.Held.{Held}
+use Rattle.wf_host.specs.Held.{canvas_of}
+
+module _ (stream : ℕ) (held : List Held) where
+  found_at : (o : Option ℕ) → o ≡ position (λ h. h.stream == stream) held
+      → option_and_then (slice_get held) o ≡ find (λ h. h.stream == stream) held
+  found_at o is =
+      subst (λ (x : Option ℕ). option_and_then (slice_get held) x ≡ find (λ h. h.stream == stream) held) (sym is)
+      (get_position (λ h. h.stream == stream) held)
+
+  pub taken : (at : ℕ) (h : Held) → Some at ≡ position (λ x. x.stream == stream) held → at < length held
+      → h ≡ slice_index_or held at h → Some h.canvas ≡ canvas_of stream held
+  taken at h is within here =
+      ap (option_map (λ x. x.canvas)) (sym (slice_get_read held (length held) at h refl within here) ∙ found_at (Some at) is)
+
+  pub none_taken : None ≡ position (λ x. x.stream == stream) held → None ≡ canvas_of stream held
+  none_taken is = ap (option_map (λ (x : Held). x.canvas)) (found_at None is)

@@ -1,0 +1,144 @@
+//! A frame in a place of its own.
+
+ghost use Rattle.std.specs.Prelude.{◌≡◌, IfOk, IfSome, IsSome, IsTrue, None, false, is_some, option_map};
+ghost use Rattle.wf_calls.specs.Parts.{is_begin};
+ghost use Rattle.wf_calls.specs.Requests.{call_of};
+ghost use Rattle.wf_machine.specs.Object.{IsPaintable};
+ghost use Rattle.wf_model.specs.Picture.{painted_job};
+ghost use Rattle.wf_pixel.specs.Choice.{is_a8};
+ghost use Rattle.wf_host.specs.Painted.{IsBegun, IsEnded};
+ghost use Rattle.wf_host.specs.Reading.{CopiesRows, Reads};
+
+use crate::rows::{copy_rows, stands};
+use std::alloc::Global;
+use std::marker::Model;
+use wf_calls::{Answer, Job, JobPlace, Request};
+use wf_image::Image;
+use wf_kernel::picture;
+use wf_machine::Machine;
+use wf_pixel::Size;
+use wf_words::NoMemory;
+
+/// A place for one frame after another. Clauses see the Job that stands here with its picture: it is painted where that is asked for
+/// first, on whichever thread, and no machine is needed for it.
+#[derive(Drop)]
+pub struct Frame {
+    place: JobPlace,
+    painted: bool,
+}
+
+impl Model for Frame {
+    ghost use Rattle.std.specs.Prelude.{Option, option_map};
+    ghost use Rattle.wf_calls.specs.declared.call.Job.{Job};
+    ghost use Rattle.wf_calls.specs.Places.{job_in};
+    ghost use Rattle.wf_model.specs.Picture.{painted_job};
+    ghost use Rattle.wf_host.specs.Painted.{IsKept};
+
+    ghost Value = { Option Job };
+
+    ghost view = { λ f. option_map painted_job (job_in f.place) };
+
+    ghost invariant = { λ f. IsKept f.painted (job_in f.place) };
+}
+
+impl Frame {
+    /// Makes a place without a frame.
+    pub fn new(alloc: Global) -> Result<Frame, NoMemory>
+        ensures { IfOk result (λ frame. frame ≡ None) }
+    {
+        Ok(Frame {
+            place: JobPlace::new(alloc)?,
+            painted: true,
+        })
+    }
+
+    /// Tells whether a frame stands here.
+    pub fn is_held(&self) -> bool
+        ensures { result ≡ is_some self.now }
+    {
+        self.place.is_held()
+    }
+
+    /// Returns the size of the picture, or `None` where no frame stands here.
+    pub fn size(&self) -> Option<Size>
+        ensures { result ≡ option_map (λ job. job.image.size) self.now }
+    {
+        match self.place.job() {
+            Some(job) => Some(job.scene.size),
+            None => None,
+        }
+    }
+
+    /// Paints the picture of the frame that stands here, where that was not done yet.
+    pub fn paint(&mut self)
+        ensures { self.new ≡ self.old }
+    {
+        if !self.painted {
+            if self.place.is_held() {
+                paint(self.place.job_mut());
+            }
+            self.painted = true;
+        }
+    }
+
+    /// Copies the rows of the picture into `out`, each `stride` bytes behind the one before, and tells whether it did: not where no frame
+    /// stands here, nor where `out` has no room for them or a row reaches into the next. Bytes between rows stay.
+    pub fn read(&mut self, out: &mut [u8], stride: usize) -> bool
+        ensures frame { self.new ≡ self.old }
+        ensures copies { Reads self.old stride out.old out.new result }
+    {
+        self.paint();
+        match self.place.job() {
+            Some(job) => read_image(&job.image, out, stride),
+            None => false,
+        }
+    }
+
+    /// Begins a frame of `machine` here, by the call of `request` for `client`.
+    pub(crate) fn begin(&mut self, machine: &mut Machine, client: u8, request: &Request) -> Answer
+        requires begins { IsTrue (is_begin (call_of request.now)) }
+        requires none { self.old ≡ None }
+        ensures { IsBegun client (call_of request.now) machine.old machine.new self.new result }
+    {
+        let answer = machine.begin(client, request, &mut self.place);
+        if answer.code.is_ok() {
+            self.painted = false;
+        } else {
+            self.place.clear();
+            self.painted = true;
+        }
+        answer
+    }
+
+    /// Ends the frame that stands here, of `machine`, for `client`. One that is refused stays.
+    pub(crate) fn end(&mut self, machine: &mut Machine, client: u8) -> Answer
+        requires { IsSome self.old }
+        ensures { IfSome self.old (λ job. IsEnded client job machine.old machine.new self.new result) }
+    {
+        self.paint();
+        machine.end(client, &mut self.place)
+    }
+}
+
+/// Paints the picture of a frame that began.
+fn paint(job: &mut Job)
+    requires { IsPaintable job.old }
+    ensures { job.new ≡ painted_job job.old }
+{
+    picture(&job.scene, &job.contents, &mut job.image);
+}
+
+/// Copies the rows of an `image` of four bytes a pixel into `out`, where they have room, and tells whether they have.
+fn read_image(image: &Image, out: &mut [u8], stride: usize) -> bool
+    requires { is_a8 image.now.format ≡ false }
+    ensures { CopiesRows image.now stride out.old out.new result }
+{
+    let size = image.size();
+    let row = 4 * size.w as usize;
+    let count = size.h as usize;
+    if !stands(out.len(), stride, row, count) {
+        return false;
+    }
+    copy_rows(out, stride, image.bytes(), row, row, count);
+    true
+}
