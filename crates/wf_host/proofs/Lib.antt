@@ -1,4 +1,7 @@
 mod Taken
+mod Asked
 mod Ended
+mod Frames
 mod RowsCopied
+mod Packed
 mod NextPort

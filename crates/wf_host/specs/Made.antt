@@ -1,5 +1,5 @@
 -- What a call makes of a machine and of what its embedder holds.
-use Rattle.std.specs.Prelude.{◌≡◌, ℕ, Bool, false, ◌&&◌, ◌||◌, nat_le, List, length, Option, Some, None, option_map, if◌then◌else◌}
+use Rattle.std.specs.Prelude.{◌≡◌, ℕ, Bool, false, ◌&&◌, ◌||◌, true, nat_le, List, length, Option, Some, None, option_map}
 use Rattle.wf_calls.specs.Codes.{code_number}
 use Rattle.wf_calls.specs.declared.call.Call.{Call}
 use Rattle.wf_calls.specs.declared.call.Call.TheVariants as call
@@ -60,16 +60,20 @@ acquired _ = 0
 abbrev pub lacks_place : Request → List Held → Bool
 lacks_place r held = is_begin (call_of r) || (is_acquire r && nat_le MOST_STREAMS (length held))
 
+-- a call is made, or lacks a place
+abbrev pub UnlessLacking : Bool → Hosted → Hosted → Told → Type 0 → Type 0
+UnlessLacking true old new t Makes = IsNotMade old new t
+UnlessLacking false old new t Makes = Makes
+
 -- a write buffer of a stream is asked for
 abbrev pub AsksCanvas : ℕ → ℕ → Hosted → Hosted → Told → Type 0
 AsksCanvas client stream old new t =
-    if nat_le MOST_STREAMS (length old.canvases) then IsNotMade old new t
-    else IsMade client (call.Acquire stream) stream old.canvases old new t
+    UnlessLacking (nat_le MOST_STREAMS (length old.canvases)) old new t (IsMade client (call.Acquire stream) stream old.canvases old new t)
 
 -- a request of a client
 abbrev pub Asks : ℕ → Request → Hosted → Hosted → Told → Type 0
 Asks client r old new t =
-    if lacks_place r old.canvases then IsNotMade old new t else IsMade client (call_of r) (acquired r) old.canvases old new t
+    UnlessLacking (lacks_place r old.canvases) old new t (IsMade client (call_of r) (acquired r) old.canvases old new t)
 
 -- a message by its number, if there is one: what it asks for of a canvas is a call of its own here
 abbrev pub Calls : ℕ → Option Message → Hosted → Hosted → Told → Type 0
@@ -77,12 +81,12 @@ Calls client (Some (message.Ask r)) old new t = Asks client r old new t
 Calls client _ old new t = IsNotMade old new t
 
 -- the canvas of a stream goes with a call, if it is held
+abbrev pub GivesOne : Option Canvas → ℕ → (Canvas → Call) → ℕ → Hosted → Hosted → Told → Type 0
+GivesOne None client call stream old new t = IsNotMade old new t
+GivesOne (Some canvas) client call stream old new t = IsMade client (call canvas) stream (without stream old.canvases) old new t
+
 abbrev pub Gives : ℕ → (Canvas → Call) → ℕ → Hosted → Hosted → Told → Type 0
-Gives client call stream old new t = of_canvas (canvas_of stream old.canvases)
-  where
-    of_canvas : Option Canvas → Type 0
-    of_canvas None = IsNotMade old new t
-    of_canvas (Some canvas) = IsMade client (call canvas) stream (without stream old.canvases) old new t
+Gives client call stream old new t = GivesOne (canvas_of stream old.canvases) client call stream old new t
 
 -- frames: what an embedder holds of one is its Job with its picture
 

@@ -16,9 +16,10 @@ row_bytes image = image.size.w * pixel_bytes image.format
 -- the rows of an image are copied where they have room
 abbrev pub CopiesRows : Bitmap → ℕ → List ℕ → List ℕ → Bool → Type 0
 CopiesRows image stride old new done =
-    if stands (length old) stride (row_bytes image) image.size.h
-    then (done ≡ true) × (new ≡ copied stride (row_bytes image) (row_bytes image) image.size.h image.bytes old)
-    else (done ≡ false) × (new ≡ old)
+    (done ≡ stands (length old) stride (row_bytes image) image.size.h)
+    × (new ≡ (if stands (length old) stride (row_bytes image) image.size.h
+    then copied stride (row_bytes image) (row_bytes image) image.size.h image.bytes old
+    else old))
 
 -- those of the picture of a frame that is held
 abbrev pub Reads : Option Job → ℕ → List ℕ → List ℕ → Bool → Type 0
@@ -37,27 +38,36 @@ written stride pixels image =
     else image
 
 -- pixels are written into the canvas of a stream, where it is held, and nothing else changes
+abbrev pub WritesOne : Option Canvas → ℕ → List ℕ → ℕ → Hosted → Hosted → Bool → Type 0
+WritesOne None stream pixels stride old new done = (done ≡ false) × (new ≡ old)
+WritesOne (Some canvas) stream pixels stride old new done =
+    let now : Canvas = record canvas { image = written stride pixels canvas.image } in
+    (done ≡ are_rows stride pixels canvas.image)
+    × (new ≡ record old { canvases = adding stream (Some now) (without stream old.canvases) })
+
 abbrev pub Writes : ℕ → List ℕ → ℕ → Hosted → Hosted → Bool → Type 0
-Writes stream pixels stride old new done = of_canvas (canvas_of stream old.canvases)
-  where
-    of_canvas : Option Canvas → Type 0
-    of_canvas None = (done ≡ false) × (new ≡ old)
-    of_canvas (Some canvas) =
-        let now : Canvas = record canvas { image = written stride pixels canvas.image } in
-        (done ≡ are_rows stride pixels canvas.image)
-        × (new ≡ record old { canvases = adding stream (Some now) (without stream old.canvases) })
+Writes stream pixels stride old new done = WritesOne (canvas_of stream old.canvases) stream pixels stride old new done
+
+-- a canvas that was written is posted, and one that was not is discarded
+abbrev pub GivesFilled : Bool → ℕ → ℕ → Hosted → Hosted → Told → Type 0
+GivesFilled true client stream old new t = Gives client call.Post stream old new t
+GivesFilled false client stream old new t = (u : Told) × Gives client call.Discard stream old new u × (t ≡ not_made)
 
 -- pixels are written into a canvas that is held, and it is posted; or it is discarded, where they are not its rows
 pub record Fills (client stream : ℕ) (pixels : List ℕ) (stride : ℕ) (old new : Hosted) (t : Told) : Type 0 where
   pub filled : Hosted
   pub done : Bool
   pub writes : Writes stream pixels stride old filled done
-  pub gives : if done then Gives client call.Post stream filled new t
-      else ((u : Told) × Gives client call.Discard stream filled new u × (t ≡ not_made))
+  pub gives : GivesFilled done client stream filled new t
+
+-- a write buffer that was given is filled
+abbrev pub GoesOn : Bool → ℕ → ℕ → List ℕ → ℕ → Hosted → Hosted → Told → Told → Type 0
+GoesOn true client stream pixels stride old new first t = Fills client stream pixels stride old new t
+GoesOn false client stream pixels stride old new first t = (new ≡ old) × (t ≡ first)
 
 -- a write buffer is taken, filled and posted; or it is not given
 pub record Submits (client stream : ℕ) (pixels : List ℕ) (stride : ℕ) (old new : Hosted) (t : Told) : Type 0 where
   pub taken : Hosted
   pub first : Told
   pub acquired : AsksCanvas client stream old taken first
-  pub rest : if first.code == 0 then Fills client stream pixels stride taken new t else ((new ≡ taken) × (t ≡ first))
+  pub rest : GoesOn (first.code == 0) client stream pixels stride taken new first t

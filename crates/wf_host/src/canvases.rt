@@ -1,6 +1,7 @@
 //! The write buffers that an embedder holds.
 
 ghost use Rattle.std.specs.List.{position};
+ghost use Rattle.std.specs.Option.{IfNone};
 ghost use Rattle.std.specs.Prelude.{◌≡◌, ◌==◌, [], ◌<◌, IfOk, IfSome, length, nat_le};
 ghost use Rattle.wf_host.specs.Held.{adding, canvas_of, without};
 
@@ -65,6 +66,7 @@ impl Canvases {
         ensures canvas { result ≡ canvas_of stream self.old }
         ensures rest { self.new ≡ without stream self.old }
         ensures room { IfSome result (λ _. length self.new < MOST_STREAMS) }
+        ensures none { IfNone result (self.new ≡ self.old) }
     {
         match place_of(&self.held, stream) {
             Some(at) => Some(self.held.remove(at).canvas),

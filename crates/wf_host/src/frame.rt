@@ -2,18 +2,18 @@
 
 ghost use Rattle.std.specs.Prelude.{◌≡◌, IfOk, IfSome, IsSome, IsTrue, None, false, is_some, option_map};
 ghost use Rattle.wf_calls.specs.Parts.{is_begin};
+ghost use Rattle.wf_calls.specs.Places.{job_in};
 ghost use Rattle.wf_calls.specs.Requests.{call_of};
 ghost use Rattle.wf_machine.specs.Object.{IsPaintable};
 ghost use Rattle.wf_model.specs.Picture.{painted_job};
-ghost use Rattle.wf_pixel.specs.Choice.{is_a8};
-ghost use Rattle.wf_host.specs.Painted.{IsBegun, IsEnded};
+ghost use Rattle.wf_host.specs.Painted.{IsBegun, IsEnded, IsKept};
 ghost use Rattle.wf_host.specs.Reading.{CopiesRows, Reads};
 
 use crate::rows::{copy_rows, stands};
 use std::alloc::Global;
 use std::marker::Model;
 use wf_calls::{Answer, Job, JobPlace, Request};
-use wf_image::Image;
+use wf_image::{Image, bytes_of_pixel};
 use wf_kernel::picture;
 use wf_machine::Machine;
 use wf_pixel::Size;
@@ -73,12 +73,8 @@ impl Frame {
     pub fn paint(&mut self)
         ensures { self.new ≡ self.old }
     {
-        if !self.painted {
-            if self.place.is_held() {
-                paint(self.place.job_mut());
-            }
-            self.painted = true;
-        }
+        paint_unless(self.painted, &mut self.place);
+        self.painted = true;
     }
 
     /// Copies the rows of the picture into `out`, each `stride` bytes behind the one before, and tells whether it did: not where no frame
@@ -87,11 +83,9 @@ impl Frame {
         ensures frame { self.new ≡ self.old }
         ensures copies { Reads self.old stride out.old out.new result }
     {
-        self.paint();
-        match self.place.job() {
-            Some(job) => read_image(&job.image, out, stride),
-            None => false,
-        }
+        paint_unless(self.painted, &mut self.place);
+        self.painted = true;
+        read_place(&self.place, out, stride)
     }
 
     /// Begins a frame of `machine` here, by the call of `request` for `client`.
@@ -115,7 +109,8 @@ impl Frame {
         requires { IsSome self.old }
         ensures { IfSome self.old (λ job. IsEnded client job machine.old machine.new self.new result) }
     {
-        self.paint();
+        paint_unless(self.painted, &mut self.place);
+        self.painted = true;
         machine.end(client, &mut self.place)
     }
 }
@@ -128,13 +123,42 @@ fn paint(job: &mut Job)
     picture(&job.scene, &job.contents, &mut job.image);
 }
 
-/// Copies the rows of an `image` of four bytes a pixel into `out`, where they have room, and tells whether they have.
+/// Paints the picture of the frame that stands in a place, if one does.
+fn paint_held(place: &mut JobPlace)
+    requires { IfSome (job_in place.old) IsPaintable }
+    ensures { job_in place.new ≡ option_map painted_job (job_in place.old) }
+{
+    if place.is_held() {
+        paint(place.job_mut());
+    }
+}
+
+/// Paints the picture of the frame that stands in a place, if one does, unless that was done.
+fn paint_unless(painted: bool, place: &mut JobPlace)
+    requires { IsKept painted (job_in place.old) }
+    ensures { job_in place.new ≡ option_map painted_job (job_in place.old) }
+{
+    if !painted {
+        paint_held(place);
+    }
+}
+
+/// Copies the rows of the picture of the frame that stands in a place into `out`, and tells whether it did.
+fn read_place(place: &JobPlace, out: &mut [u8], stride: usize) -> bool
+    ensures { Reads (job_in place.now) stride out.old out.new result }
+{
+    match place.job() {
+        Some(job) => read_image(&job.image, out, stride),
+        None => false,
+    }
+}
+
+/// Copies the rows of an `image` into `out`, where they have room, and tells whether they have.
 fn read_image(image: &Image, out: &mut [u8], stride: usize) -> bool
-    requires { is_a8 image.now.format ≡ false }
     ensures { CopiesRows image.now stride out.old out.new result }
 {
     let size = image.size();
-    let row = 4 * size.w as usize;
+    let row = size.w as usize * bytes_of_pixel(image.format());
     let count = size.h as usize;
     if !stands(out.len(), stride, row, count) {
         return false;

@@ -1,10 +1,11 @@
 //! The machine with what its embedder holds.
 
 ghost use Rattle.std.specs.Prelude.{◌≡◌, [], IfOk, IsTrue, false};
-ghost use Rattle.wf_calls.specs.Parts.{carries, is_begin, part_of};
+ghost use Rattle.wf_calls.specs.Parts.{is_begin};
 ghost use Rattle.wf_calls.specs.PortRules.{may_declare};
 ghost use Rattle.wf_calls.specs.Requests.{call_of};
 ghost use Rattle.wf_model.specs.State.{opening};
+ghost use Rattle.wf_wire.specs.Asked.{is_acquire};
 ghost use Rattle.wf_wire.specs.Messages.{told_by};
 ghost use Rattle.wf_host.specs.Made.{Asks, AsksCanvas, Begins, Calls, Ends, Gives};
 ghost use Rattle.wf_host.specs.Reading.{Fills, Submits, Writes, are_rows, written};
@@ -15,7 +16,7 @@ use crate::rows::{copy_rows, stands};
 use crate::told::Told;
 use std::alloc::Global;
 use std::marker::Model;
-use wf_calls::{Ports, Request};
+use wf_calls::{Call, Ports, Request};
 use wf_image::{Image, bytes_of_pixel};
 use wf_machine::Machine;
 use wf_wire::Message;
@@ -64,25 +65,24 @@ impl Host {
     pub fn ask(&mut self, client: u8, request: &Request) -> Told
         ensures { Asks client request.now self.old self.new result }
     {
+        match request {
+            Request::Acquire { stream } => self.acquire(client, *stream),
+            _ => self.ask_plain(client, request),
+        }
+    }
+
+    /// Makes a `request` of `client` that is not for a write buffer.
+    fn ask_plain(&mut self, client: u8, request: &Request) -> Told
+        requires { is_acquire request.now ≡ false }
+        ensures { Asks client request.now self.old self.new result }
+    {
         if request.is_begin() {
             return Told::not_made();
         }
         match self.machine.answer(client, request) {
             Some(answer) => Told::of(answer),
-            None => self.take(client, request),
-        }
-    }
-
-    /// Takes the write buffer that a `request` of `client` asks for.
-    fn take(&mut self, client: u8, request: &Request) -> Told
-        requires carries { IsTrue (carries (part_of (call_of request.now))) }
-        requires small { is_begin (call_of request.now) ≡ false }
-        ensures { Asks client request.now self.old self.new result }
-    {
-        match request {
-            Request::Acquire { stream } => self.acquire(client, *stream),
-            // Nothing else takes something and begins no frame, as the proof shows.
-            _ => unreachable!(),
+            // Nothing else takes something, as the proof shows.
+            None => unreachable!(),
         }
     }
 

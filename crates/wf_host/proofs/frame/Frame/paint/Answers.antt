@@ -1,0 +1,12 @@
+use Rattle.std.proofs.Common.{◌≡◌, ◌∙◌, ap, option_map, subst, sym}
+use Rattle.wf_calls.specs.Places.{job_in}
+use Rattle.wf_model.specs.Picture.{painted_job}
+use Rattle.wf_host.proofs.Frames.{twice}
+use Rattle.wf_host.proofs.frame.Frame.paint.Goals as goal
+
+pub invariant_of-self : goal.invariant_of-self
+invariant_of-self c =
+    subst (λ o. option_map painted_job o ≡ o) (sym c.paint_unless.ensures) (twice (job_in c.self.inside.place))
+
+pub returns : goal.returns
+returns c = ap (option_map painted_job) c.paint_unless.ensures ∙ twice (job_in c.self.inside.place) ∙ c.self.view_is

@@ -1,0 +1,17 @@
+use Rattle.std.proofs.Common.{◌∙◌, ap, refl, subst, sym}
+use Rattle.wf_host.specs.Made.{Asks}
+use Rattle.wf_host.proofs.Asked.{plain_made, takes_nothing}
+use Rattle.wf_host.proofs.host.Host.ask_plain.Goals as goal
+
+pub unreachable-requires : goal.unreachable-requires
+unreachable-requires c =
+    takes_nothing c.args.request.now c.in-None.ensures.carries.0 (sym c.is_begin.ensures ∙ c.if-is_begin.false) c.requires
+
+pub returns-in-Some : goal.returns-in-Some
+returns-in-Some c =
+    subst (λ t. Asks c.args.client c.args.request.now c.args.self.now (record { machine = c.answer.new.self; canvases = c.self.inside.canvases })
+    t) (sym c.of.ensures)
+    (subst (λ old. Asks c.args.client c.args.request.now old (record { machine = c.answer.new.self; canvases = c.self.inside.canvases }) _)
+    c.self.view_is
+    (plain_made c.args.client c.args.request.now _ _ c.in-Some.answer (sym c.is_begin.ensures ∙ c.if-is_begin.false) c.requires
+    c.in-Some.ensures.after c.in-Some.ensures.may refl))
