@@ -7,8 +7,8 @@ pub unreachable-requires : goal.unreachable-requires
 unreachable-requires c =
     takes_nothing c.args.request.now c.in-None.ensures.carries.0 (sym c.is_begin.ensures ∙ c.if-is_begin.false) c.requires
 
-pub returns-in-Some : goal.returns-in-Some
-returns-in-Some c =
+pub returns : goal.returns
+returns c =
     subst (λ t. Asks c.args.client c.args.request.now c.args.self.now (record { machine = c.answer.new.self; canvases = c.self.inside.canvases })
     t) (sym c.of.ensures)
     (subst (λ old. Asks c.args.client c.args.request.now old (record { machine = c.answer.new.self; canvases = c.self.inside.canvases }) _)
