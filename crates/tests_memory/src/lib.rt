@@ -17,6 +17,8 @@ mod films;
 #[cfg(test)]
 mod handles;
 #[cfg(test)]
+mod hosts;
+#[cfg(test)]
 mod images;
 #[cfg(test)]
 mod links;

@@ -1,6 +1,6 @@
 -- The canvas that is taken out.
-use Rattle.std.proofs.Common.{◌≡◌, ◌∙◌, ℕ, ◌<◌, ◌==◌, List, length, Option, Some, None, find, option_map, option_and_then, refl, sym, ap, subst}
-use Rattle.std.proofs.Common.{slice_get, slice_index_or}
+use Rattle.std.proofs.Common.{◌≡◌, ◌∙◌, ℕ, ◌<◌, ◌==◌, List, length, Option, Some, None, find, option_map, option_and_then}
+use Rattle.std.proofs.Common.{refl, sym, ap, subst, slice_get, slice_index_or}
 use Rattle.std.proofs.lemmas.Option.{slice_get_read}
 use Rattle.std.specs.List.{position}
 use Rattle.wf_words.specs.Found.{get_position}

@@ -141,8 +141,8 @@ impl Host {
         }
     }
 
-    /// Writes `pixels` into the canvas that is held of `stream`, as `write` does, and posts it for `client`; where they are not its rows, it
-    /// is discarded.
+    /// Writes `pixels` into the canvas that is held of `stream`, as `write` does, and posts it for `client`. Where they are not its rows,
+    /// it is discarded.
     fn fill(&mut self, client: u8, stream: u32, pixels: &[u8], stride: usize) -> Told
         ensures { Fills client stream pixels.now stride self.old self.new result }
     {

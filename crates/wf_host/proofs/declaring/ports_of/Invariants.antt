@@ -5,4 +5,5 @@ use Rattle.wf_host.specs.PortsOf.{ports_to}
 use Rattle.wf_host.proofs.declaring.ports_of.Given as goal
 
 abbrev pub invariant-loop-port : goal.invariant-loop-port
-invariant-loop-port l = (l.ports.items ≡ ports_to l.port l.modes) × (length l.ports.items ≡ l.port) × (list_all may_have l.ports.items ≡ true)
+invariant-loop-port l = (l.ports.items ≡ ports_to l.port l.modes) × (length l.ports.items ≡ l.port)
+    × (list_all may_have l.ports.items ≡ true)
