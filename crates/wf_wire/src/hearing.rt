@@ -67,7 +67,9 @@ fn hear_small<R: Wait, K: Sink>(
     put_answer(out, answer.code.number(), answer.value)
 }
 
-/// Makes the `call` of `message`, which may begin a frame, and answers it.
+/// Makes the `call` of `message`, which may begin a frame, and answers it. Calls and replies, with the room of a Job, are here alone:
+/// inlined, each message would set that room.
+#[inline(never)]
 fn hear_call<R: Wait, K: Sink>(
     rt: &R,
     desk: &Desk<Machine>,
