@@ -2,6 +2,7 @@
 
 ghost use Rattle.std.specs.Prelude.{◌≡◌, ◌≤◌, ◌<◌, IsTrue, length};
 ghost use Rattle.wf_io.specs.Causes.{HasCause};
+ghost use Rattle.wf_calls.specs.Requests.{call_of};
 ghost use Rattle.wf_desk.specs.Pass.{IsOwn};
 ghost use Rattle.wf_machine.specs.Object.{MayAnswer, after};
 ghost use Rattle.wf_wire.specs.Answers.{quiet_bytes};
@@ -14,7 +15,7 @@ use crate::answering::{ANSWER_BYTES, finish, parts_of, put_answer};
 use crate::asking::{Wanted, asked, is_show, keep, make};
 use crate::message::Message;
 use std::sync::Wait;
-use wf_calls::Call;
+use wf_calls::{Call, Request};
 use wf_desk::{Desk, Pass};
 use wf_image::Canvas;
 use wf_io::{Sink, WriteStop};
@@ -67,9 +68,7 @@ fn hear_small<R: Wait, K: Sink>(
     put_answer(out, answer.code.number(), answer.value)
 }
 
-/// Makes the `call` of `message`, which may begin a frame, and answers it. Calls and replies, with the room of a Job, are here alone:
-/// inlined, each message would set that room.
-#[inline(never)]
+/// Makes the `call` of `message`, which may begin a frame, and answers it.
 fn hear_call<R: Wait, K: Sink>(
     rt: &R,
     desk: &Desk<Machine>,
@@ -105,6 +104,27 @@ fn hear_call<R: Wait, K: Sink>(
     }
 }
 
+/// Makes the call of the `request` of `message`, which may begin a frame, and answers it. Calls and replies, with the room of a Job, are
+/// here alone: inlined, each message would set that room.
+#[inline(never)]
+fn hear_frame<R: Wait, K: Sink>(
+    rt: &R,
+    desk: &Desk<Machine>,
+    pass: &mut Pass<Machine>,
+    held: &mut Option<Canvas>,
+    message: &Message,
+    request: Request,
+    out: &mut K,
+) -> Result<usize, WriteStop>
+    requires desk { pass.old.desk ≡ desk.now.id }
+    requires left { 2 ≤ pass.old.left }
+    requires own { IsOwn after MayAnswer pass.old }
+    ensures called { Called K.took pass.old pass.new message.now (call_of request) held.old held.new out.old out.new result }
+    ensures cause { HasCause (K.faults out.old) (K.faults out.new) result }
+{
+    hear_call(rt, desk, pass, held, message, request.call(), out)
+}
+
 /// Makes the call that is `wanted` of `message`, and answers it.
 fn hear_wanted<R: Wait, K: Sink>(
     rt: &R,
@@ -123,7 +143,7 @@ fn hear_wanted<R: Wait, K: Sink>(
 {
     match wanted {
         Wanted::Small(small) => hear_small(rt, desk, pass, held, message, small, out),
-        Wanted::Frame(request) => hear_call(rt, desk, pass, held, message, request.call(), out),
+        Wanted::Frame(request) => hear_frame(rt, desk, pass, held, message, request, out),
     }
 }
 
