@@ -72,3 +72,8 @@ told reply = record { code = reply.code; value = reply.value }
 abbrev pub given_canvas : Payload → Option Canvas
 given_canvas (payload.Canvas canvas) = Some canvas
 given_canvas _ = None
+
+-- the Job that comes with a reply
+abbrev pub given_job : Payload → Option Job
+given_job (payload.Job job) = Some job
+given_job _ = None

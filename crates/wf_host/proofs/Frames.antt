@@ -8,7 +8,7 @@ use Rattle.wf_image.specs.Bitmap.{drawn}
 use Rattle.wf_machine.specs.Object.{IsStep}
 use Rattle.wf_model.specs.Picture.{painted_job}
 use Rattle.wf_model.specs.State.{State}
-use Rattle.wf_host.specs.Made.{Ends, Hosted, given_job, told_of}
+use Rattle.wf_host.specs.Made.{Ends, Hosted, told_of}
 use Rattle.wf_host.specs.Painted.{IsEnded, IsKept}
 use Rattle.wf_host.proofs.Ended.{stays_painted}
 

@@ -4,13 +4,11 @@ use Rattle.wf_calls.specs.Codes.{code_number}
 use Rattle.wf_calls.specs.declared.call.Call.{Call}
 use Rattle.wf_calls.specs.declared.call.Call.TheVariants as call
 use Rattle.wf_calls.specs.declared.call.Job.{Job}
-use Rattle.wf_calls.specs.declared.reply.Payload.{Payload}
-use Rattle.wf_calls.specs.declared.reply.Payload.TheVariants as payload
 use Rattle.wf_calls.specs.declared.reply.Reply.{Reply}
 use Rattle.wf_calls.specs.declared.request.Request.{Request}
 use Rattle.wf_calls.specs.declared.request.Request.TheVariants as request
 use Rattle.wf_calls.specs.Parts.{is_begin}
-use Rattle.wf_calls.specs.Replies.{given_canvas}
+use Rattle.wf_calls.specs.Replies.{given_canvas, given_job}
 use Rattle.wf_calls.specs.Requests.{call_of}
 use Rattle.wf_image.specs.declared.canvas.Canvas.{Canvas}
 use Rattle.wf_machine.specs.Object.{MayAnswer, after}
@@ -89,11 +87,6 @@ abbrev pub Gives : ℕ → (Canvas → Call) → ℕ → Hosted → Hosted → T
 Gives client call stream old new t = GivesOne (canvas_of stream old.canvases) client call stream old new t
 
 -- frames: what an embedder holds of one is its Job with its picture
-
--- the Job that comes with a reply
-abbrev pub given_job : Payload → Option Job
-given_job (payload.Job job) = Some job
-given_job _ = None
 
 -- the machine answered a call with which a frame begins or ends; canvases are held as before
 pub record IsFramed (client : ℕ) (c : Call) (old new : Hosted) (t : Told) (now : Option Job) (kept : Reply → Option Job) : Type 0 where

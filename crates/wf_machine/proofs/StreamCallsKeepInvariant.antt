@@ -20,7 +20,8 @@ use Rattle.wf_calls.specs.declared.call.JobKind.TheVariants as kind
 use Rattle.wf_model.specs.Streams.{is_buffer_count, is_wide_side, may_make, stream_made}
 use Rattle.wf_machine.proofs.ImageOfRunningFrame.{frame_unnamed}
 use Rattle.wf_machine.specs.Fitting.{AllFit}
-use Rattle.wf_machine.proofs.StreamsMapped.{KeepsStream, bytes_mapped, changed_at, changed_keeps, numbered_mapped, seen_mapped, unnamed_keeps}
+use Rattle.wf_machine.proofs.StreamsMapped.{KeepsStream, bytes_mapped, changed_at, changed_keeps, numbered_mapped, seen_mapped}
+use Rattle.wf_machine.proofs.StreamsMapped.{unnamed_keeps}
 use Rattle.wf_machine.proofs.StreamsStillFit.{KeepsRead, all_kept, all_push, all_unnamed, known_more, new_fits, numbered_push, shape_kept}
 use Rattle.wf_model.specs.Named.{SeenSame}
 use Rattle.wf_objects.specs.Named.{still_fits}

@@ -1,6 +1,7 @@
 -- The messages of a session: each is its number and its arguments, eight bytes each.
 use Rattle.std.specs.List.{list_all, zip}
-use Rattle.std.specs.Prelude.{ℕ, ◌+◌, ◌==◌, ◌&&◌, length, Bool, true, nat_lt, List, [], ◌∷◌, Option, Some, None, option_map, Ok, Err, if◌then◌else◌}
+use Rattle.std.specs.Prelude.{ℕ, ◌+◌, ◌==◌, ◌&&◌, length, Bool, true, nat_lt, List, [], ◌∷◌, Option, Some, None, option_map, Ok}
+use Rattle.std.specs.Prelude.{Err, if◌then◌else◌}
 use Rattle.wf_pixel.specs.Choice.{is_between}
 use Rattle.wf_words.specs.Keyed.{nth}
 use Rattle.std.specs.Int.{cast_signed, w64}
