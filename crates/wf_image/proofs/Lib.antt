@@ -1,4 +1,5 @@
 pub mod Cells
+pub mod Fills
 pub mod Places
 pub mod Apart
 pub mod Spans

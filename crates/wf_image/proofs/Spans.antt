@@ -1,13 +1,13 @@
 -- Painted cells and rows.
 use Rattle.std.proofs.Common.{◌≡◌, ℕ, zero, suc, ◌+◌, ◌-◌, ◌*◌, ◌<◌, ◌≤◌, false, List, [], ◌++◌, length, get_or, take, drop, refl}
 use Rattle.std.proofs.Common.{sym, ap, ◌∙◌, append_assoc, arith, length-append, length-drop}
-use Rattle.std.specs.Prelude.{flat_map, unwrap_or, Option, Some, None, is_some, ◌&&◌, nat_le, nat_lt}
+use Rattle.std.specs.Prelude.{true, flat_map, unwrap_or, Option, Some, None, is_some, ◌&&◌, nat_le, nat_lt}
 use Rattle.std.specs.List.{range_with_len}
-use Rattle.std.proofs.Math.Seq.{drop-append-add}
-use Rattle.std.proofs.Math.Nat.{zero-add, zero-mul, mul-le-mul_right, le_trans, le_refl}
+use Rattle.std.proofs.Math.Seq.{drop-append-add, take-add}
+use Rattle.std.proofs.Math.Nat.{add-mul, zero-add, zero-mul, mul-le-mul_right, le_trans, le_refl}
 use Rattle.std.proofs.lemmas.Bool.Decides.{nat_tests}
 use Rattle.std.proofs.lemmas.List.{append-nil, take_at, drop_at, take_all, drop-drop, nil_from_length, take-append-drop, get_or-take}
-use Rattle.std.proofs.lemmas.List.{get_or-drop}
+use Rattle.std.proofs.lemmas.List.{drop-append-le, drop-take, get_or-drop, length-take-le, take-take}
 use Rattle.wf_pixel.specs.declared.Size.{Size}
 use Rattle.wf_pixel.specs.declared.Rgba.{Rgba}
 use Rattle.wf_pixel.specs.declared.Format.{Format}
@@ -16,6 +16,7 @@ use Rattle.wf_image.specs.declared.paint.Paint.{Paint}
 use borrow.Rule.Slice.PartMut.{put_mid}
 use Rattle.wf_image.specs.Bitmap.{Bitmap, pixel_bytes, stored, read_at, pixel, drawn_row, drawn}
 use Rattle.wf_image.specs.Lending.{with_bytes}
+use Rattle.wf_image.specs.Alike.{IsLike}
 use Rattle.wf_image.specs.Paints.{named_colour, painted_row, painted_bytes, painted}
 use Rattle.wf_image.proofs.Cells.{cells-add, cells_are, length-cells, kept}
 
@@ -53,7 +54,7 @@ unnamed size format row paint y from n none fits =
     is_kept (Some c) color h = absurd cc
 
 -- a piece behind those that are done takes the place of as many bytes
-step : (done piece old new first : List ℕ) (n k m : ℕ) → length done ≡ n → m ≡ n + k → old ≡ done ++ drop n first
+pub step : (done piece old new first : List ℕ) (n k m : ℕ) → length done ≡ n → m ≡ n + k → old ≡ done ++ drop n first
     → new ≡ take n old ++ piece ++ drop m old → new ≡ (done ++ piece) ++ drop m first
 step done piece old new first n k m len sum before after =
     let front : take n old ≡ done = ap (take n) before ∙ take_at done (drop n first) n len in
@@ -71,6 +72,47 @@ left_of start end x lt = grind (arith, nat_tests)
 
 right_of : (start end x : ℕ) → end ≤ x → (nat_le start x && nat_lt x end) ≡ false
 right_of start end x le = grind (arith, nat_tests)
+
+-- a colour that is named, whatever was there
+is_named : (o : Option Rgba) (color other : Rgba) → is_some o ≡ true → unwrap_or o color ≡ unwrap_or o other
+is_named None color other some = absurd cc
+is_named (Some c) color other some = refl
+
+-- cells in the span of two rows in which a paint names the same colours
+named_cells : (size : Size) (format : Format) (row other : List ℕ) (paint : Paint) (y z from n : ℕ)
+    → ((x : ℕ) → named_colour paint size x z ≡ named_colour paint size x y)
+    → ((x : ℕ) → from ≤ x → x < from + n → is_some (named_colour paint size x y) ≡ true)
+    → cells size format other paint z from n ≡ cells size format row paint y from n
+named_cells size format row other paint y z from n same some =
+    cells_are (λ x. stored format (chosen size format other paint z x)) (λ x. stored format (chosen size format row paint y x)) from n
+    (λ x low high. ap (λ (o : Option Rgba). stored format (unwrap_or o (read_at format other (x * pixel_bytes format)))) (same x)
+    ∙ ap (stored format) (is_named (named_colour paint size x y) (read_at format other (x * pixel_bytes format))
+    (read_at format row (x * pixel_bytes format)) (some x low high)))
+
+-- a part of a painted row
+part_of_row : (size : Size) (format : Format) (row : List ℕ) (paint : Paint) (y start end : ℕ) → start ≤ end → end ≤ size.w
+    → take ((end - start) * pixel_bytes format) (drop (start * pixel_bytes format) (painted_row size format row paint y))
+    ≡ cells size format row paint y start (end - start)
+part_of_row size format row paint y start end order within =
+    let size_of = pixel_bytes format in
+    let n : ℕ = end - start in
+    let rest : ℕ = size.w - end in
+    let all : start + (n + rest) ≡ size.w = omega arith in
+    let before : List ℕ = cells size format row paint y 0 start in
+    let here : List ℕ = cells size format row paint y start n in
+    let behind : List ℕ = cells size format row paint y (start + n) rest in
+    let parts : painted_row size format row paint y ≡ before ++ (here ++ behind) =
+    ap (cells size format row paint y 0) (sym all)
+    ∙ cells-add (λ x. stored format (chosen size format row paint y x)) 0 start (n + rest)
+    ∙ ap (λ (k : ℕ). before ++ cells size format row paint y k (n + rest)) (zero-add start)
+    ∙ ap (λ (bytes : List ℕ). before ++ bytes) (cells-add (λ x. stored format (chosen size format row paint y x)) start n rest) in
+    ap (λ (bytes : List ℕ). take (n * size_of) (drop (start * size_of) bytes)) parts
+    ∙ ap (take (n * size_of))
+    (drop_at before (here ++ behind) (start * size_of) (length-cells format (chosen size format row paint y) 0 start))
+    ∙ take_at here behind (n * size_of) (length-cells format (chosen size format row paint y) start n)
+
+in_span : (start end x : ℕ) → start ≤ x → x < end → (nat_le start x && nat_lt x end) ≡ true
+in_span start end x low high = grind (arith, nat_tests)
 
 module _ (size : Size) (format : Format) (row : List ℕ) (paint : Paint) (y : ℕ) (count : length row ≡ size.w * pixel_bytes format) where
   -- before the span nothing changes
@@ -116,6 +158,36 @@ module _ (size : Size) (format : Format) (row : List ℕ) (paint : Paint) (y : �
       ∙ ap (λ (k : ℕ). cells size format row paint y 0 end ++ cells size format row paint y k rest) (sym (zero-add end))
       ∙ sym (cells-add (λ x. stored format (chosen size format row paint y x)) 0 end rest)
       ∙ ap (cells size format row paint y 0) all
+
+  -- the span of a row that is painted already, in which the paint names the same colours
+  pub is_painted_alike : (start end : ℕ) (bytes : List ℕ) → start ≤ end → end ≤ size.w → IsSpan size paint y start end
+      → IsLike size format paint y bytes
+      → take (start * pixel_bytes format) row ++ take ((end - start) * pixel_bytes format) (drop (start * pixel_bytes format) bytes)
+      ++ drop (end * pixel_bytes format) row ≡ painted_row size format row paint y
+  is_painted_alike start end bytes order within span like =
+      let size_of = pixel_bytes format in
+      let n : ℕ = end - start in
+      let other : List ℕ = like.0 in
+      let z : ℕ = like.1 in
+      let done : List ℕ = cells size format row paint y 0 start in
+      let here : List ℕ = cells size format row paint y start n in
+      let last : List ℕ = drop (end * size_of) row in
+      let all : start + n ≡ end = omega arith in
+      let front : take (start * size_of) row ≡ done =
+      ap (take (start * size_of)) (starts start end order within span)
+      ∙ take_at done (drop (start * size_of) row) (start * size_of) (length-cells format (chosen size format row paint y) 0 start) in
+      let piece : take (n * size_of) (drop (start * size_of) bytes) ≡ here =
+      ap (λ (l : List ℕ). take (n * size_of) (drop (start * size_of) l)) like.3
+      ∙ part_of_row size format other paint z start end order within
+      ∙ named_cells size format row other paint y z start n like.2
+      (λ x low high. span x (omega arith) ∙ in_span start end x low (omega arith)) in
+      let both : done ++ here ≡ cells size format row paint y 0 end =
+      ap (λ (k : ℕ). done ++ cells size format row paint y k n) (sym (zero-add start))
+      ∙ sym (cells-add (λ x. stored format (chosen size format row paint y x)) 0 start n)
+      ∙ ap (cells size format row paint y 0) all in
+      is_painted start end (take (start * size_of) row ++ take (n * size_of) (drop (start * size_of) bytes) ++ last) within span
+      (ap (λ (l : List ℕ). l ++ take (n * size_of) (drop (start * size_of) bytes) ++ last) front
+      ∙ ap (λ (l : List ℕ). done ++ l ++ last) piece ∙ ap (λ (l : List ℕ). l ++ last) both)
 
 -- a byte of a part of the bytes
 get_part : (bytes : List ℕ) (from count i at : ℕ) → i < count → at ≡ from + i
@@ -181,6 +253,27 @@ module _ (size : Size) (format : Format) (bytes : List ℕ) (paint : Paint) wher
       ∙ ap (λ (front : List ℕ). front ++ drop (n + stride) bytes) (sym one_more)
       ∙ ap (λ (k : ℕ). rows size format bytes paint 0 (y + 1) ++ drop k bytes) (omega arith)
 
+  -- a row above those that are still to be painted
+  pub row_above : (z y : ℕ) (old : List ℕ) → let stride : ℕ = size.w * pixel_bytes format in z < y
+      → old ≡ rows size format bytes paint 0 y ++ drop (y * stride) bytes
+      → take stride (drop (z * stride) old) ≡ painted_row size format (row_at size format bytes z) paint z
+  row_above z y old lt before =
+      let stride : ℕ = size.w * pixel_bytes format in
+      let m : ℕ = y - (z + 1) in
+      let all : z + suc m ≡ y = omega arith in
+      let above : List ℕ = rows size format bytes paint 0 z in
+      let here : List ℕ = painted_row size format (row_at size format bytes z) paint z in
+      let later : List ℕ = rows size format bytes paint (z + 1) m in
+      let rest : List ℕ = drop (y * stride) bytes in
+      let parts : rows size format bytes paint 0 y ≡ above ++ (here ++ later) =
+      ap (rows size format bytes paint 0) (sym all)
+      ∙ cells-add (λ y. painted_row size format (row_at size format bytes y) paint y) 0 z (suc m)
+      ∙ ap (λ (k : ℕ). above ++ rows size format bytes paint k (suc m)) (zero-add z) in
+      ap (λ (l : List ℕ). take stride (drop (z * stride) l))
+      (before ∙ ap (λ (l : List ℕ). l ++ rest) parts ∙ append_assoc above (here ++ later) rest)
+      ∙ ap (take stride) (drop_at above ((here ++ later) ++ rest) (z * stride) (length-rows 0 z) ∙ append_assoc here later rest)
+      ∙ take_at here (later ++ rest) stride (length-cells format (chosen size format (row_at size format bytes z) paint z) 0 size.w)
+
   -- the rows of the image after the paint
   pub are_painted : (old : List ℕ) → length bytes ≡ size.h * (size.w * pixel_bytes format)
       → old ≡ rows size format bytes paint 0 size.h ++ drop (size.h * (size.w * pixel_bytes format)) bytes
@@ -220,3 +313,58 @@ pub image_is_painted : (image : Bitmap) (paint : Paint) (new : List ℕ) → len
 unfolding drawn
 image_is_painted image paint new same are =
     ap (λ (bytes : List ℕ). record image { bytes = bytes }) (take_at new (drop (length new) image.bytes) (length image.bytes) same ∙ are)
+
+-- a part of a row that is copied from the same part of another row
+part_in_place : (old : List ℕ) (from to first len stride : ℕ) → first + len ≤ stride → to + stride ≤ length old → from + stride ≤ to
+    → let row : List ℕ = take stride (drop to old) in
+    take (to + first) old ++ take len (drop (from + first) old) ++ drop (to + first + len) old
+    ≡ take to old ++ (take first row ++ take len (drop first (take stride (drop from old))) ++ drop (first + len) row)
+    ++ drop (to + stride) old
+part_in_place old from to first len stride part within order =
+    let behind : List ℕ = drop to old in
+    let row : List ℕ = take stride behind in
+    let rest : List ℕ = drop (to + stride) old in
+    let more : ℕ = stride - first - len in
+    let sum : first + (len + more) ≡ stride = omega arith in
+    let all : length row ≡ stride = length-take-le stride behind (omega (arith, length-drop to old)) in
+    let front : take (to + first) old ≡ take to old ++ take first row =
+    take-add to first old ∙ ap (λ (l : List ℕ). take to old ++ l) (sym (take-take first stride behind (omega arith))) in
+    let piece : take len (drop (from + first) old) ≡ take len (drop first (take stride (drop from old))) =
+    sym (ap (λ (k : ℕ). take len (drop first (take k (drop from old)))) (sym sum)
+    ∙ ap (take len) (drop-take first (len + more) (drop from old))
+    ∙ take-take len (len + more) (drop first (drop from old)) (omega arith)
+    ∙ ap (take len) (drop-drop first from old)) in
+    let last : drop (to + first + len) old ≡ drop (first + len) row ++ rest =
+    ap (λ (k : ℕ). drop k old) (omega arith) ∙ sym (drop-drop (first + len) to old)
+    ∙ ap (drop (first + len)) (sym (take-append-drop stride behind))
+    ∙ drop-append-le (first + len) row (drop stride behind) (omega (arith, all))
+    ∙ ap (λ (l : List ℕ). drop (first + len) row ++ l) (drop-drop stride to old) in
+    let kept : List ℕ = take first row in
+    let copied : List ℕ = take len (drop first (take stride (drop from old))) in
+    let after : List ℕ = drop (first + len) row in
+    let before : List ℕ = take to old in
+    rw (front, piece, last) (sym (append_assoc (before ++ kept ++ copied) after rest)
+    ∙ ap (λ (l : List ℕ). l ++ rest) (ap (λ (l : List ℕ). l ++ after) (append_assoc before kept copied)
+    ∙ append_assoc before (kept ++ copied) after))
+
+-- a row that is painted by the bytes of one above it
+pub row_alike : (size : Size) (format : Format) (old : List ℕ) (paint : Paint) (y from to start end : ℕ)
+    → let stride : ℕ = size.w * pixel_bytes format in
+    from + stride ≤ to → to + stride ≤ length old → start ≤ end → end ≤ size.w → IsSpan size paint y start end
+    → IsLike size format paint y (take stride (drop from old))
+    → let first : ℕ = start * pixel_bytes format in let len : ℕ = (end - start) * pixel_bytes format in
+    take (to + first) old ++ take len (drop (from + first) old) ++ drop (to + first + len) old
+    ≡ take to old ++ painted_row size format (take stride (drop to old)) paint y ++ drop (to + stride) old
+row_alike size format old paint y from to start end order within upward inside span like =
+    let size_of = pixel_bytes format in
+    let stride : ℕ = size.w * size_of in
+    let row : List ℕ = take stride (drop to old) in
+    let first : ℕ = start * size_of in
+    let len : ℕ = (end - start) * size_of in
+    let sum : first + len ≡ end * size_of = sym (add-mul start (end - start) size_of) ∙ ap (λ (k : ℕ). k * size_of) (omega arith) in
+    part_in_place old from to first len stride (rw sum (mul-le-mul_right size_of inside)) within order
+    ∙ ap (λ (k : ℕ). take to old ++ (take first row ++ take len (drop first (take stride (drop from old))) ++ drop k row)
+    ++ drop (to + stride) old) sum
+    ∙ ap (λ (l : List ℕ). take to old ++ l ++ drop (to + stride) old)
+    (is_painted_alike size format row paint y (length-take-le stride (drop to old) (omega (arith, length-drop to old))) start end
+    (take stride (drop from old)) upward inside span like)

@@ -12,3 +12,4 @@ pub mod Drawn
 pub mod Listed
 -- What is kept inside.
 pub mod Copies
+pub mod Alike

@@ -6,6 +6,7 @@ pub use wf_words::NoMemory;
 mod canvas;
 mod contents;
 mod copying;
+mod filling;
 mod image;
 mod paint;
 mod painting;

@@ -1,13 +1,15 @@
 //! Paints on the bytes of an image, row by row, and in each row only the span that the paint names.
 
-ghost use Rattle.std.specs.Prelude.{◌≡◌, ℕ, ◌+◌, ◌*◌, ◌<◌, ◌≤◌, ◌++◌, ◌&&◌, pos, length, take, drop, is_some, unwrap_or, nat_le, nat_lt};
-ghost use Rattle.std.specs.Prelude.{IsTrue, Some, slice_get};
+ghost use Rattle.std.specs.Prelude.{◌≡◌, ℕ, ◌+◌, ◌*◌, ◌/◌, ◌%◌, ◌<◌, ◌≤◌, ◌++◌, ◌&&◌, pos, length, take, drop};
+ghost use Rattle.std.specs.Prelude.{IsTrue, Some, is_some, nat_le, nat_lt, slice_get, unwrap_or};
 ghost use Rattle.std.specs.Int.{int_max, int_min};
 ghost use Rattle.wf_pixel.specs.Along.{along};
 ghost use Rattle.wf_pixel.specs.Choice.{has_sides, is_coordinate, most_extent};
 ghost use Rattle.wf_image.specs.Bitmap.{image_bytes, pixel_bytes, stored};
+ghost use Rattle.wf_image.specs.Alike.{IsLike};
 ghost use Rattle.wf_image.specs.Paints.{is_paint, ramp_channel, ramp_colour, named_colour, painted_row, painted_bytes};
 
+use crate::filling::{fill_bytes, put_four};
 use crate::image::bytes_of_pixel;
 use crate::paint::{Paint, Pixels};
 use wf_pixel::{Format, MOST_SIDE, Rect, Rgba, Size};
@@ -19,10 +21,100 @@ pub(crate) fn paint_bytes(bytes: &mut [u8], size: Size, format: Format, p: &Pain
     requires paint { IsTrue (is_paint p.now) }
     ensures { bytes.new ≡ painted_bytes size format bytes.old p.now }
 {
+    match p {
+        Paint::Fill { color } => fill_bytes(bytes, size, format, *color),
+        _ => paint_rows(bytes, size, format, p),
+    }
+}
+
+/// Paints on the bytes of an image row by row. A row gets the bytes of one above it, where the paint names the same colours in both.
+fn paint_rows(bytes: &mut [u8], size: Size, format: Format, p: &Paint)
+    requires sides { IsTrue (has_sides size) }
+    requires count { length bytes.old ≡ image_bytes size format }
+    requires paint { IsTrue (is_paint p.now) }
+    ensures { bytes.new ≡ painted_bytes size format bytes.old p.now }
+{
     let stride = size.w as usize * bytes_of_pixel(format);
     for y in 0..size.h {
-        paint_row_at(bytes, y as usize * stride, size, format, p, y);
+        let like = row_like(p, y);
+        if like < y {
+            copy_row(
+                bytes,
+                like as usize * stride,
+                y as usize * stride,
+                size,
+                format,
+                p,
+                y,
+            );
+        } else {
+            paint_row_at(bytes, y as usize * stride, size, format, p, y);
+        }
     }
+}
+
+/// Finds the first row in which the paint names the same colours as in row `y`.
+fn row_like(p: &Paint, y: u32) -> u32
+    requires y { y < MOST_SIDE }
+    requires paint { IsTrue (is_paint p.now) }
+    ensures order { result ≤ y }
+    ensures same { (size : Size) (x : ℕ) → named_colour p.now size x result ≡ named_colour p.now size x y }
+{
+    match p {
+        Paint::Fill { .. } => 0,
+        Paint::Rectangle { area, .. } => first_along(area.y, area.h, y),
+        Paint::Checker { n, .. } => first_alike(*n, y),
+        Paint::Ramp { .. } => 0,
+        Paint::Row { .. } => y,
+    }
+}
+
+/// Finds the first number along a side, for a number along it, and each other number itself.
+fn first_along(start: i32, side: u32, y: u32) -> u32
+    requires start { IsTrue (is_coordinate start) }
+    requires side { side ≤ most_extent }
+    requires y { y < MOST_SIDE }
+    ensures order { result ≤ y }
+    ensures same { is_some (along start side (pos result)) ≡ is_some (along start side (pos y)) }
+{
+    let rows = span_of_side(start, side, MOST_SIDE);
+    if contains(rows, y) { rows.0 } else { y }
+}
+
+/// Finds the first number whose `n`-th part, rounded down, is even where the part of `y` is even, and odd where it is odd.
+fn first_alike(n: u32, y: u32) -> u32
+    requires { 1 ≤ n }
+    ensures order { result ≤ y }
+    ensures same { (x : ℕ) → (x + result / n) % 2 ≡ (x + y / n) % 2 }
+{
+    if y / n % 2 == 0 { 0 } else { n }
+}
+
+/// Paints on row `y`, whose bytes begin at a place, by the bytes of a row above it in which the paint names the same colours.
+fn copy_row(bytes: &mut [u8], from: usize, to: usize, size: Size, format: Format, p: &Paint, y: u32)
+    requires width { size.w ≤ MOST_SIDE }
+    requires y { y < MOST_SIDE }
+    requires order { from + size.w * pixel_bytes format ≤ to }
+    requires within { to + size.w * pixel_bytes format ≤ length bytes.old }
+    requires paint { IsTrue (is_paint p.now) }
+    requires like { IsLike size format p.now y (take (size.w * pixel_bytes format) (drop from bytes.old)) }
+    ensures { bytes.new ≡ take to bytes.old ++ painted_row size format (take (size.w * pixel_bytes format) (drop to bytes.old)) p.now y
+        ++ drop (to + size.w * pixel_bytes format) bytes.old }
+{
+    let (start, end) = span_of_row(p, size, y);
+    let first = start as usize * bytes_of_pixel(format);
+    let len = (end - start) as usize * bytes_of_pixel(format);
+    copy_bytes(bytes, from + first, to + first, len);
+}
+
+/// Copies `len` bytes to a place after them.
+fn copy_bytes(bytes: &mut [u8], from: usize, to: usize, len: usize)
+    requires order { from + len ≤ to }
+    requires within { to + len ≤ length bytes.old }
+    ensures { bytes.new ≡ take to bytes.old ++ take len (drop from bytes.old) ++ drop (to + len) bytes.old }
+{
+    let (front, back) = bytes.split_at_mut(to);
+    back[..len].copy_from_slice(&front[from..from + len]);
 }
 
 /// Paints on row `y`, whose bytes begin at a place.
@@ -59,7 +151,7 @@ fn put_pixel(row: &mut [u8], format: Format, x: usize, color: Rgba)
 {
     match format {
         Format::A8 => row[x] = color.a,
-        _ => row[4 * x..4 * x + 4].copy_from_slice(&[color.r, color.g, color.b, color.a]),
+        _ => put_four(row, x, color),
     }
 }
 

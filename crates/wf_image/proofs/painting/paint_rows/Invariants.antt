@@ -1,7 +1,7 @@
 use Rattle.std.proofs.Common.{◌≡◌, ◌*◌, ◌++◌, drop}
 use Rattle.wf_image.specs.Bitmap.{pixel_bytes}
 use Rattle.wf_image.proofs.Spans.{rows}
-use Rattle.wf_image.proofs.painting.paint_bytes.Given as goal
+use Rattle.wf_image.proofs.painting.paint_rows.Given as goal
 
 -- the rows so far are painted, and the others are as they were
 abbrev pub invariant-loop-y : goal.invariant-loop-y
