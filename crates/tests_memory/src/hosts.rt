@@ -2,7 +2,7 @@
 
 use std::test::Fail;
 use wf_calls::Request;
-use wf_host::{Frame, Host, Mode, NOT_MADE, ports_of};
+use wf_host::{Frame, Host, Mode, NOT_MADE, Order, ports_of};
 
 /// The client of all calls.
 const CLIENT: u8 = 1;
@@ -59,8 +59,8 @@ fn a_host_shows_what_is_submitted(rt: HostRuntime) -> Result<(), Fail> {
     let begun = host.begin(CLIENT, &Request::BeginPort { port: 1 }, &mut frame);
     assert_eq!(rt; (begun.code, begun.value), (0, 1));
     let mut out = [99u8; 20];
-    assert!(rt; !frame.read(&mut out, 7));
-    assert!(rt; frame.read(&mut out, 12));
+    assert!(rt; !frame.read(&mut out, 7, Order::Rgba));
+    assert!(rt; frame.read(&mut out, 12, Order::Rgba));
     assert_eq!(rt;
         out,
         [

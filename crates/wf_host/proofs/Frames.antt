@@ -3,7 +3,7 @@ use Rattle.std.proofs.Common.{◌≡◌, ◌∙◌, ℕ, List, Option, Some, Non
 use Rattle.wf_calls.specs.declared.call.Call.TheVariants as call
 use Rattle.wf_calls.specs.declared.call.Job.{Job}
 use Rattle.wf_calls.specs.declared.reply.Answer.{Answer}
-use Rattle.wf_calls.specs.Replies.{bare, job_payload, with_job}
+use Rattle.wf_calls.specs.Replies.{bare, given_job, job_payload, with_job}
 use Rattle.wf_image.specs.Bitmap.{drawn}
 use Rattle.wf_machine.specs.Object.{IsStep}
 use Rattle.wf_model.specs.Picture.{painted_job}

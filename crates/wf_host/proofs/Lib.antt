@@ -5,3 +5,4 @@ mod Frames
 mod RowsCopied
 mod Packed
 mod NextPort
+mod NotDeclared

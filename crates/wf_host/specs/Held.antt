@@ -1,8 +1,12 @@
 -- The write buffers that an embedder holds, by the handles of their streams.
-use Rattle.std.specs.Prelude.{ℕ, ◌==◌, List, [], ◌∷◌, ◌++◌, Option, Some, None, find, option_map}
-use Rattle.std.specs.List.{position, remove}
+use Rattle.std.specs.Prelude.{ℕ, ◌==◌, Bool, List, [], ◌∷◌, ◌++◌, Option, Some, None, find, option_map}
+use Rattle.std.specs.List.{list_any, position, remove}
 use Rattle.wf_image.specs.declared.canvas.Canvas.{Canvas}
 use Rattle.wf_host.specs.declared.canvases.Held.{Held}
+
+-- whether a canvas of a stream is held
+abbrev pub holds : ℕ → List Held → Bool
+holds stream held = list_any (λ h. h.stream == stream) held
 
 -- the canvas of a stream, if it is held
 abbrev pub canvas_of : ℕ → List Held → Option Canvas

@@ -102,6 +102,14 @@ abbrev pub Begins : ℕ → Call → Hosted → Hosted → Option Job → Option
 Begins client c old new (Some job) now t = IsNotMade old new t × (now ≡ Some job)
 Begins client c old new None now t = IsFramed client c old new t now (λ reply. option_map painted_job (begun reply))
 
+-- a frame is begun by a request that begins one
+abbrev pub BeginsIf : Bool → ℕ → Call → Hosted → Hosted → Option Job → Option Job → Told → Type 0
+BeginsIf true client c old new job now t = Begins client c old new job now t
+BeginsIf false client c old new job now t = IsNotMade old new t × (now ≡ job)
+
+abbrev pub BeginsBy : ℕ → Request → Hosted → Hosted → Option Job → Option Job → Told → Type 0
+BeginsBy client r old new job now t = BeginsIf (is_begin (call_of r)) client (call_of r) old new job now t
+
 -- the frame that is held ends; where that is refused it is held as before
 abbrev pub Ends : ℕ → Hosted → Hosted → Option Job → Option Job → Told → Type 0
 Ends client old new None now t = IsNotMade old new t × (now ≡ None)

@@ -1,5 +1,7 @@
 -- The ports that a list of modes declares.
-use Rattle.std.specs.Prelude.{ℕ, zero, suc, ◌==◌, List, [], ◌∷◌, ◌++◌, filter, map}
+use Rattle.std.specs.List.{list_all}
+use Rattle.std.specs.Prelude.{ℕ, zero, suc, ◌==◌, ◌&&◌, nat_le, Bool, List, [], ◌∷◌, ◌++◌, filter, map}
+use Rattle.wf_calls.specs.PortRules.{may_declare}
 use Rattle.wf_pixel.specs.declared.Size.{Size}
 use Rattle.wf_calls.specs.declared.ports.Modes.{Modes}
 use Rattle.wf_calls.specs.declared.ports.Ports.{Ports}
@@ -19,3 +21,11 @@ ports_to (suc n) modes = ports_to n modes ++ modes_of (suc n) modes ∷ []
 
 abbrev pub ports_of : ℕ → List Mode → ℕ → Ports
 ports_of count modes pipes = record { modes = record { items = ports_to count modes }; pipes = pipes }
+
+-- each mode is of one of the ports, from 1 on
+abbrev pub are_of : ℕ → List Mode → Bool
+are_of count modes = list_all (λ m. nat_le 1 m.port && nat_le m.port count) modes
+
+-- modes and pipelines that declare ports
+abbrev pub declares : ℕ → List Mode → ℕ → Bool
+declares count modes pipes = are_of count modes && may_declare (ports_of count modes pipes)

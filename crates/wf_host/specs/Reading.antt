@@ -5,6 +5,8 @@ use Rattle.wf_calls.specs.declared.call.Job.{Job}
 use Rattle.wf_image.specs.declared.canvas.Canvas.{Canvas}
 use Rattle.wf_host.specs.Held.{adding, canvas_of, without}
 use Rattle.wf_calls.specs.declared.call.Call.TheVariants as call
+use Rattle.wf_host.specs.declared.order.Order.{Order}
+use Rattle.wf_host.specs.declared.order.Order.TheVariants as order
 use Rattle.wf_host.specs.declared.told.Told.{Told}
 use Rattle.wf_host.specs.Made.{AsksCanvas, Gives, Hosted, not_made}
 use Rattle.wf_host.specs.Rows.{copied, stands}
@@ -13,18 +15,18 @@ use Rattle.wf_host.specs.Rows.{copied, stands}
 abbrev pub row_bytes : Bitmap → ℕ
 row_bytes image = image.size.w * pixel_bytes image.format
 
--- the rows of an image are copied where they have room
-abbrev pub CopiesRows : Bitmap → ℕ → List ℕ → List ℕ → Bool → Type 0
-CopiesRows image stride old new done =
+-- the rows of an image are copied in an order of their bytes, where they have room
+abbrev pub CopiesRows : Bitmap → ℕ → Order → List ℕ → List ℕ → Bool → Type 0
+CopiesRows image stride o old new done =
     (done ≡ stands (length old) stride (row_bytes image) image.size.h)
     × (new ≡ (if stands (length old) stride (row_bytes image) image.size.h
-    then copied stride (row_bytes image) (row_bytes image) image.size.h image.bytes old
+    then copied o stride (row_bytes image) (row_bytes image) image.size.h image.bytes old
     else old))
 
 -- those of the picture of a frame that is held
-abbrev pub Reads : Option Job → ℕ → List ℕ → List ℕ → Bool → Type 0
-Reads None stride old new done = (done ≡ false) × (new ≡ old)
-Reads (Some job) stride old new done = CopiesRows job.image stride old new done
+abbrev pub Reads : Option Job → ℕ → Order → List ℕ → List ℕ → Bool → Type 0
+Reads None stride o old new done = (done ≡ false) × (new ≡ old)
+Reads (Some job) stride o old new done = CopiesRows job.image stride o old new done
 
 -- pixels are the rows of an image
 abbrev pub are_rows : ℕ → List ℕ → Bitmap → Bool
@@ -34,7 +36,7 @@ are_rows stride pixels image = stands (length pixels) stride (row_bytes image) i
 abbrev pub written : ℕ → List ℕ → Bitmap → Bitmap
 written stride pixels image =
     if are_rows stride pixels image
-    then record image { bytes = copied (row_bytes image) stride (row_bytes image) image.size.h pixels image.bytes }
+    then record image { bytes = copied order.Rgba (row_bytes image) stride (row_bytes image) image.size.h pixels image.bytes }
     else image
 
 -- pixels are written into the canvas of a stream, where it is held, and nothing else changes

@@ -3,7 +3,7 @@
 ghost use Rattle.std.specs.List.{position};
 ghost use Rattle.std.specs.Option.{IfNone};
 ghost use Rattle.std.specs.Prelude.{◌≡◌, ◌==◌, [], ◌<◌, IfOk, IfSome, length, nat_le};
-ghost use Rattle.wf_host.specs.Held.{adding, canvas_of, without};
+ghost use Rattle.wf_host.specs.Held.{adding, canvas_of, holds, without};
 
 use std::alloc::Global;
 use std::marker::Model;
@@ -59,6 +59,13 @@ impl Canvases {
         ensures { result ≡ nat_le MOST_STREAMS (length self.now) }
     {
         self.held.len() >= MOST_STREAMS as usize
+    }
+
+    /// Tells whether a canvas of `stream` is held.
+    pub(crate) fn is_held(&self, stream: u32) -> bool
+        ensures { result ≡ holds stream self.now }
+    {
+        self.held.iter().any(|one| one.stream == stream)
     }
 
     /// Takes out the canvas of `stream`, or returns `None` where none is held.

@@ -9,6 +9,7 @@ ghost use Rattle.wf_model.specs.Picture.{painted_job};
 ghost use Rattle.wf_host.specs.Painted.{IsBegun, IsEnded, IsKept};
 ghost use Rattle.wf_host.specs.Reading.{CopiesRows, Reads};
 
+use crate::order::Order;
 use crate::rows::{copy_rows, stands};
 use std::alloc::Global;
 use std::marker::Model;
@@ -77,15 +78,16 @@ impl Frame {
         self.painted = true;
     }
 
-    /// Copies the rows of the picture into `out`, each `stride` bytes behind the one before, and tells whether it did: not where no frame
-    /// stands here, nor where `out` has no room for them or a row reaches into the next. Bytes between rows stay.
-    pub fn read(&mut self, out: &mut [u8], stride: usize) -> bool
+    /// Copies the rows of the picture into `out`, each `stride` bytes after the one before, in an `order` of the bytes of a pixel, and
+    /// tells whether it did: not where no frame stands here, nor where `out` has no room for them or a row reaches into the next. Bytes
+    /// between rows stay.
+    pub fn read(&mut self, out: &mut [u8], stride: usize, order: Order) -> bool
         ensures frame { self.new ≡ self.old }
-        ensures copies { Reads self.old stride out.old out.new result }
+        ensures copies { Reads self.old stride order out.old out.new result }
     {
         paint_unless(self.painted, &mut self.place);
         self.painted = true;
-        read_place(&self.place, out, stride)
+        read_place(&self.place, out, stride, order)
     }
 
     /// Begins a frame of `machine` here, by the call of `request` for `client`.
@@ -144,18 +146,18 @@ fn paint_unless(painted: bool, place: &mut JobPlace)
 }
 
 /// Copies the rows of the picture of the frame that stands in a place into `out`, and tells whether it did.
-fn read_place(place: &JobPlace, out: &mut [u8], stride: usize) -> bool
-    ensures { Reads (job_in place.now) stride out.old out.new result }
+fn read_place(place: &JobPlace, out: &mut [u8], stride: usize, order: Order) -> bool
+    ensures { Reads (job_in place.now) stride order out.old out.new result }
 {
     match place.job() {
-        Some(job) => read_image(&job.image, out, stride),
+        Some(job) => read_image(&job.image, out, stride, order),
         None => false,
     }
 }
 
 /// Copies the rows of an `image` into `out`, where they have room, and tells whether they have.
-fn read_image(image: &Image, out: &mut [u8], stride: usize) -> bool
-    ensures { CopiesRows image.now stride out.old out.new result }
+fn read_image(image: &Image, out: &mut [u8], stride: usize, order: Order) -> bool
+    ensures { CopiesRows image.now stride order out.old out.new result }
 {
     let size = image.size();
     let row = size.w as usize * bytes_of_pixel(image.format());
@@ -163,6 +165,6 @@ fn read_image(image: &Image, out: &mut [u8], stride: usize) -> bool
     if !stands(out.len(), stride, row, count) {
         return false;
     }
-    copy_rows(out, stride, image.bytes(), row, row, count);
+    copy_rows(out, stride, image.bytes(), row, row, count, order);
     true
 }

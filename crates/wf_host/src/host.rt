@@ -7,11 +7,13 @@ ghost use Rattle.wf_calls.specs.Requests.{call_of};
 ghost use Rattle.wf_model.specs.State.{opening};
 ghost use Rattle.wf_wire.specs.Asked.{is_acquire};
 ghost use Rattle.wf_wire.specs.Messages.{told_by};
-ghost use Rattle.wf_host.specs.Made.{Asks, AsksCanvas, Begins, Calls, Ends, Gives};
+ghost use Rattle.wf_host.specs.Held.{holds};
+ghost use Rattle.wf_host.specs.Made.{Asks, AsksCanvas, Begins, BeginsBy, Calls, Ends, Gives};
 ghost use Rattle.wf_host.specs.Reading.{Fills, Submits, Writes, are_rows, written};
 
 use crate::canvases::Canvases;
 use crate::frame::Frame;
+use crate::order::Order;
 use crate::rows::{copy_rows, stands};
 use crate::told::Told;
 use std::alloc::Global;
@@ -126,6 +128,13 @@ impl Host {
         }
     }
 
+    /// Tells whether a canvas of `stream` is held.
+    pub fn is_held(&self, stream: u32) -> bool
+        ensures { result ≡ holds stream self.now.canvases }
+    {
+        self.canvases.is_held(stream)
+    }
+
     /// Writes `pixels` into the canvas that is held of `stream`, and tells whether it did: their rows stand `stride` bytes apart. It does
     /// not where none is held, where the pixels are too few, or where a row reaches into the next.
     pub fn write(&mut self, stream: u32, pixels: &[u8], stride: usize) -> bool
@@ -165,8 +174,8 @@ impl Host {
         self.fill(client, stream, pixels, stride)
     }
 
-    /// Begins a frame by a `request` of `client`, which stands in `frame` then. Where one stands there already no call is made.
-    pub fn begin(&mut self, client: u8, request: &Request, frame: &mut Frame) -> Told
+    /// Begins a frame by a `request` of `client` where none stands in `frame`, which has it then.
+    fn begin_frame(&mut self, client: u8, request: &Request, frame: &mut Frame) -> Told
         requires { IsTrue (is_begin (call_of request.now)) }
         ensures { Begins client (call_of request.now) self.old self.new frame.old frame.new result }
     {
@@ -174,6 +183,18 @@ impl Host {
             return Told::not_made();
         }
         Told::of(frame.begin(&mut self.machine, client, request))
+    }
+
+    /// Begins a frame by a `request` of `client`, which stands in `frame` then. Where one stands there already, or where the request
+    /// begins none, no call is made.
+    pub fn begin(&mut self, client: u8, request: &Request, frame: &mut Frame) -> Told
+        ensures { BeginsBy client request.now self.old self.new frame.old frame.new result }
+    {
+        if request.is_begin() {
+            self.begin_frame(client, request, frame)
+        } else {
+            Told::not_made()
+        }
     }
 
     /// Ends the frame that stands in `frame`, for `client`. One that is refused stays there, as that of another machine.
@@ -199,6 +220,14 @@ fn write_image(image: &mut Image, pixels: &[u8], stride: usize) -> bool
     if !stands(pixels.len(), stride, row, count) {
         return false;
     }
-    copy_rows(image.bytes_mut(), row, pixels, stride, row, count);
+    copy_rows(
+        image.bytes_mut(),
+        row,
+        pixels,
+        stride,
+        row,
+        count,
+        Order::Rgba,
+    );
     true
 }

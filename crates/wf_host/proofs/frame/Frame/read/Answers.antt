@@ -15,5 +15,5 @@ returns-clause-frame c =
 
 pub returns-clause-copies : goal.returns-clause-copies
 returns-clause-copies c =
-    subst (λ o. Reads o c.args.stride c.args.out.now c.read_place.new.out c.read_place.result)
+    subst (λ o. Reads o c.args.stride c.args.order c.args.out.now c.read_place.new.out c.read_place.result)
     (c.paint_unless.ensures ∙ c.self.view_is) c.read_place.ensures
