@@ -324,9 +324,9 @@ class Writer:
         return max(least, min(most, self.chance.choice((*EDGES, 2, 3, 4, 5, 6, self.chance.randint(0, 9)))))
 
 
-def session(chance, deeds):
-    """Returns the bytes of a session of so many deeds."""
-    writer = Writer(chance)
+def write(writer, deeds):
+    """Writes a session of so many deeds."""
+    chance = writer.chance
     device = writer.say("DeviceNew")
     writer.say("ScreenContext", device, 1)
     if chance.random() < 0.5:
@@ -338,6 +338,12 @@ def session(chance, deeds):
         getattr(writer, deed)()
     for number in range(1, len(writer.ports) + 1):
         writer.say("BeginPort", number)
+
+
+def session(chance, deeds):
+    """Returns the bytes of a session of so many deeds."""
+    writer = Writer(chance)
+    write(writer, deeds)
     return writer.data
 
 
