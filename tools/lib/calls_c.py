@@ -111,8 +111,9 @@ def rust_messages(table):
     own = {kind.name for kind, _ in worded(table)}
     text = "//! The calls of a machine by their names. tools/calls writes this file.\n\nuse crate::{Machine, Refused};\n"
     for kind, names in worded(table):
-        says = f"The attributes of {'an' if kind.name[0] in 'aeiou' else 'a'} {kind.name}, by their" if kind.is_attribute else "What it may be, by its"
-        text += rust_enum(kind.name.capitalize(), names, f"{says} number{'s' * kind.is_attribute}.")
+        article = "an" if kind.name[0] in "aeiou" else "a"
+        says = f"The attributes of {article} {kind.name}, by their numbers." if kind.is_attribute else "What it may be, by its number."
+        text += rust_enum(kind.name.capitalize(), names, says)
     text += "\nimpl Machine {\n"
     for place, message in enumerate(messages_of(table)):
         arguments = ""
