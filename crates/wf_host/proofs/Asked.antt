@@ -1,5 +1,5 @@
 -- Requests that take nothing.
-use Rattle.std.proofs.Common.{◌≡◌, ℕ, Bool, true, false, ◌&&◌, ◌||◌, nat_le, List, length, refl, sym, ap₂, subst}
+use Rattle.std.proofs.Common.{◌≡◌, ℕ, Bool, true, false, ◌&&◌, ◌||◌, nat_le, length, refl, sym, ap₂, subst}
 use Rattle.wf_calls.specs.declared.reply.Answer.{Answer}
 use Rattle.wf_calls.specs.declared.request.Request.{Request}
 use Rattle.wf_calls.specs.declared.request.Request.TheVariants as request

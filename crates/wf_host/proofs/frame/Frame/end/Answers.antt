@@ -1,4 +1,4 @@
-use Rattle.std.proofs.Common.{◌≡◌, ◌∙◌, IfSome, ap, is_some, option_map, subst, sym, true}
+use Rattle.std.proofs.Common.{◌≡◌, ◌∙◌, IfSome, is_some, option_map, subst, sym, true}
 use Rattle.wf_calls.specs.Places.{job_in}
 use Rattle.wf_model.specs.Picture.{painted_job}
 use Rattle.wf_host.specs.Painted.{IsEnded}

@@ -1,4 +1,4 @@
-use Rattle.std.proofs.Common.{◌∙◌, ap, refl, subst, sym}
+use Rattle.std.proofs.Common.{◌∙◌, refl, subst, sym}
 use Rattle.wf_calls.specs.Replies.{bare}
 use Rattle.wf_host.specs.Made.{Asks, Hosted, told_of}
 use Rattle.wf_host.proofs.Asked.{plain_made, takes_nothing}
