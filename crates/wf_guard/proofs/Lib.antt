@@ -1,0 +1,7 @@
+mod Held
+mod Rest
+mod Screens
+mod Told
+mod Lives
+mod Owned
+mod Foreign

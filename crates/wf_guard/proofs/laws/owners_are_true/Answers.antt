@@ -1,0 +1,5 @@
+use Rattle.wf_guard.proofs.Owned.{always_true}
+use Rattle.wf_guard.proofs.laws.owners_are_true.Goals as goal
+
+pub returns : goal.returns
+returns l ports requests = always_true ports requests

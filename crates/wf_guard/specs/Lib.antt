@@ -1,0 +1,6 @@
+-- What apps may call, and what their calls leave alone.
+
+-- What is promised: the words that the clauses of public functions stand on.
+pub mod Apps
+pub mod Serving
+pub mod Owners
