@@ -14,31 +14,23 @@ use Rattle.wf_calls.specs.declared.reply.Reply.{Reply}
 use Rattle.wf_model.specs.Composition.{CoreSide, core_answer}
 use Rattle.wf_model.specs.Objects.{CoreState}
 use Rattle.wf_model.specs.Outcome.{Outcome}
+use Rattle.wf_model.specs.Sides as sides
+use Rattle.wf_model.specs.Sides.{KeepsAll}
 use Rattle.wf_objects.specs.Fits.{Fits}
 use Rattle.wf_model.specs.Fitting.{IsOfPixels}
 use Rattle.wf_objects.specs.Does.{Does}
-use Rattle.wf_objects.specs.Sides.{KeepsRest, core_side_of, with_streams}
-
--- nothing of the store changed
-abbrev pub KeepsAll : StoreView → StoreView → Type 0
-KeepsAll old new = new ≡ old
+use Rattle.wf_objects.specs.Sides.{KeepsRest, core_side_of}
 
 -- what a creation asks for, once its own refusals are behind it, is made of what was found; or the creation is refused
 abbrev pub Asks : {A : Type 0} → (Bool → CoreSide → Outcome CoreSide) → (A → Bool → CoreSide → Outcome CoreSide) → CoreSide
     → Result A Refusal → Type 0
 Asks plain made w found = (m : Bool) → plain m w ≡ (found >>= (λ x. made x m w))
 
--- a call that names a device: it leaves and answers what the plain call does before streams are dropped, where want of memory is
--- told by the answer; so much of the store is kept; the names of the objects became those that are left; objects and store fit
--- again; and nothing comes with the reply
-pub record Steps (device : ℕ) (plain : Bool → CoreSide → Outcome CoreSide) (Keeps : StoreView → StoreView
-    → Type 0) (core left : CoreState) (store now : StoreView) (reply : Reply) : Type 0 where
-  pub step : core_answer device (core_side_of core store) (plain (is_out_of_memory reply.code) (core_side_of core store))
-      ≡ (core_side_of left (with_streams store.streams now), told reply)
-  pub kept : Keeps store now
-  pub names : Recounts (core_names core) (core_names left) store now
-  pub fits : Fits left now
-  pub bare : reply ≡ bare (told reply)
+-- a call that names a device, with its reply: it leaves and answers what the plain call does, and keeps so much of the store
+abbrev pub Steps : ℕ → (Bool → CoreSide → Outcome CoreSide) → (StoreView → StoreView → Type 0) → CoreState → CoreState → StoreView
+    → StoreView → Reply → Type 0
+Steps device plain Keeps core left store now reply =
+    sides.Steps core_side_of core_names Fits plain (core_answer device) Keeps core left store now reply
 
 -- what was done is answered: the call steps so from where it was made
 abbrev pub StepsOn : ℕ → CoreState → CoreState → StoreView → Result ℕ Refusal → Reply → Type 0

@@ -1,7 +1,8 @@
 //! Whether contexts are active.
 
 ghost use Rattle.wf_model.specs.Core.{activate, deactivate, set_active};
-ghost use Rattle.wf_core.specs.Steps.{KeepsAll, Steps};
+ghost use Rattle.wf_model.specs.Sides.{KeepsAll};
+ghost use Rattle.wf_core.specs.Steps.{Steps};
 ghost use Rattle.wf_objects.specs.Does.{Does};
 ghost use Rattle.wf_objects.specs.Fits.{Fits};
 

@@ -9,7 +9,8 @@ ghost use Rattle.wf_model.specs.Core.{device_new, element_new, screen_context, s
 ghost use Rattle.wf_model.specs.Calls.{core_call};
 ghost use Rattle.wf_model.specs.Fitting.{IsOfPixels};
 ghost use Rattle.wf_core.specs.Links.{link_new};
-ghost use Rattle.wf_core.specs.Steps.{IsGiven, KeepsAll, Steps};
+ghost use Rattle.wf_model.specs.Sides.{KeepsAll};
+ghost use Rattle.wf_core.specs.Steps.{IsGiven, Steps};
 ghost use Rattle.wf_objects.specs.Does.{Does};
 ghost use Rattle.wf_objects.specs.Fits.{Fits};
 

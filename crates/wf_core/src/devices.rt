@@ -3,7 +3,8 @@
 ghost use Rattle.wf_stream.specs.Names.{NamesFit};
 ghost use Rattle.wf_model.specs.Names.{core_names};
 ghost use Rattle.wf_model.specs.Core.{device_destroy, device_new, get_error};
-ghost use Rattle.wf_core.specs.Steps.{KeepsAll, Steps};
+ghost use Rattle.wf_model.specs.Sides.{KeepsAll};
+ghost use Rattle.wf_core.specs.Steps.{Steps};
 ghost use Rattle.wf_objects.specs.Does.{Does};
 ghost use Rattle.wf_objects.specs.Fits.{Fits};
 ghost use Rattle.wf_objects.specs.Sides.{KeepsRest};

@@ -2,7 +2,8 @@
 
 ghost use Rattle.wf_model.specs.Core.{element_above, element_below, element_destroy, element_get, element_insert, element_new};
 ghost use Rattle.wf_model.specs.Core.{element_remove, element_set};
-ghost use Rattle.wf_core.specs.Steps.{KeepsAll, Steps};
+ghost use Rattle.wf_model.specs.Sides.{KeepsAll};
+ghost use Rattle.wf_core.specs.Steps.{Steps};
 ghost use Rattle.wf_objects.specs.Does.{Does};
 ghost use Rattle.wf_objects.specs.Fits.{Fits};
 ghost use Rattle.wf_objects.specs.Sides.{KeepsRest};

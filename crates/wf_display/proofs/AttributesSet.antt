@@ -31,7 +31,8 @@ use Rattle.wf_display.specs.Does.{Does}
 use Rattle.wf_display.specs.Fits.{Fits, PipelineFits, ScreensFit, StreamsFit}
 use Rattle.wf_display.specs.Named.{unchanged}
 use Rattle.wf_display.specs.Places.{IsPlaceOf}
-use Rattle.wf_display.specs.Sides.{beside, display_side_of, with_streams}
+use Rattle.wf_model.specs.Sides.{with_streams}
+use Rattle.wf_display.specs.Sides.{beside, display_side_of}
 use Rattle.wf_display.proofs.NameCounts.{in_parts, pipeline_changed, pipelines_names, source_names}
 
 -- what was read at a place stands there

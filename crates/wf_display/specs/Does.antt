@@ -1,44 +1,26 @@
 -- What a call of the display leaves and answers, by the plain machine.
-use Rattle.std.specs.Prelude.{◌≡◌, ℕ, Bool, OnErr, Result}
-use Rattle.wf_stream.specs.Names.{Recounts}
+use Rattle.std.specs.Prelude.{ℕ, Bool, Result}
+use Rattle.wf_life.specs.declared.Kind.TheVariants as kind
+use Rattle.wf_life.specs.Handles.{same_kind}
 use Rattle.wf_stream.specs.Streams.{StoreView}
-use Rattle.wf_calls.specs.Codes.{is_out_of_memory}
-use Rattle.wf_calls.specs.Replies.{bare, told}
 use Rattle.wf_calls.specs.declared.reply.Refusal.{Refusal}
 use Rattle.wf_calls.specs.declared.reply.Reply.{Reply}
 use Rattle.wf_model.specs.DisplaySides.{DisplaySide, display_answer}
 use Rattle.wf_model.specs.Names.{display_names}
 use Rattle.wf_model.specs.Outcome.{Outcome}
+use Rattle.wf_model.specs.Sides as sides
 use Rattle.wf_model.specs.State.{DisplayState}
-use Rattle.wf_model.specs.Outcome.{lacks_memory}
 use Rattle.wf_display.specs.Fits.{Fits}
-use Rattle.wf_display.specs.Sides.{KeepsRest, display_side_of, with_streams}
-use Rattle.wf_model.specs.Outcome.{done_by}
+use Rattle.wf_display.specs.Sides.{display_side_of}
 
--- before streams are dropped it leaves and answers what the plain call does, where want of memory is told by the answer; a refused one
--- changes nothing; of the store it makes or takes a handle at most, beside names; the names that it ended and began are counted, and the
--- streams of which no name is left are dropped; and objects and store fit again
-pub record Does (plain : Bool → DisplaySide → Outcome DisplaySide) (d left : DisplayState) (store now : StoreView)
-    (result : Result ℕ Refusal) : Type 0 where
-  pub case : plain (lacks_memory result) (display_side_of d store) ≡ done_by result (display_side_of left (with_streams store.streams now))
-  pub refused : OnErr result (left ≡ d)
-  pub untouched : OnErr result (now ≡ store)
-  pub kept : KeepsRest store now
-  pub names : Recounts (display_names d) (display_names left) store now
-  pub fits : Fits left now
+-- a body of the display leaves and answers what the plain call does
+abbrev pub Does : (Bool → DisplaySide → Outcome DisplaySide) → DisplayState → DisplayState → StoreView → StoreView → Result ℕ Refusal
+    → Type 0
+Does plain d left store now result =
+    sides.Does display_side_of display_names Fits plain (λ k. same_kind k kind.DisplaySource) d left store now result
 
--- nothing of the store changed
-abbrev pub KeepsAll : StoreView → StoreView → Type 0
-KeepsAll old new = new ≡ old
-
--- a call with its reply: before streams are dropped it leaves and answers what the plain call does, where want of memory is told by the
--- answer; so much of the store is kept; the names that ended and began are counted; objects and store fit again; and nothing comes with
--- the reply
-pub record Steps (plain : Bool → DisplaySide → Outcome DisplaySide) (Keeps : StoreView → StoreView → Type 0) (d left : DisplayState)
-    (store now : StoreView) (reply : Reply) : Type 0 where
-  pub step : display_answer (display_side_of d store) (plain (is_out_of_memory reply.code) (display_side_of d store))
-      ≡ (display_side_of left (with_streams store.streams now), told reply)
-  pub kept : Keeps store now
-  pub names : Recounts (display_names d) (display_names left) store now
-  pub fits : Fits left now
-  pub bare : reply ≡ bare (told reply)
+-- a call of the display, with its reply: it leaves and answers what the plain call does, and keeps so much of the store
+abbrev pub Steps : (Bool → DisplaySide → Outcome DisplaySide) → (StoreView → StoreView → Type 0) → DisplayState → DisplayState → StoreView
+    → StoreView → Reply → Type 0
+Steps plain Keeps d left store now reply =
+    sides.Steps display_side_of display_names Fits plain display_answer Keeps d left store now reply

@@ -6,7 +6,8 @@ ghost use Rattle.wf_calls.specs.Parts.{part_of};
 ghost use Rattle.wf_calls.specs.Requests.{call_of};
 ghost use Rattle.wf_model.specs.Calls.{display_call};
 ghost use Rattle.wf_model.specs.Pipelines.{display_source};
-ghost use Rattle.wf_display.specs.Does.{Does, KeepsAll, Steps};
+ghost use Rattle.wf_model.specs.Sides.{KeepsAll};
+ghost use Rattle.wf_display.specs.Does.{Does, Steps};
 ghost use Rattle.wf_display.specs.Fits.{Fits};
 
 use crate::display::Display;

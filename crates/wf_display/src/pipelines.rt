@@ -5,7 +5,8 @@ ghost use Rattle.wf_scene.specs.Values.{at_index, is_count};
 ghost use Rattle.wf_model.specs.DisplaySides.{on_display};
 ghost use Rattle.wf_model.specs.Pipelines.{may_bind, named_port, pipe_bind_port, pipe_bind_source, pipe_get, pipe_set};
 ghost use Rattle.wf_model.specs.Pipelines.{pipeline_numbers, pipeline_styled, unmasked_of};
-ghost use Rattle.wf_display.specs.Does.{Does, KeepsAll, Steps};
+ghost use Rattle.wf_model.specs.Sides.{KeepsAll};
+ghost use Rattle.wf_display.specs.Does.{Does, Steps};
 ghost use Rattle.wf_display.specs.Fits.{Fits};
 
 use crate::display::Display;

@@ -5,7 +5,8 @@ ghost use Rattle.wf_scene.specs.Values.{at_index};
 ghost use Rattle.wf_model.specs.DisplaySides.{on_display};
 ghost use Rattle.wf_model.specs.Ports.{attach, mode_of, opaque_of, port_get, port_numbers, port_set, port_styled, shown_size};
 ghost use Rattle.wf_model.specs.State.{mode_size};
-ghost use Rattle.wf_display.specs.Does.{Does, KeepsAll, Steps};
+ghost use Rattle.wf_model.specs.Sides.{KeepsAll};
+ghost use Rattle.wf_display.specs.Does.{Does, Steps};
 ghost use Rattle.wf_display.specs.Fits.{Fits};
 
 use crate::display::Display;

@@ -10,7 +10,8 @@ ghost use Rattle.wf_model.specs.Calls.{display_call};
 ghost use Rattle.wf_model.specs.Registers.{display_error};
 ghost use Rattle.wf_model.specs.DisplaySides.{on_display};
 ghost use Rattle.wf_model.specs.Names.{display_names};
-ghost use Rattle.wf_display.specs.Does.{Does, KeepsAll, Steps};
+ghost use Rattle.wf_model.specs.Sides.{KeepsAll};
+ghost use Rattle.wf_display.specs.Does.{Does, Steps};
 ghost use Rattle.wf_display.specs.Fits.{Fits};
 ghost use Rattle.wf_display.specs.Sides.{KeepsRest};
 

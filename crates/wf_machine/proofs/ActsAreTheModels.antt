@@ -28,7 +28,8 @@ use Rattle.wf_model.specs.Composing.{display_side, displayed, with_display_side}
 use Rattle.wf_model.specs.DisplaySides.{display_answer}
 use Rattle.wf_model.specs.Kept.{modes_in, modes_stay}
 use Rattle.wf_objects.specs.Fits.{mask_live, source_live}
-use Rattle.wf_objects.specs.Sides.{KeepsRest, core_side_of, with_streams}
+use Rattle.wf_model.specs.Sides.{with_streams}
+use Rattle.wf_objects.specs.Sides.{KeepsRest, core_side_of}
 use Rattle.wf_display.specs.Does as does
 use Rattle.wf_display.specs.Fits.{Fits as Shows, source_live as shown_live}
 use Rattle.wf_display.specs.Sides as displays
@@ -204,7 +205,7 @@ module _ (m : Bool) (inside : Inside) (h : State) (seen : state_of inside ≡ h)
     (names : Recounts (display_names inside.display) (display_names d) inside.store store) (fits : Shows d store)
     (step : display_answer (displays.display_side_of inside.display inside.store)
     (display_call m c (displays.display_side_of inside.display inside.store))
-    ≡ (displays.display_side_of d (displays.with_streams inside.store.streams store), a)) where
+    ≡ (displays.display_side_of d (with_streams inside.store.streams store), a)) where
   -- it changes no modes
   same_modes : modes_of d ≡ modes_of inside.display
   same_modes = sym (ap (λ x. modes_in x.0) step) ∙ modes_stay m c (displays.display_side_of inside.display inside.store)
@@ -228,7 +229,7 @@ module _ (m : Bool) (inside : Inside) (h : State) (seen : state_of inside ≡ h)
       side = display_side_is inside sound.holds ∙ ap display_side seen
 
       left_side : DisplaySide
-      left_side = displays.display_side_of d (displays.with_streams inside.store.streams store)
+      left_side = displays.display_side_of d (with_streams inside.store.streams store)
 
       there : display_answer (display_side h) (display_call m c (display_side h)) ≡ (left_side, a)
       there = ap (λ w. display_answer w (display_call m c w)) (sym side) ∙ step

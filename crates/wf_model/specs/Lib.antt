@@ -17,6 +17,7 @@ pub mod DisplayCommits
 pub mod Display
 pub mod Frames
 pub mod Streams
+pub mod Sides
 pub mod Composing
 pub mod Registers
 pub mod Calls

@@ -19,26 +19,19 @@ use Rattle.wf_model.specs.Names.{core_names}
 use Rattle.wf_model.specs.Objects.{Context, CoreState, Source}
 use Rattle.wf_model.specs.Outcome.{Outcome, found}
 use Rattle.wf_model.specs.Composition.{CoreSide, change_context, context, created, device, element_context, with_cached}
+use Rattle.wf_model.specs.Sides as sides
 use Rattle.wf_model.specs.Core.{blank_scene, by_scene, contexts_full, linked, refusal_code, room, sources_full}
 use Rattle.wf_objects.specs.Fits.{Fits}
 use Rattle.wf_objects.specs.Links.{links, with_links}
 use Rattle.wf_objects.specs.Owners.{StandsAt, joined, owned_context, owning_context}
 use Rattle.wf_model.specs.Outcome.{at_place}
-use Rattle.wf_objects.specs.Sides.{KeepsRest, core_side_of, with_streams}
+use Rattle.wf_objects.specs.Sides.{core_side_of, is_of_composition}
 use Rattle.wf_model.specs.Outcome.{done_by, lacks_memory}
 use Rattle.wf_scene.specs.declared.TheConstants.{MOST_ELEMENTS}
 
--- it leaves and answers what the plain call does before streams are dropped, where want of memory is told by the answer; a refused
--- one changes nothing; of the store it makes or takes handles at most, and the names of the objects became those that are left; and
--- objects and store fit again
-pub record Does (plain : Bool → CoreSide → Outcome CoreSide) (core left : CoreState) (store now : StoreView)
-    (result : Result ℕ Refusal) : Type 0 where
-  pub case : plain (lacks_memory result) (core_side_of core store) ≡ done_by result (core_side_of left (with_streams store.streams now))
-  pub refused : OnErr result (left ≡ core)
-  pub untouched : OnErr result (now ≡ store)
-  pub kept : KeepsRest store now
-  pub names : Recounts (core_names core) (core_names left) store now
-  pub fits : Fits left now
+-- a body of composition leaves and answers what the plain call does
+abbrev pub Does : (Bool → CoreSide → Outcome CoreSide) → CoreState → CoreState → StoreView → StoreView → Result ℕ Refusal → Type 0
+Does plain core left store now result = sides.Does core_side_of core_names Fits plain is_of_composition core left store now result
 
 -- what becomes of a context that was found: by its handle, whether memory is refused, and what the call sees
 abbrev pub Step : Type 0

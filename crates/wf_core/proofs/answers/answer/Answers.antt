@@ -1,6 +1,6 @@
 use Rattle.std.proofs.Common.{refl}
 use Rattle.wf_objects.specs.Sides.{KeepsRest}
-use Rattle.wf_core.specs.Steps.{KeepsAll}
+use Rattle.wf_model.specs.Sides.{KeepsAll}
 use Rattle.wf_core.proofs.CallsAnswered.{carried_out, turned_down}
 use Rattle.wf_core.proofs.answers.answer.Goals as goal
 
