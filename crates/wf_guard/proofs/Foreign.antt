@@ -9,8 +9,9 @@ use Rattle.wf_calls.specs.declared.call.Call.TheVariants as call
 use Rattle.wf_calls.specs.declared.code.Code.{Code}
 use Rattle.wf_calls.specs.declared.code.Code.TheVariants as code
 use Rattle.wf_guard.specs.Apps.{is_found, is_of_apps, names_stream}
-use Rattle.wf_guard.specs.Owners.{AreApart, brings}
+use Rattle.wf_guard.specs.Owners.{brings}
 use Rattle.wf_guard.specs.Serving.{Served, Told, allowed, carried, held_by, nothing, owns, plain, refusal_of, served, takes}
+use Rattle.wf_guard.proofs.Numbered.{AreApart}
 use Rattle.wf_guard.proofs.Rest.{leaves_rest}
 
 -- the stream of a handle has it

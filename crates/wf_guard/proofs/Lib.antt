@@ -4,4 +4,5 @@ mod Screens
 mod Told
 mod Lives
 mod Owned
+mod Numbered
 mod Foreign

@@ -6,7 +6,7 @@ use Rattle.wf_calls.specs.declared.call.Call.TheVariants as call
 use Rattle.wf_calls.specs.declared.ports.Ports.{Ports}
 use Rattle.wf_calls.specs.declared.reply.Reply.{Reply}
 use Rattle.wf_model.specs.State.{opening}
-use Rattle.wf_stream.specs.Streams.{KeptStream, stream_at, stream_of}
+use Rattle.wf_stream.specs.Streams.{KeptStream}
 use Rattle.wf_guard.specs.Serving.{Asked, Served, served}
 
 -- the handles of the live streams, in the order in which these were made; a stream whose handle is dead has the handle 0
@@ -42,10 +42,6 @@ Request = ℕ × Asked × Bool
 abbrev pub after_requests : Served → List Request → Served
 after_requests v [] = v
 after_requests v (r ∷ rs) = after_requests (served r.0 r.1 r.2 v).0 rs
-
--- the stream of a live handle is the stream of its number: no number stands twice
-abbrev pub AreApart : List KeptStream → Type 0
-AreApart ss = (handle : ℕ) (t : KeptStream) → stream_of handle ss ≡ Some t → stream_at t.number ss ≡ Some t
 
 -- a call that brings a write buffer
 abbrev pub brings : Call → Bool

@@ -4,7 +4,7 @@ ghost use Rattle.std.specs.Prelude.{◌≡◌, ◌==◌, ℕ, Bool, false, List,
 ghost use Rattle.wf_calls.specs.declared.call.Call.{Call};
 ghost use Rattle.wf_calls.specs.declared.ports.Ports.{Ports};
 ghost use Rattle.wf_guard.specs.Apps.{LeavesTheRest, LooksSame, SameScreens, is_of_apps};
-ghost use Rattle.wf_guard.specs.Owners.{AreApart, AreTrue, Request, after_requests, brings, lives_after, live_handles, opened};
+ghost use Rattle.wf_guard.specs.Owners.{AreTrue, Request, after_requests, brings, lives_after, live_handles, opened};
 ghost use Rattle.wf_guard.specs.Serving.{Asked, Served, held_by, owns, plain, served};
 ghost use Rattle.wf_model.specs.State.{State};
 ghost use Rattle.wf_model.specs.Step.{step};
@@ -38,11 +38,13 @@ pub fn no_app_changes_the_screens()
         → SameScreens v.machine (served a x memory_refused v).0.machine }
 {}
 
-/// Shows that a live stream which an app does not own stays as it was, whatever call the app asks for that brings no write buffer.
+/// Shows that in every state that requests lead to a live stream which an app does not own stays as it was, whatever call the app asks for
+/// that brings no write buffer.
 pub fn no_app_touches_a_foreign_stream()
-    ensures { (v : Served) (a : ℕ) (c : Call) (memory_refused : Bool) (n : ℕ) (s : KeptStream) → IsFalse (a == 0) → brings c ≡ false
-        → AreApart v.machine.streams → stream_at n v.machine.streams ≡ Some s → (s.handle == 0) ≡ false
-        → owns a s.handle v.owned ≡ false → stream_at n (served a (plain c) memory_refused v).0.machine.streams ≡ Some s }
+    ensures { (ports : Ports) (requests : List Request) → let v : Served = after_requests (opened ports) requests in
+        (a : ℕ) (c : Call) (memory_refused : Bool) (n : ℕ) (s : KeptStream) → IsFalse (a == 0) → brings c ≡ false
+        → stream_at n v.machine.streams ≡ Some s → (s.handle == 0) ≡ false → owns a s.handle v.owned ≡ false
+        → stream_at n (served a (plain c) memory_refused v).0.machine.streams ≡ Some s }
 {}
 
 /// Shows that which streams are live follows from the calls and their answers alone: a stream lives from the call that made it to the call
