@@ -2,15 +2,19 @@
 use Rattle.std.proofs.Common.{◌≡◌, ◌∙◌, ℕ, Bool, true, false, cond, not, ◌==◌, ◌&&◌, List, [], ◌∷◌, Option, Some, None, refl, sym, ap}
 use Rattle.std.proofs.Common.{subst}
 use Rattle.std.proofs.lemmas.Bool.{eqb-true}
-use Rattle.wf_image.specs.declared.canvas.Canvas.{Canvas}
 use Rattle.wf_stream.specs.Streams.{KeptStream, has_number, stream_at, stream_of}
-use Rattle.wf_calls.specs.declared.call.Call.{Call}
-use Rattle.wf_calls.specs.declared.call.Call.TheVariants as call
 use Rattle.wf_calls.specs.declared.code.Code.{Code}
-use Rattle.wf_calls.specs.declared.code.Code.TheVariants as code
-use Rattle.wf_guard.specs.Apps.{is_found, is_of_apps, names_stream}
-use Rattle.wf_guard.specs.Owners.{brings}
-use Rattle.wf_guard.specs.Serving.{Served, Told, allowed, carried, held_by, nothing, owns, plain, refusal_of, served, takes}
+use Rattle.wf_calls.specs.Requests.{call_of}
+use Rattle.wf_calls.specs.declared.request.Request.{Request}
+use Rattle.wf_calls.specs.declared.request.Request.TheVariants as request
+use Rattle.wf_host.specs.Made.{not_made}
+use Rattle.wf_host.specs.declared.told.Told.{Told}
+use Rattle.wf_model.specs.Step.{step}
+use Rattle.wf_guard.specs.Apps.{is_found, names_stream}
+use Rattle.wf_guard.specs.Policy.{owns, refusal_of}
+use Rattle.wf_guard.specs.Requests.{is_for_apps}
+use Rattle.wf_guard.specs.Serving.{Served, allowed, lacks_place, made, plain, served}
+use Rattle.wf_guard.proofs.ForApps.{acquires_own, destroys_own, kinds_let_through, let_through}
 use Rattle.wf_guard.proofs.Numbered.{AreApart}
 use Rattle.wf_guard.proofs.Rest.{leaves_rest}
 
@@ -61,44 +65,28 @@ module _ (v : Served) (a : ℕ) (app : (a == 0) ≡ false) (n : ℕ) (s : KeptSt
           let no : true ≡ false = sym own ∙ ap (λ k. owns a k v.owned) (sym here) ∙ foreign in
           absurd cc
 
-  -- what is not refused for its owner is its own
-  of_owner : (b : Bool) → cond {A = Option Code} b None (Some code.BadHandle) ≡ None → b ≡ true
-  of_owner true none = refl
-  of_owner false none = absurd cc
+  -- a request that is let through names another stream
+  names_another : (r : Request) → refusal_of a r v.owned ≡ None → is_for_apps r ≡ true → names_stream (call_of r) v.machine s ≡ false
+  names_another (request.StreamNew width height format buffers) none may = refl
+  names_another (request.StreamQueue width height format depth) none may = refl
+  names_another (request.StreamDestroy stream) none may = own_is_other stream (destroys_own a app v.owned stream none)
+  names_another (request.Acquire stream) none may =
+      own_is_elsewhere stream (acquires_own a app v.owned stream none) (stream_of stream v.machine.streams) refl
+  names_another _ none may = absurd cc
 
-  -- a call that is allowed names another stream
-  names_another : (c : Call) → brings c ≡ false → is_of_apps c ≡ true → refusal_of a c v.owned ≡ None
-      → names_stream c v.machine s ≡ false
-  names_another (call.StreamNew width height format buffers) bare may none = refl
-  names_another (call.StreamQueue width height format depth) bare may none = refl
-  names_another (call.StreamDestroy stream) bare may none =
-      own_is_other stream (of_owner (owns a stream v.owned) (rw app at none))
-  names_another (call.Acquire stream) bare may none =
-      own_is_elsewhere stream (of_owner (owns a stream v.owned) (rw app at none))
-      (stream_of stream v.machine.streams) refl
-  names_another (call.Post canvas) bare may none = absurd cc
-  names_another (call.Discard canvas) bare may none = absurd cc
-  names_another _ bare may none = absurd cc
-
-  module _ (live : (s.handle == 0) ≡ false) (c : Call) (m : Bool) (bare : brings c ≡ false) where
+  module _ (live : (s.handle == 0) ≡ false) (r : Request) (m : Bool) where
     abbrev Stays : Served → Type 0
     Stays w = stream_at n w.machine.streams ≡ Some s
 
-    carries : (t : Bool) → is_of_apps c ≡ true → refusal_of a c v.owned ≡ None → Stays (carried a c t m v).0
-    carries t may none = (leaves_rest v.machine a c m may).streams n s found live (names_another c bare may none)
-
-    allows : is_of_apps c ≡ true → (r : Option Code) → refusal_of a c v.owned ≡ r → (o : Option Canvas) → Stays (allowed a c m v r o).0
-    allows may (Some refused) is o = found
-    allows may None is (Some canvas) = of_taking (takes c)
+    allows : (why : Option Code) → refusal_of a r v.owned ≡ why → Stays (allowed a r m v why).0
+    allows (Some why) is = found
+    allows None is = of_place (lacks_place a r v.held)
       where
-        of_taking : (t : Bool) → Stays (cond {A = Served × Told} t (v, nothing) (carried a c false m v)).0
-        of_taking true = found
-        of_taking false = carries false may is
-    allows may None is None = carries (takes c) may is
+        of_place : (b : Bool) → Stays (cond {A = Served × Told} b (v, not_made) (made a r v (step v.machine a (call_of r) m))).0
+        of_place true = found
+        of_place false =
+            (leaves_rest v.machine a (call_of r) m (kinds_let_through a app v.owned r is)).streams n s found live
+            (names_another r is (let_through a app v.owned r is))
 
-    of_kind : (b : Bool) → is_of_apps c ≡ b → Stays (allowed a c m v (refusal_of a c v.owned) (held_by a v.held)).0
-    of_kind true is = allows is (refusal_of a c v.owned) refl (held_by a v.held)
-    of_kind false is = rw (app, is) found
-
-    pub stays_as_it_was : Stays (served a (plain c) m v).0
-    stays_as_it_was = of_kind (is_of_apps c) refl
+    pub stays_as_it_was : Stays (served a (plain r) m v).0
+    stays_as_it_was = allows (refusal_of a r v.owned) refl

@@ -1,8 +1,9 @@
 mod Held
 mod Rest
+mod ForApps
 mod Screens
 mod Told
 mod Lives
-mod Owned
+mod OwnersTrue
 mod Numbered
 mod Foreign

@@ -42,7 +42,7 @@ use Rattle.wf_model.specs.Step.{act, act_of, step}
 use Rattle.wf_model.specs.Streams.{acquirable, acquire_step, canvas_back, is_out_at_client, may_make, new_buffers, stream_destroy}
 use Rattle.wf_model.specs.Streams.{stream_made}
 use Rattle.wf_model.specs.Streams.{stream_step, with_stream}
-use Rattle.wf_guard.specs.Owners.{lives_after, lives_if, live_handles}
+use Rattle.wf_guard.specs.LiveStreams.{lives_after, lives_if, live_handles}
 
 -- lists of streams
 

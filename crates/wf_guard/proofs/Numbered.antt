@@ -1,6 +1,6 @@
 -- The numbers of streams rise in every state that requests lead to, so no number stands twice.
-use Rattle.std.proofs.Common.{◌≡◌, ◌∙◌, ℕ, zero, suc, ◌+◌, ◌<◌, ◌≤◌, Bool, true, false, cond, not, ◌==◌, ◌&&◌, List, [], ◌∷◌, ◌++◌}
-use Rattle.std.proofs.Common.{map, length, Option, Some, None, refl, sym, ap, subst, arith}
+use Rattle.std.proofs.Common.{◌≡◌, ℕ, ◌+◌, ◌<◌, Bool, true, false, cond, not, ◌==◌, ◌&&◌, List, [], ◌∷◌}
+use Rattle.std.proofs.Common.{map, length, Option, Some, None, refl, sym, subst, arith}
 use Rattle.std.specs.List.{range_with_len, zip}
 use Rattle.wf_words.specs.Keyed.{is_in}
 use Rattle.wf_words.specs.Rising.{RisesTo, found_above, rises_to, rises_to_change, rises_to_filter, rises_to_more}
@@ -18,7 +18,12 @@ use Rattle.wf_calls.specs.declared.call.JobKind.TheVariants as kind
 use Rattle.wf_calls.specs.declared.code.Code.{Code}
 use Rattle.wf_calls.specs.declared.ports.Modes.{Modes}
 use Rattle.wf_calls.specs.declared.ports.Ports.{Ports}
+use Rattle.wf_calls.specs.Requests.{call_of}
 use Rattle.wf_calls.specs.declared.reply.Reply.{Reply}
+use Rattle.wf_calls.specs.declared.request.Request.{Request}
+use Rattle.wf_host.specs.Held.{canvas_of}
+use Rattle.wf_host.specs.Made.{not_made}
+use Rattle.wf_host.specs.declared.told.Told.{Told}
 use Rattle.wf_model.specs.Effects.{Effect, acquires, begins, composes, displays, effect, ends, makes, refuses, returns, tells, unnames}
 use Rattle.wf_model.specs.Frames.{brought_home, delivered, drawing, home_if, latch, latched_among, scene_streams}
 use Rattle.wf_model.specs.Names.{all_names, settle_if}
@@ -26,9 +31,9 @@ use Rattle.wf_model.specs.Picture.{Images}
 use Rattle.wf_model.specs.Registers.{offered}
 use Rattle.wf_model.specs.State.{State, screen}
 use Rattle.wf_model.specs.Step.{act, step}
-use Rattle.wf_guard.specs.Owners.{Request, after_requests, opened}
-use Rattle.wf_guard.specs.Serving.{Asked, Served, Told, allowed, carried, discard, draw, held_by, plain, post, refusal_of, served, takes}
-use Rattle.wf_guard.specs.Serving.{with_held}
+use Rattle.wf_guard.specs.LiveStreams.{Turn, after_turns, opened}
+use Rattle.wf_guard.specs.Policy.{refusal_of}
+use Rattle.wf_guard.specs.Serving.{Asked, Served, allowed, discard, draw, drawn, given, lacks_place, made, plain, post, served, with_held}
 
 -- the stream of a live handle is the stream of its number
 abbrev pub AreApart : List KeptStream → Type 0
@@ -138,37 +143,36 @@ step_rises h client c m rise =
 -- requests
 
 module _ (v : Served) (rise : NumbersRise v.machine) where
-  allows : (client : ℕ) (c : Call) (m : Bool) (refused : Option Code) (canvas : Option Canvas)
-      → NumbersRise (allowed client c m v refused canvas).0.machine
-  allows client c m (Some refused) canvas = rise
-  allows client c m None (Some canvas) = of_test (takes c) refl
+  allows : (client : ℕ) (r : Request) (m : Bool) (why : Option Code) → NumbersRise (allowed client r m v why).0.machine
+  allows client r m (Some why) = rise
+  allows client r m None = of_place (lacks_place client r v.held)
     where
-      of_test : (b : Bool) → takes c ≡ b → NumbersRise (allowed client c m v None (Some canvas)).0.machine
-      of_test true is = rw is rise
-      of_test false is = rw is (step_rises v.machine client c m rise)
-  allows client c m None None = step_rises v.machine client c m rise
+      of_place : (b : Bool)
+          → NumbersRise (cond {A = Served × Told} b (v, not_made) (made client r v (step v.machine client (call_of r) m))).0.machine
+      of_place true = rise
+      of_place false = step_rises v.machine client (call_of r) m rise
 
-  gives : (client : ℕ) (c : Canvas → Call) (m : Bool) (o : Option Canvas)
-      → NumbersRise (with_held (λ canvas. carried client (c canvas) true m v) v o).0.machine
+  gives : (client : ℕ) (c : Canvas → Call) (m : Bool) (o : Option Canvas) → NumbersRise (with_held (given client c m v) v o).0.machine
   gives client c m None = rise
   gives client c m (Some canvas) = step_rises v.machine client (c canvas) m rise
 
-  serves : (client : ℕ) (x : Asked) (m : Bool) → NumbersRise (served client x m v).0.machine
-  serves client (plain c) m = allows client c m (refusal_of client c v.owned) (held_by client v.held)
-  serves client post m = gives client call.Post m (held_by client v.held)
-  serves client discard m = gives client call.Discard m (held_by client v.held)
-  serves client (draw paint) m = of_held (held_by client v.held) refl
-    where
-      of_held : (o : Option Canvas) → held_by client v.held ≡ o → NumbersRise (served client (draw paint) m v).0.machine
-      of_held None is = rw is rise
-      of_held (Some canvas) is = rw is rise
+  paints : (client : ℕ) (paint : Bitmap → Bitmap) (o : Option Canvas) → NumbersRise (with_held (drawn client paint v) v o).0.machine
+  paints client paint None = rise
+  paints client paint (Some canvas) = rise
 
-runs_rise : (rs : List Request) (v : Served) → NumbersRise v.machine → NumbersRise (after_requests v rs).machine
+  serves : (client : ℕ) (x : Asked) (m : Bool) → NumbersRise (served client x m v).0.machine
+  serves client (plain r) m = allows client r m (refusal_of client r v.owned)
+  serves client post m = gives client call.Post m (canvas_of client v.held)
+  serves client discard m = gives client call.Discard m (canvas_of client v.held)
+  serves client (draw paint) m = paints client paint (canvas_of client v.held)
+
+runs_rise : (rs : List Turn) (v : Served) → NumbersRise v.machine → NumbersRise (after_turns v rs).machine
 runs_rise [] v rise = rise
 runs_rise (r ∷ rs) v rise = runs_rise rs (served r.0 r.1 r.2 v).0 (serves v rise r.0 r.1 r.2)
 
 -- screens are numbered first
-screens_rise : (low : ℕ) (ms : List Modes) → RisesTo number low (map screen (zip (range_with_len (low + 1) (length ms)) ms)) (low + length ms)
+screens_rise : (low : ℕ) (ms : List Modes)
+    → RisesTo number low (map screen (zip (range_with_len (low + 1) (length ms)) ms)) (low + length ms)
 screens_rise low [] = omega arith
 screens_rise low (m ∷ ms) =
     let same : low + 1 + length ms ≡ low + length (m ∷ ms) = omega arith in (
@@ -176,8 +180,8 @@ screens_rise low (m ∷ ms) =
       subst (RisesTo number (low + 1) (map screen (zip (range_with_len (low + 1 + 1) (length ms)) ms))) same (screens_rise (low + 1) ms),
     )
 
-pub always_apart : (ports : Ports) (rs : List Request) → AreApart (after_requests (opened ports) rs).machine.streams
+pub always_apart : (ports : Ports) (rs : List Turn) → AreApart (after_turns (opened ports) rs).machine.streams
 always_apart ports rs =
     let count : 0 + length ports.modes.items ≡ length ports.modes.items = omega arith in
-    rise_apart (after_requests (opened ports) rs).machine
+    rise_apart (after_turns (opened ports) rs).machine
     (runs_rise rs (opened ports) (subst (RisesTo number 0 (opened ports).machine.streams) count (screens_rise 0 ports.modes.items)))

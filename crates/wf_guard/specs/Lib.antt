@@ -1,6 +1,8 @@
 -- What apps may call, and what their calls leave alone.
 
 -- What is promised: the words that the clauses of public functions stand on.
+pub mod Requests
+pub mod Policy
 pub mod Apps
 pub mod Serving
-pub mod Owners
+pub mod LiveStreams

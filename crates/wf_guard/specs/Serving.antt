@@ -1,118 +1,101 @@
--- A run of the serving core, but for the bytes: what it keeps beside the machine, and what a client's request leaves and answers.
-use Rattle.std.specs.Prelude.{ℕ, Bool, true, false, not, ◌&&◌, ◌==◌, List, [], ◌∷◌, ◌++◌, filter, find, Option, Some, None, option_map}
-use Rattle.std.specs.Prelude.{if◌then◌else◌}
-use Rattle.std.specs.List.{list_any}
+-- What a core serves to several clients of one machine: what it keeps beside the machine, and what a client's request leaves and answers.
+use Rattle.std.specs.Prelude.{◌≡◌, ℕ, Bool, ◌&&◌, ◌||◌, nat_le, List, length, Option, Some, None, if◌then◌else◌}
 use Rattle.wf_image.specs.Bitmap.{Bitmap}
 use Rattle.wf_image.specs.declared.canvas.Canvas.{Canvas}
 use Rattle.wf_calls.specs.Codes.{is_ok_code}
+use Rattle.wf_calls.specs.Replies.{bare, given_canvas, refusal, refused}
+use Rattle.wf_calls.specs.Requests.{call_of}
 use Rattle.wf_calls.specs.declared.call.Call.{Call}
 use Rattle.wf_calls.specs.declared.call.Call.TheVariants as call
 use Rattle.wf_calls.specs.declared.code.Code.{Code}
-use Rattle.wf_calls.specs.declared.code.Code.TheVariants as code
-use Rattle.wf_calls.specs.declared.reply.Payload.{Payload}
-use Rattle.wf_calls.specs.declared.reply.Payload.TheVariants as payload
 use Rattle.wf_calls.specs.declared.reply.Reply.{Reply}
+use Rattle.wf_calls.specs.declared.request.Request.{Request}
+use Rattle.wf_host.specs.Held.{adding, canvas_of, holds, without}
+use Rattle.wf_host.specs.Made.{not_made, told_of}
+use Rattle.wf_host.specs.declared.canvases.Held.{Held}
+use Rattle.wf_host.specs.declared.told.Told.{Told}
 use Rattle.wf_model.specs.State.{State}
 use Rattle.wf_model.specs.Step.{step}
-use Rattle.wf_guard.specs.Apps.{is_of_apps}
+use Rattle.wf_stream.specs.declared.TheConstants.{MOST_STREAMS}
+use Rattle.wf_wire.specs.Asked.{is_acquire}
+use Rattle.wf_guard.specs.Policy.{owned_after, refusal_of}
+use Rattle.wf_guard.specs.declared.owners.Owned.{Owned}
 
--- a live stream, by its handle, and the client that made it
-pub record Owned : Type 0 where
-  pub stream : ℕ
-  pub client : ℕ
-
--- the write buffer that a client holds
-pub record Holding : Type 0 where
-  pub client : ℕ
-  pub canvas : Canvas
-
--- the machine, the makers of its live streams, what clients hold, who waits for the next tick, and how many ticks there were
+-- the machine, the makers of its live streams, the write buffers that clients hold by their numbers, whether each client waits for the
+-- next tick, and how many ticks there were
 pub record Served : Type 0 where
   pub machine : State
   pub owned : List Owned
-  pub held : List Holding
-  pub waiting : List ℕ
+  pub held : List Held
+  pub waiting : List Bool
   pub ticks : ℕ
 
--- what a client asks of the machine: a call that brings nothing, or one on the write buffer that it holds
+-- what a client asks for: what a request says, or something of the write buffer that it holds
 pub data Asked : Type 0 where
-  plain : Call → Asked
+  plain : Request → Asked
   post : Asked
   discard : Asked
   draw : (Bitmap → Bitmap) → Asked
 
--- what is answered: a code, or that there was no event, and a value
-pub data Told : Type 0 where
-  answer : Code → ℕ → Told
-  nothing : Told
+-- what is told of a refusal by a code alone
+abbrev pub refused_by : Code → Told
+refused_by why = told_of (bare (refused (refusal why)))
 
-abbrev pub owns : ℕ → ℕ → List Owned → Bool
-owns client stream owned = list_any (λ o. (o.client == client) && (o.stream == stream)) owned
+-- the owners after a request with its reply
+abbrev pub owned_by : ℕ → Request → Reply → List Owned → List Owned
+owned_by client r reply owned = if is_ok_code reply.code then owned_after client r reply.value owned else owned
 
--- the window manager, client 0, may make every call; an app only those on streams that it made
-abbrev pub refusal_of : ℕ → Call → List Owned → Option Code
-refusal_of client c owned = if client == 0 then None else if not (is_of_apps c) then Some code.Unsupported else of_stream c
-  where
-    of_stream : Call → Option Code
-    of_stream (call.StreamDestroy stream) = if owns client stream owned then None else Some code.BadHandle
-    of_stream (call.Acquire stream) = if owns client stream owned then None else Some code.BadHandle
-    of_stream _ = None
+-- a call that the machine answers: what comes with the answer is held beside this
+abbrev pub carried : ℕ → List Held → Served → State × Reply → Served × Told
+carried client rest v done =
+    (record v { machine = done.0; held = adding client (given_canvas done.1.payload) rest }, told_of done.1)
 
--- the makers after a call that was carried out
-abbrev pub owned_after : ℕ → Call → ℕ → List Owned → List Owned
-owned_after client (call.StreamNew width height format buffers) value owned = owned ++ (record { stream = value; client = client }) ∷ []
-owned_after client (call.StreamQueue width height format depth) value owned = owned ++ (record { stream = value; client = client }) ∷ []
-owned_after client (call.StreamDestroy stream) value owned = filter (λ o. not (o.stream == stream)) owned
-owned_after client _ value owned = owned
+-- a request that the machine answers
+abbrev pub made : ℕ → Request → Served → State × Reply → Served × Told
+made client r v done = (
+  record v {
+    machine = done.0;
+    owned = owned_by client r done.1 v.owned;
+    held = adding client (given_canvas done.1.payload) v.held;
+  },
+  told_of done.1,
+)
 
-abbrev pub held_by : ℕ → List Holding → Option Canvas
-held_by client held = option_map (λ h. h.canvas) (find (λ h. h.client == client) held)
+-- a request for a write buffer by who holds one, or where no place is left for it
+abbrev pub lacks_place : ℕ → Request → List Held → Bool
+lacks_place client r held = is_acquire r && (holds client held || nat_le MOST_STREAMS (length held))
 
--- what clients hold, once this one holds what came, or nothing
-abbrev pub holding : ℕ → Payload → List Holding → List Holding
-holding client (payload.Canvas canvas) held =
-    (record { client = client; canvas = canvas }) ∷ filter (λ h. not (h.client == client)) held
-holding client _ held = filter (λ h. not (h.client == client)) held
+-- a request, by the refusal of the policy
+abbrev pub allowed : ℕ → Request → Bool → Served → Option Code → Served × Told
+allowed client r memory_refused v (Some why) = (v, refused_by why)
+allowed client r memory_refused v None =
+    if lacks_place client r v.held then (v, not_made)
+    else made client r v (step v.machine client (call_of r) memory_refused)
 
--- a call that goes to the machine
-abbrev pub carried : ℕ → Call → Bool → Bool → Served → Served × Told
-carried client c takes memory_refused v =
-    let done : State × Reply = step v.machine client c memory_refused in (
-      record v {
-        machine = done.0;
-        owned = if is_ok_code done.1.code then owned_after client c done.1.value v.owned else v.owned;
-        held = if takes then holding client done.1.payload v.held else v.held;
-      },
-      answer done.1.code done.1.value,
-    )
-
--- a call that takes a write buffer
-abbrev pub takes : Call → Bool
-takes (call.Acquire stream) = true
-takes _ = false
-
--- a call, by the refusal of the policy and by what its client holds; who holds a write buffer takes no second one
-abbrev pub allowed : ℕ → Call → Bool → Served → Option Code → Option Canvas → Served × Told
-allowed client c memory_refused v (Some refused) canvas = (v, answer refused 0)
-allowed client c memory_refused v None (Some canvas) =
-    if takes c then (v, nothing) else carried client c false memory_refused v
-allowed client c memory_refused v None None = carried client c (takes c) memory_refused v
-
--- what is done with a write buffer that a client holds, if it holds one
+-- what is done with the write buffer that a client holds, if it holds one
 abbrev pub with_held : (Canvas → Served × Told) → Served → Option Canvas → Served × Told
-with_held f v None = (v, nothing)
+with_held f v None = (v, not_made)
 with_held f v (Some canvas) = f canvas
 
-abbrev pub drawn : ℕ → (Bitmap → Bitmap) → Served → Canvas → Served × Told
-drawn client paint v canvas =
-    (record v { held = holding client (payload.Canvas (record canvas { image = paint canvas.image })) v.held }, answer code.Ok 0)
+-- the write buffer goes with a call
+abbrev pub given : ℕ → (Canvas → Call) → Bool → Served → Canvas → Served × Told
+given client c memory_refused v canvas =
+    carried client (without client v.held) v (step v.machine client (c canvas) memory_refused)
 
--- what a request leaves and answers; a Begin and an End come from ticks alone
+-- it is drawn on
+abbrev pub drawn : ℕ → (Bitmap → Bitmap) → Served → Canvas → Served × Told
+drawn client paint v canvas = (
+  record v { held = adding client (Some (record canvas { image = paint canvas.image })) (without client v.held) },
+  record { code = 0; value = 0 },
+)
+
+-- what a request leaves and answers
 abbrev pub served : ℕ → Asked → Bool → Served → Served × Told
-served client (plain c) memory_refused v =
-    allowed client c memory_refused v (refusal_of client c v.owned) (held_by client v.held)
-served client post memory_refused v =
-    with_held (λ canvas. carried client (call.Post canvas) true memory_refused v) v (held_by client v.held)
-served client discard memory_refused v =
-    with_held (λ canvas. carried client (call.Discard canvas) true memory_refused v) v (held_by client v.held)
-served client (draw paint) memory_refused v = with_held (drawn client paint v) v (held_by client v.held)
+served client (plain r) memory_refused v = allowed client r memory_refused v (refusal_of client r v.owned)
+served client post memory_refused v = with_held (given client call.Post memory_refused v) v (canvas_of client v.held)
+served client discard memory_refused v = with_held (given client call.Discard memory_refused v) v (canvas_of client v.held)
+served client (draw paint) memory_refused v = with_held (drawn client paint v) v (canvas_of client v.held)
+
+-- a request was served so, where memory was refused or not
+abbrev pub Serves : ℕ → Asked → Served → Served → Told → Type 0
+Serves client x old new t = (memory_refused : Bool) × (served client x memory_refused old ≡ (new, t))

@@ -3,9 +3,12 @@
 ghost use Rattle.std.specs.Prelude.{◌≡◌, ◌==◌, ℕ, Bool, false, List, IsFalse, IsTrue, Some};
 ghost use Rattle.wf_calls.specs.declared.call.Call.{Call};
 ghost use Rattle.wf_calls.specs.declared.ports.Ports.{Ports};
+ghost use Rattle.wf_calls.specs.declared.request.Request.{Request};
+ghost use Rattle.wf_host.specs.Held.{canvas_of};
+ghost use Rattle.wf_guard.specs.Policy.{owns};
 ghost use Rattle.wf_guard.specs.Apps.{LeavesTheRest, LooksSame, SameScreens, is_of_apps};
-ghost use Rattle.wf_guard.specs.Owners.{AreTrue, Request, after_requests, brings, lives_after, live_handles, opened};
-ghost use Rattle.wf_guard.specs.Serving.{Asked, Served, held_by, owns, plain, served};
+ghost use Rattle.wf_guard.specs.LiveStreams.{AreTrue, Turn, after_turns, lives_after, live_handles, opened};
+ghost use Rattle.wf_guard.specs.Serving.{Asked, Served, plain, served};
 ghost use Rattle.wf_model.specs.State.{State};
 ghost use Rattle.wf_model.specs.Step.{step};
 ghost use Rattle.wf_stream.specs.Streams.{KeptStream, stream_at};
@@ -28,7 +31,7 @@ pub fn an_app_is_answered_by_what_it_names()
 /// write buffer, posts it or gives it back.
 pub fn nobody_touches_anothers_canvas()
     ensures { (v : Served) (a b : ℕ) (x : Asked) (memory_refused : Bool) → IsFalse (a == b)
-        → held_by b (served a x memory_refused v).0.held ≡ held_by b v.held }
+        → canvas_of b (served a x memory_refused v).0.held ≡ canvas_of b v.held }
 {}
 
 /// Shows that no request of an app changes what is on the screens: neither what is composed or waits to be, nor ports and pipelines, nor
@@ -38,13 +41,12 @@ pub fn no_app_changes_the_screens()
         → SameScreens v.machine (served a x memory_refused v).0.machine }
 {}
 
-/// Shows that in every state that requests lead to a live stream which an app does not own stays as it was, whatever call the app asks for
-/// that brings no write buffer.
+/// Shows that in every state that turns lead to a live stream which an app does not own stays as it was, whatever request the app makes.
 pub fn no_app_touches_a_foreign_stream()
-    ensures { (ports : Ports) (requests : List Request) → let v : Served = after_requests (opened ports) requests in
-        (a : ℕ) (c : Call) (memory_refused : Bool) (n : ℕ) (s : KeptStream) → IsFalse (a == 0) → brings c ≡ false
+    ensures { (ports : Ports) (turns : List Turn) → let v : Served = after_turns (opened ports) turns in
+        (a : ℕ) (r : Request) (memory_refused : Bool) (n : ℕ) (s : KeptStream) → IsFalse (a == 0)
         → stream_at n v.machine.streams ≡ Some s → (s.handle == 0) ≡ false → owns a s.handle v.owned ≡ false
-        → stream_at n (served a (plain c) memory_refused v).0.machine.streams ≡ Some s }
+        → stream_at n (served a (plain r) memory_refused v).0.machine.streams ≡ Some s }
 {}
 
 /// Shows that which streams are live follows from the calls and their answers alone: a stream lives from the call that made it to the call
@@ -54,7 +56,7 @@ pub fn live_streams_follow_from_calls()
         ≡ lives_after c (step h client c memory_refused).1 (live_handles h.streams) }
 {}
 
-/// Shows that owners are true in every state that requests lead to: each live stream has one owner, who made it, and nothing else has one.
+/// Shows that owners are true in every state that turns lead to: each live stream has one owner, who made it, and nothing else has one.
 pub fn owners_are_true()
-    ensures { (ports : Ports) (requests : List Request) → AreTrue (after_requests (opened ports) requests) }
+    ensures { (ports : Ports) (turns : List Turn) → AreTrue (after_turns (opened ports) turns) }
 {}

@@ -1,4 +1,4 @@
-//! The write buffers that an embedder holds.
+//! Write buffers that are held, each under a number.
 
 ghost use Rattle.std.specs.List.{position};
 ghost use Rattle.std.specs.Option.{IfNone};
@@ -11,16 +11,17 @@ use wf_image::Canvas;
 use wf_stream::MOST_STREAMS;
 use wf_words::NoMemory;
 
-/// A write buffer, with the handle of the stream that was asked for it.
+/// A write buffer, with the number under which it is held.
 #[derive(Drop)]
 pub struct Held {
-    pub stream: u32,
+    pub key: u32,
     pub canvas: Canvas,
 }
 
-/// The write buffers that an embedder holds, with room for one of each stream.
+/// Write buffers that are held, each under a number, with room for one of each stream: an embedder holds them under the handles of their
+/// streams, and a core for several clients under the numbers of these.
 #[derive(Drop)]
-pub(crate) struct Canvases {
+pub struct Canvases {
     held: Vec<Held>,
 }
 
@@ -36,17 +37,17 @@ impl Model for Canvases {
     ghost invariant = { λ c. (length c.held.items ≤ MOST_STREAMS) × (MOST_STREAMS ≤ vec_capacity c.held) };
 }
 
-/// The place of the canvas of `stream`, or `None` where none is held.
-fn place_of(held: &[Held], stream: u32) -> Option<usize>
-    ensures place { result ≡ position (λ h. h.stream == stream) held.now }
+/// The place of the canvas under `key`, or `None` where none is held.
+fn place_of(held: &[Held], key: u32) -> Option<usize>
+    ensures place { result ≡ position (λ h. h.key == key) held.now }
     ensures within { IfSome result (λ place. place < length held.now) }
 {
-    held.iter().position(|one| one.stream == stream)
+    held.iter().position(|one| one.key == key)
 }
 
 impl Canvases {
     /// Makes room for the canvases of all streams.
-    pub(crate) fn new(alloc: Global) -> Result<Canvases, NoMemory>
+    pub fn new(alloc: Global) -> Result<Canvases, NoMemory>
         ensures { IfOk result (λ canvases. canvases ≡ []) }
     {
         Ok(Canvases {
@@ -55,39 +56,39 @@ impl Canvases {
     }
 
     /// Tells whether there is no room for one canvas more.
-    pub(crate) fn is_full(&self) -> bool
+    pub fn is_full(&self) -> bool
         ensures { result ≡ nat_le MOST_STREAMS (length self.now) }
     {
         self.held.len() >= MOST_STREAMS as usize
     }
 
-    /// Tells whether a canvas of `stream` is held.
-    pub(crate) fn is_held(&self, stream: u32) -> bool
-        ensures { result ≡ holds stream self.now }
+    /// Tells whether a canvas is held under `key`.
+    pub fn is_held(&self, key: u32) -> bool
+        ensures { result ≡ holds key self.now }
     {
-        self.held.iter().any(|one| one.stream == stream)
+        self.held.iter().any(|one| one.key == key)
     }
 
-    /// Takes out the canvas of `stream`, or returns `None` where none is held.
-    pub(crate) fn take(&mut self, stream: u32) -> Option<Canvas>
-        ensures canvas { result ≡ canvas_of stream self.old }
-        ensures rest { self.new ≡ without stream self.old }
+    /// Takes out the canvas under `key`, or returns `None` where none is held.
+    pub fn take(&mut self, key: u32) -> Option<Canvas>
+        ensures canvas { result ≡ canvas_of key self.old }
+        ensures rest { self.new ≡ without key self.old }
         ensures room { IfSome result (λ _. length self.new < MOST_STREAMS) }
         ensures none { IfNone result (self.new ≡ self.old) }
     {
-        match place_of(&self.held, stream) {
+        match place_of(&self.held, key) {
             Some(at) => Some(self.held.remove(at).canvas),
             None => None,
         }
     }
 
-    /// Keeps a canvas that is `given` with an answer, as one of `stream`. There is room for it.
-    pub(crate) fn put(&mut self, stream: u32, given: Option<Canvas>)
+    /// Keeps a canvas that is `given` with an answer, under `key`. There is room for it.
+    pub fn put(&mut self, key: u32, given: Option<Canvas>)
         requires { length self.old < MOST_STREAMS }
-        ensures { self.new ≡ adding stream given self.old }
+        ensures { self.new ≡ adding key given self.old }
     {
         if let Some(canvas) = given {
-            self.held.push_reserved(Held { stream, canvas });
+            self.held.push_reserved(Held { key, canvas });
         }
     }
 }

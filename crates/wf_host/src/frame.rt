@@ -126,7 +126,7 @@ fn paint(job: &mut Job)
 }
 
 /// Paints the picture of the frame that stands in a place, if one does.
-fn paint_held(place: &mut JobPlace)
+pub fn paint_held(place: &mut JobPlace)
     requires { IfSome (job_in place.old) IsPaintable }
     ensures { job_in place.new ≡ option_map painted_job (job_in place.old) }
 {

@@ -28,7 +28,7 @@ fn put_swapped(out: &mut [u8], at: usize, row: &[u8])
 }
 
 /// Writes `row` into `out` from the place `at` on, in an `order` of its bytes.
-pub(crate) fn put_row(out: &mut [u8], at: usize, row: &[u8], order: Order)
+pub fn put_row(out: &mut [u8], at: usize, row: &[u8], order: Order)
     requires { at + length row.now ≤ length out.old }
     ensures put { out.new ≡ put_at at (ordered order row.now) out.old }
     ensures size { length out.new ≡ length out.old }

@@ -7,7 +7,7 @@ use crate::order::{Order, put_row};
 
 /// Tells whether `count` rows of `row` bytes, at least one, stand in `room` bytes, each `stride` bytes after the one before, and no row
 /// reaches into the next.
-pub(crate) fn stands(room: usize, stride: usize, row: usize, count: usize) -> bool
+pub fn stands(room: usize, stride: usize, row: usize, count: usize) -> bool
     requires { 1 ≤ count }
     ensures { result ≡ stands room stride row count }
 {
@@ -22,7 +22,7 @@ pub(crate) fn stands(room: usize, stride: usize, row: usize, count: usize) -> bo
 
 /// Copies `count` rows of `row` bytes from `bytes`, where they stand `from` bytes apart, into `out`, where they stand `to` bytes
 /// apart, in an `order` of their bytes.
-pub(crate) fn copy_rows(
+pub fn copy_rows(
     out: &mut [u8],
     to: usize,
     bytes: &[u8],

@@ -1,10 +1,10 @@
 //! What an embedder is told of a call.
 
 ghost use Rattle.std.specs.Prelude.{◌≡◌};
-ghost use Rattle.wf_calls.specs.Replies.{bare};
+ghost use Rattle.wf_calls.specs.Replies.{bare, refusal, refused};
 ghost use Rattle.wf_host.specs.Made.{not_made, told_of};
 
-use wf_calls::Answer;
+use wf_calls::{Answer, Code};
 
 /// The code where no call was made.
 pub const NOT_MADE: u8 = 255;
@@ -19,12 +19,29 @@ pub struct Told {
 
 impl Told {
     /// Tells of an `answer`.
-    pub(crate) fn of(answer: Answer) -> Told
+    pub fn of(answer: Answer) -> Told
         ensures { result ≡ told_of (bare answer) }
     {
         Told {
             code: answer.code.number(),
             value: answer.value,
+        }
+    }
+
+    /// Tells that what was asked for is done, with no call.
+    pub fn done() -> Told
+        ensures { result ≡ record { code = 0; value = 0 } }
+    {
+        Told { code: 0, value: 0 }
+    }
+
+    /// Tells of a refusal by a `code` alone.
+    pub fn refused(code: Code) -> Told
+        ensures { result ≡ told_of (bare (refused (refusal code))) }
+    {
+        Told {
+            code: code.number(),
+            value: 0,
         }
     }
 

@@ -13,7 +13,7 @@ use byteorder::{BigEndian, ByteOrder};
 use wf_io::{Failed, Source};
 
 /// Fills `into` from `input`, in as many takes as it needs; fewer bytes come only where the source ends.
-pub(crate) fn fill<I: Source>(input: &mut I, into: &mut [u8]) -> Result<usize, Failed>
+pub fn fill<I: Source>(input: &mut I, into: &mut [u8]) -> Result<usize, Failed>
     ensures within { IfOk result (λ n. n ≤ length into.new) }
     ensures bytes { IfOk result (λ n. Consumes (I.left input.old) (I.left input.new) (take n into.new)) }
     ensures short { IfOk result (λ n. n < length into.new → IsAtEnd (I.left input.new)) }

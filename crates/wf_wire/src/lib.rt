@@ -20,6 +20,7 @@ mod stop;
 mod telling;
 mod words;
 
+pub use fields::fill;
 pub use laws::{all_messages_are_told, answered_messages_are_told, faults_lie_in_the_input};
 pub use message::Message;
 pub use session::Session;

@@ -1,4 +1,4 @@
-use Rattle.wf_guard.proofs.Owned.{always_true}
+use Rattle.wf_guard.proofs.OwnersTrue.{always_true}
 use Rattle.wf_guard.proofs.laws.owners_are_true.Goals as goal
 
 pub returns : goal.returns

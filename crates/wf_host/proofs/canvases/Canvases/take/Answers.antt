@@ -6,13 +6,13 @@ use Rattle.wf_host.proofs.canvases.Canvases.take.Goals as goal
 
 pub returns-in-Some-clause-canvas : goal.returns-in-Some-clause-canvas
 returns-in-Some-clause-canvas c =
-    subst (λ held. Some c.remove.result.canvas ≡ canvas_of c.args.stream held) c.self.view_is
-    (taken c.args.stream c.self.inside.held.items c.in-Some.at c.remove.result
-    (c.in-Some.ensures.place ∙ ap (position (λ h. h.stream == c.args.stream)) c.deref.ensures.value)
+    subst (λ held. Some c.remove.result.canvas ≡ canvas_of c.args.key held) c.self.view_is
+    (taken c.args.key c.self.inside.held.items c.in-Some.at c.remove.result
+    (c.in-Some.ensures.place ∙ ap (position (λ h. h.key == c.args.key)) c.deref.ensures.value)
     (subst (λ held. c.in-Some.at < length held) c.deref.ensures.value c.in-Some.ensures.within) c.remove.ensures.value)
 
 pub returns-in-None-clause-canvas : goal.returns-in-None-clause-canvas
 returns-in-None-clause-canvas c =
-    subst (λ held. None ≡ canvas_of c.args.stream held) c.self.view_is
-    (none_taken c.args.stream c.self.inside.held.items
-    (c.in-None.ensures.place ∙ ap (position (λ h. h.stream == c.args.stream)) c.deref.ensures.value))
+    subst (λ held. None ≡ canvas_of c.args.key held) c.self.view_is
+    (none_taken c.args.key c.self.inside.held.items
+    (c.in-None.ensures.place ∙ ap (position (λ h. h.key == c.args.key)) c.deref.ensures.value))

@@ -1,5 +1,5 @@
 -- Which streams are live, and whether their owners are true.
-use Rattle.std.specs.Prelude.{◌≡◌, ℕ, Bool, true, false, not, ◌==◌, List, [], ◌∷◌, ◌++◌, filter, map, Some, if◌then◌else◌}
+use Rattle.std.specs.Prelude.{◌≡◌, ℕ, Bool, true, false, not, ◌==◌, List, [], ◌∷◌, ◌++◌, filter, map, replicate, if◌then◌else◌}
 use Rattle.wf_calls.specs.Codes.{is_ok_code}
 use Rattle.wf_calls.specs.declared.call.Call.{Call}
 use Rattle.wf_calls.specs.declared.call.Call.TheVariants as call
@@ -7,6 +7,7 @@ use Rattle.wf_calls.specs.declared.ports.Ports.{Ports}
 use Rattle.wf_calls.specs.declared.reply.Reply.{Reply}
 use Rattle.wf_model.specs.State.{opening}
 use Rattle.wf_stream.specs.Streams.{KeptStream}
+use Rattle.wf_guard.specs.declared.clients.TheConstants.{CLIENTS}
 use Rattle.wf_guard.specs.Serving.{Asked, Served, served}
 
 -- the handles of the live streams, in the order in which these were made; a stream whose handle is dead has the handle 0
@@ -32,19 +33,13 @@ AreTrue v = map (λ o. o.stream) v.owned ≡ live_handles v.machine.streams
 
 -- what a core serves first: nobody owns, holds or waits for anything
 abbrev pub opened : Ports → Served
-opened ports = record { machine = opening ports; owned = []; held = []; waiting = []; ticks = 0 }
+opened ports = record { machine = opening ports; owned = []; held = []; waiting = replicate CLIENTS false; ticks = 0 }
 
--- a request of a client, with whether there is memory for a creation
-abbrev pub Request : Type 0
-Request = ℕ × Asked × Bool
+-- what a client asks for, with whether memory is refused to a creation
+abbrev pub Turn : Type 0
+Turn = ℕ × Asked × Bool
 
--- what is served after some requests
-abbrev pub after_requests : Served → List Request → Served
-after_requests v [] = v
-after_requests v (r ∷ rs) = after_requests (served r.0 r.1 r.2 v).0 rs
-
--- a call that brings a write buffer
-abbrev pub brings : Call → Bool
-brings (call.Post canvas) = true
-brings (call.Discard canvas) = true
-brings _ = false
+-- what is served after some turns
+abbrev pub after_turns : Served → List Turn → Served
+after_turns v [] = v
+after_turns v (r ∷ rs) = after_turns (served r.0 r.1 r.2 v).0 rs

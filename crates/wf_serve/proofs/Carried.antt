@@ -1,0 +1,75 @@
+-- What a request and a write buffer that goes with a call leave and answer.
+use Rattle.std.proofs.Common.{◌≡◌, ◌∙◌, ℕ, Bool, true, false, List, Option, Some, None, refl, sym, ap}
+use Rattle.wf_calls.specs.Codes.{is_ok_code, is_out_of_memory}
+use Rattle.wf_calls.specs.Replies.{bare, with_canvas}
+use Rattle.wf_calls.specs.Requests.{call_of}
+use Rattle.wf_calls.specs.declared.call.Call.{Call}
+use Rattle.wf_calls.specs.declared.reply.Answer.{Answer}
+use Rattle.wf_calls.specs.declared.reply.Reply.{Reply}
+use Rattle.wf_calls.specs.declared.request.Request.{Request}
+use Rattle.wf_image.specs.declared.canvas.Canvas.{Canvas}
+use Rattle.wf_machine.specs.Object.{IsStep, MayAnswer, after}
+use Rattle.wf_model.specs.State.{State}
+use Rattle.wf_model.specs.Step.{step}
+use Rattle.wf_wire.specs.Asked.{is_acquire}
+use Rattle.wf_host.specs.Held.{adding, canvas_of, holds, without}
+use Rattle.wf_host.specs.Made.{told_of}
+use Rattle.wf_host.specs.declared.told.Told.{Told}
+use Rattle.wf_guard.specs.Policy.{owned_after, refusal_of}
+use Rattle.wf_guard.specs.declared.owners.Owned.{Owned}
+use Rattle.wf_host.specs.declared.canvases.Held.{Held}
+use Rattle.wf_guard.specs.Serving.{Served, Serves, allowed, carried, given, made, owned_by, plain, with_held}
+use Rattle.wf_serve.proofs.Replies.{bare_is, canvas_is, given_back, stepped}
+
+-- a request that the policy lets through and that takes nothing
+pub asked_so : (client : ℕ) (r : Request) (v : Served) (left : State) (a : Answer) → refusal_of client r v.owned ≡ None
+    → is_acquire r ≡ false → left ≡ after v.machine client (call_of r) (bare a) → MayAnswer v.machine client (call_of r) (bare a)
+    → Serves client (plain r) v (record v { machine = left; owned = owned_by client r (bare a) v.owned }) (told_of (bare a))
+asked_so client r v left a none takes is may =
+    let m : Bool = is_out_of_memory a.code in
+    let x : State × Reply = step v.machine client (call_of r) m in
+    let same : x ≡ (left, bare a) = λ i. (sym is i, bare_is x.1 a may i) in
+    (m, ap (allowed client r m v) none ∙ rw takes (ap (made client r v) same))
+
+-- a write buffer that is held goes with a call
+pub given_so : (client : ℕ) (c : Canvas → Call) (v : Served) (canvas : Canvas) (left : State) (x : Answer × Option Canvas)
+    → canvas_of client v.held ≡ Some canvas → IsStep v.machine client (c canvas) left (with_canvas x)
+    → (m : Bool) × (with_held (given client c m v) v (canvas_of client v.held)
+    ≡ (record v { machine = left; held = adding client x.1 (without client v.held) }, told_of (bare x.0)))
+given_so client c v canvas left x holds is =
+    let m : Bool = is_out_of_memory x.0.code in
+    let same : step v.machine client (c canvas) m ≡ (left, with_canvas x) =
+    stepped v.machine left client (c canvas) (with_canvas x) is
+    (canvas_is (step v.machine client (c canvas) m).1 x is.answer) in (
+      m,
+      ap (with_held (given client c m v) v) holds ∙ ap (carried client (without client v.held) v) same
+          ∙ ap (λ o. (record v { machine = left; held = adding client o (without client v.held) }, told_of (bare x.0))) (given_back x.1),
+    )
+
+-- the same, as a body comes to it
+
+pub asked_as : (client : ℕ) (r : Request) (v : Served) (left : State) (a : Answer) (owned : List Owned) (t : Told)
+    → refusal_of client r v.owned ≡ None → is_acquire r ≡ false → left ≡ after v.machine client (call_of r) (bare a)
+    → MayAnswer v.machine client (call_of r) (bare a) → owned ≡ owned_by client r (bare a) v.owned → t ≡ told_of (bare a)
+    → Serves client (plain r) v (record v { machine = left; owned = owned }) t
+asked_as client r v left a owned t none takes is may owners told =
+    let so = asked_so client r v left a none takes is may in
+    (so.0, so.1 ∙ λ i. (record v { machine = left; owned = sym owners i }, sym told i))
+
+pub owned_ok : (client : ℕ) (r : Request) (a : Answer) (owned : List Owned) → is_ok_code a.code ≡ true
+    → owned_after client r a.value owned ≡ owned_by client r (bare a) owned
+owned_ok client r a owned ok = rw ok refl
+
+pub owned_refused : (client : ℕ) (r : Request) (a : Answer) (owned : List Owned) → is_ok_code a.code ≡ false
+    → owned ≡ owned_by client r (bare a) owned
+owned_refused client r a owned refused = rw refused refl
+
+pub given_as : (client key again : ℕ) (c : Canvas → Call) (v : Served) (canvas : Canvas) (left : State) (x : Answer × Option Canvas)
+    (rest now : List Held) (t : Told) → key ≡ client → again ≡ client → Some canvas ≡ canvas_of key v.held → rest ≡ without key v.held
+    → IsStep v.machine client (c canvas) left (with_canvas x) → now ≡ adding again x.1 rest → t ≡ told_of (bare x.0)
+    → (m : Bool) × (with_held (given client c m v) v (canvas_of client v.held) ≡ (record v { machine = left; held = now }, t))
+given_as client key again c v canvas left x rest now t one two holds others is put told =
+    let so = given_so client c v canvas left x (sym (holds ∙ ap (λ k. canvas_of k v.held) one)) is in
+    let held : adding client x.1 (without client v.held) ≡ now =
+    sym (put ∙ (λ i. adding (two i) x.1 (others i)) ∙ ap (λ k. adding client x.1 (without k v.held)) one) in
+    (so.0, so.1 ∙ λ i. (record v { machine = left; held = held i }, sym told i))

@@ -1,0 +1,11 @@
+mod Replies
+mod Carried
+mod Ended
+mod Puttings
+mod Numbers
+mod Rectangles
+mod Composed
+mod Sizes
+mod Frames
+mod Hearings
+mod Running

@@ -1,0 +1,31 @@
+use Rattle.std.proofs.Common.{◌≡◌, ◌∙◌, false, ap, set, subst}
+use Rattle.wf_guard.specs.Policy.{left_by}
+use Rattle.wf_guard.specs.Serving.{Served}
+use Rattle.wf_serve.specs.Heard.{destroyed}
+use Rattle.wf_serve.proofs.core.Core.leave.Goals as goal
+
+pub returns : goal.returns
+returns c =
+    let who = c.args.client in
+    let left : Served = record {
+      machine = c.destroy.new.machine;
+      owned = c.leave.new.self;
+      held = c.self.inside.canvases;
+      waiting = set c.self.inside.waiting c.from.result false;
+      ticks = c.self.inside.ticks;
+    } in (
+      c.discard-told.new.self,
+      c.discard-told.result,
+      c.discard-told.ensures,
+      subst (λ v. left ≡ record v {
+        machine = destroyed who v.owned v.machine;
+        owned = left_by who v.owned;
+        waiting = set v.waiting who false;
+      }) c.self.view_is (λ i. record {
+        machine = (c.destroy.ensures ∙ ap (λ o. destroyed who o c.self.inside.machine) c.list.ensures) i;
+        owned = c.leave.ensures i;
+        held = c.self.inside.canvases;
+        waiting = set c.self.inside.waiting (c.from.ensures i) false;
+        ticks = c.self.inside.ticks;
+      }),
+    )

@@ -1,0 +1,20 @@
+//! The serving core: one machine for several clients, whose messages come as one stream of bytes.
+#![tactic(auto)]
+
+mod answers;
+mod body;
+mod core;
+mod hearing;
+mod input;
+mod kind;
+mod pixels;
+mod serving;
+mod tick;
+
+pub use crate::core::Core;
+pub use answers::Answers;
+pub use hearing::MOST_TOLD;
+pub use input::MOST_FRAME;
+pub use kind::{GONE, Kind, LEFT, PUT, SIZE, TELL, TICK, TOLD, WAIT, kind_of};
+pub use pixels::Rectangle;
+pub use serving::{ServeStop, serve};
