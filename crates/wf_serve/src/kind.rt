@@ -1,9 +1,9 @@
 //! The kinds of messages, by who sends them and by their numbers.
 
 ghost use Rattle.std.specs.Prelude.{◌≡◌};
-ghost use Rattle.wf_serve.specs.Kinds.{kind_in, kind_of, may_send};
+ghost use Rattle.wf_serve.specs.Kinds.{is_of_apps, kind_in, kind_of, may_send};
 
-use wf_guard::{BROKER, OUTPUT};
+use wf_guard::{BROKER, MANAGER, OUTPUT};
 
 /// The number of the message that says who is gone.
 pub const GONE: u8 = 0;
@@ -37,8 +37,19 @@ pub enum Kind {
     Size,
 }
 
-/// Tells whether `client` may send a message of `number`: the broker says who is gone, the output ticks and tells, and the window manager
-/// and apps send all others.
+/// The last message about a canvas and a stream that an app may send, and the first paint.
+const LAST_OF_STREAMS: u8 = 6;
+const FIRST_PAINT: u8 = 46;
+
+/// Tells whether an app may send a message of `number`: of streams and canvases, paints, and those that are no calls.
+fn is_of_apps(number: u8) -> bool
+    ensures { result ≡ is_of_apps number }
+{
+    number <= LAST_OF_STREAMS || number >= FIRST_PAINT
+}
+
+/// Tells whether `client` may send a message of `number`: the broker says who is gone, the output ticks and tells, the window manager
+/// sends all others, and apps those of their own streams.
 fn may_send(client: u8, number: u8) -> bool
     ensures { result ≡ may_send client number }
 {
@@ -47,7 +58,11 @@ fn may_send(client: u8, number: u8) -> bool
     } else if client == OUTPUT {
         number == TICK || number == TELL
     } else {
-        client < OUTPUT && number != GONE && number != TICK && number <= SIZE
+        client < OUTPUT
+            && number != GONE
+            && number != TICK
+            && number <= SIZE
+            && (client == MANAGER || is_of_apps(number))
     }
 }
 

@@ -1,0 +1,73 @@
+//! The program `wfserve`: serves several clients of one machine, whose messages come on standard input, each in a frame of bytes. It puts
+//! their answers on standard output, and the pictures of ports into a file, a pipe or a device that is named.
+#![tactic(auto)]
+
+mod ends;
+mod words;
+
+use ends::End;
+use std::alloc::Global;
+use std::fs::File;
+use std::io::BufReader;
+use std::process::ExitCode;
+use std::rt::Env;
+use std::{env, io};
+use wf_io::{Sink, Source, StdSink, StdSource};
+use wf_serve::serve;
+use words::{Asked, asked_by};
+
+ghost use Rattle.std.specs.Prelude.{IsTrue};
+ghost use Rattle.wf_calls.specs.PortRules.{may_declare};
+
+/// How many bytes of standard input are read at once.
+const BLOCK: usize = 65_536;
+
+/// The words of the command line, without the program's name.
+fn command_words(rt: &(impl Env + AllocGlobal)) -> io::Result<Vec<String>> {
+    let words = env::args(rt)?.skip(1).collect(rt.alloc())?;
+    Ok(words)
+}
+
+/// Serves what the words asked for.
+fn end_of_run<I: Source, K: Sink, F: Sink>(
+    alloc: Global,
+    asked: &Asked<'_>,
+    input: &mut I,
+    out: &mut K,
+    frames: &mut F,
+) -> End
+    requires { IsTrue (may_declare asked.now.ports) }
+{
+    match serve(alloc, &asked.ports, input, out, frames) {
+        Ok(Ok(())) => End::Done,
+        Ok(Err(stop)) => End::Stopped(stop),
+        Err(_) => End::NoMemory,
+    }
+}
+
+/// Opens the file for the pictures, and serves what `words` ask for.
+fn run(rt: &HostRuntime, words: &[String]) -> End {
+    let asked = match asked_by(rt.alloc(), words) {
+        Ok(asked) => asked,
+        Err(end) => return end,
+    };
+    let Ok(file) = File::create(rt, asked.frames) else {
+        return End::NoFile;
+    };
+    let Ok(reader) = BufReader::with_capacity(rt.alloc(), BLOCK, rt.reader()) else {
+        return End::NoMemory;
+    };
+    let mut frames = StdSink::new(file);
+    let mut input = StdSource::new(reader);
+    let mut out = StdSink::new(rt.stdout());
+    end_of_run(rt.alloc(), &asked, &mut input, &mut out, &mut frames)
+}
+
+fn main(rt: HostRuntime) -> ExitCode {
+    let end = match command_words(&rt) {
+        Ok(words) => run(&rt, &words),
+        Err(_) => End::NoMemory,
+    };
+    end.tell(&mut StdSink::new(rt.stderr()));
+    ExitCode::from(end.status())
+}
