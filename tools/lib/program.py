@@ -50,8 +50,7 @@ def logged_bytes(data, depth):
     return ran.returncode, ran.stdout, ran.stderr.decode("utf-8", "replace")
 
 
-def printed(text):
-    """The exit status and the notes of a script that is printed."""
-    words = [str(PROGRAM), "print"]
-    ran = subprocess.run(words, input=text.encode("utf-8"), capture_output=True, timeout=SECONDS, check=False)
+def printed_bytes(data):
+    """The exit status and the notes of a script that is printed, which may be any bytes."""
+    ran = subprocess.run([str(PROGRAM), "print"], input=data, capture_output=True, timeout=SECONDS, check=False)
     return ran.returncode, ran.stderr.decode("utf-8", "replace")
