@@ -233,7 +233,7 @@ class Story:
         elif step.what == PORT and came:
             self.shown.append(Shown(step.port, self.ticks[line.number], place, self.composed.get(step.port)))
         is_news = came and (step.what == POST or step.what == CALL and line.verb in NEWS)
-        return Told(line, self.what(step, value), self.meaning(step, entry), is_news)
+        return Told(line, self.what(step, entry), self.meaning(step, entry), is_news)
 
     def judge(self, place, step, entry):
         """Raises Misfit for an answer that the line can't get: an Ok with another value, or a fault of a commit."""
@@ -262,14 +262,18 @@ class Story:
         """An object in words."""
         return self.names.get(handle, f"handle {handle}")
 
-    def what(self, step, value):
+    def of(self, handle):
+        """Of which object something is, in words, or nothing where no handle tells that."""
+        return f" of {self.named(handle)}" if handle else ""
+
+    def what(self, step, entry):
         """What an event does, where its line makes several."""
         if step.what == CALL or step.what == ACQUIRE and step.line.verb == "acquire":
             return ""
-        if step.what == NEXT_CONTEXT and value == 0:
+        if step.what == NEXT_CONTEXT and entry.value == 0:
             return "no more contexts"
         if step.what in (NEXT_CONTEXT, BEGIN):
-            return f"frame of {self.named(value)} begins"
+            return f"frame of {self.named(entry.value)} begins" if entry.code == OK else f"no frame{self.of(entry.value)} begins"
         if step.what == PORT:
             return f"frame of port {step.port} begins"
         if step.what == END:
