@@ -67,6 +67,14 @@ class Entry(NamedTuple):
         return f"{CODES[self.code]} {self.value}"
 
 
+def counted(codes):
+    """How many events there are and how many of them are refused, in words, by a count of each code."""
+    total = sum(codes.values())
+    each = ", ".join(f"{codes[code]:,} {CODES[code]}" for code in sorted(codes) if code != OK)
+    events = f"{total:,} event{'s' * (total != 1)}"
+    return f"{events}, {total - codes[OK]:,} of them refused: {each}" if each else f"{events}, none of them refused"
+
+
 class Film:
     """A film that is read from a stream: its form at once, then the frames, and then the entries of the journal. What is
     behind the place that was asked for is not looked at yet."""

@@ -3,7 +3,6 @@ by playing an order again on the machine of lib/happenings.py."""
 
 from typing import NamedTuple
 
-from lib.film import CODES
 from lib.grammar import first_fault, is_name
 from lib.happenings import Watched, moments
 from lib.model import CALLED
@@ -155,14 +154,6 @@ def forgotten(machine, line, handle):
             yield f"element {line.name} is shown wholly outside: {machine.outside[handle]}"
     elif line.verb in ("stream", "queue") and handle not in machine.posted:
         yield f"nothing is posted to stream {line.name}, so it has no image"
-
-
-def counted(entries):
-    """Returns how many entries there are and how many of them are refusals, with the number of each code."""
-    codes = [entry.code for entry in entries if entry.code]
-    each = ", ".join(f"{codes.count(code)} {CODES[code]}" for code in sorted(set(codes)))
-    events = f"{len(entries):,} event{'s' * (len(entries) != 1)}"
-    return f"{events}, {len(codes):,} of them refused: {each}" if codes else f"{events}, none of them refused"
 
 
 class Silent(NamedTuple):

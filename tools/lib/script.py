@@ -70,7 +70,7 @@ class Misfit(Exception):
     """A journal is not that of the script: at which entry, counted from 0, that shows, and how."""
 
     def __init__(self, place, fault):
-        super().__init__(f"event {place + 1}: {fault}")
+        super().__init__(f"event {place}: {fault}")
         self.place = place
 
 
