@@ -27,7 +27,11 @@ def play_bytes(data, form=2, *more):
 
 def checked(text, film):
     """The exit status and the notes of a check of the film behind a script."""
-    given = text.encode("utf-8") + film
+    return checked_bytes(text.encode("utf-8") + film)
+
+
+def checked_bytes(given):
+    """The same of a script and a film that may be any bytes."""
     ran = subprocess.run([str(PROGRAM), "check"], input=given, capture_output=True, timeout=SECONDS, check=False)
     return ran.returncode, ran.stderr.decode("utf-8", "replace")
 
