@@ -1,4 +1,4 @@
-"""What a check of a script with the film behind it finds, in words. The program decides where it is built, and else lib/replay.py."""
+"""What a check of a script with the film after it finds, in words. The program decides where it is built, and else lib/replay.py."""
 
 import io
 
@@ -80,7 +80,7 @@ def told_check(data):
         for _ in Film(io.BytesIO(film)).entries():
             pass
     except NoFilm as no_film:
-        return False, [f"bad film at {no_film.place}: rule {no_film.rule}: {no_film}; bytes count from the first behind the script's line feed"]
+        return False, [f"bad film at {no_film.place}: rule {no_film.rule}: {no_film}; bytes count from the first after the script's line feed"]
     status, notes = judged(script, film)
     notes = notes.strip()
     if status == 8:

@@ -92,7 +92,7 @@ class Reader:
         self.of_setup = set()
 
     def line(self, raw):
-        """Reads a line behind the first, or refuses it."""
+        """Reads a line after the first, or refuses it."""
         raw = raw[:-1] if raw.endswith(b"\r") else raw
         need(all(byte == 9 or 0x20 <= byte <= 0x7E for byte in raw), 1)
         words = [word for word in re.split(r"[ \t]+", raw.decode("ascii").partition("#")[0]) if word]
@@ -123,7 +123,7 @@ class Reader:
             self.has_end = True
 
     def event(self, client, words):
-        """Reads an event line behind its client."""
+        """Reads an event line after its client."""
         binds = words[1:2] == ["="]
         name, words = (words[0], words[2:]) if binds else (None, words)
         need(words and words[0] in (CREATIONS if binds else VERBS), 3)

@@ -157,7 +157,7 @@ def form_of(fault):
 
 
 def value_form(fault):
-    """Returns what stands behind the word of an attribute or of a paint in its line, in words."""
+    """Returns what stands after the word of an attribute or of a paint in its line, in words."""
     place = next((n for n, (_, kind) in enumerate(fault.call.arguments) if TABLE.kinds[kind].is_attribute or kind == "paint"), None)
     word = fault.said[fault.verb_at + 1 + place] if place is not None and fault.verb_at + 1 + place < len(fault.said) else ""
     kind = fault.call.arguments[place][1] if word else ""
@@ -205,7 +205,7 @@ def told_names(fault, place):
 
 
 def without_device(fault):
-    """Returns whether the call wants a device first, and the line begins with what stands behind it."""
+    """Returns whether the call wants a device first, and the line begins with what stands after it."""
     arguments = [ARGUMENTS.get(name, name) for name, _ in fault.call.arguments] if fault.call else []
     kinds = kinds_of_names(fault)
     first = [kinds.get(word) for word in fault.said[fault.verb_at + 1 : fault.verb_at + 2]]
@@ -257,7 +257,7 @@ def numbers_at(fault, place):
 
 
 def vocabulary():
-    """Returns the words of the grammar that stand behind a verb."""
+    """Returns the words of the grammar that stand after a verb."""
     attributes = {word for own in ATTRIBUTES.values() for word in own}
     return sorted(attributes | {word for own in WORDS.values() for word in own} | set(PAINTS))
 
@@ -366,7 +366,7 @@ def word_mistake(fault):
     if said[2:3] == ["="] and fault.helps(fault.changed(1, FRESH[:12])):
         return [fault.column(1)], ["a name that is not bound yet, of a lower-case letter and at most 15 more letters, digits or _"]
     places = range(fault.verb_at + 1, len(said))
-    # A word that decides what stands behind it is asked last.
+    # A word that decides what stands after it is asked last.
     for place in reversed(places):
         expected = expected_at(fault, place)
         if expected:

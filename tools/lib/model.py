@@ -73,7 +73,7 @@ def is_blocked(stream, waiting, read):
 
 
 def add(stream, image):
-    """A finished image waits: alone in a plain stream, behind the others in a queue."""
+    """A finished image waits: alone in a plain stream, after the others in a queue."""
     stream.waiting = [*stream.waiting, image] if stream.depth else [image]
 
 

@@ -26,7 +26,7 @@ def play_bytes(data, form=2, *more):
 
 
 def checked(text, film):
-    """The exit status and the notes of a check of the film behind a script."""
+    """The exit status and the notes of a check of the film after a script."""
     return checked_bytes(text.encode("utf-8") + film)
 
 
@@ -43,7 +43,7 @@ def has_events():
 
 
 def logged(text, film, depth):
-    """Answers the exit status, the log and the notes of a `film` behind the script `text`, by a queue of `depth` entries."""
+    """Answers the exit status, the log and the notes of a `film` after the script `text`, by a queue of `depth` entries."""
     return logged_bytes(text.encode("utf-8") + film, depth)
 
 

@@ -142,7 +142,7 @@ def shuffled(text, chance):
 
 
 def verdict(text, data):
-    """Answers the exit status and the notes of a check of a film, `data`, behind the script `text`."""
+    """Answers the exit status and the notes of a check of a film, `data`, after the script `text`."""
     replay = Replay(lines_of(text), paints=True)
     try:
         read = Film(io.BytesIO(data))

@@ -46,7 +46,7 @@ DISPLAY_COMMITS = ("commit_device", "commit_port", "commit_pipe")
 
 
 class Line(NamedTuple):
-    """A line of a script: its number, what it says, the comment behind that, and of an event line who speaks, the name that
+    """A line of a script: its number, what it says, the comment after that, and of an event line who speaks, the name that
     is bound and the verb."""
 
     number: int
@@ -166,7 +166,7 @@ class Programs:
         return self.wanted[0] is None or self.wanted[0].line.number not in self.setup
 
     def answer(self, entry):
-        """Goes on behind the step of a client that is answered by `entry`."""
+        """Goes on after the step of a client that is answered by `entry`."""
         try:
             self.wanted[entry.client] = self.running[entry.client].send(reply(self.wanted[entry.client], entry))
         except StopIteration:
