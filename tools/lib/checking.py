@@ -38,7 +38,7 @@ def part_at(data, place):
     """Returns the part of a film that a byte is of, in words."""
     film = Film(io.BytesIO(data))
     at = MAGIC
-    for number, frame in enumerate(film.frames()):
+    for number, frame in enumerate(film.frames(), 1):
         name = f"frame {number}, of port {frame.port} at tick {frame.tick}"
         at += HEADS[film.form]
         if place < at:
