@@ -122,6 +122,10 @@ class Reader:
             need(len(words) == 1, 5)
             self.has_end = True
 
+    def sees(self, client, name):
+        """A client sees a name."""
+        return name in self.names[client] or name in self.of_setup
+
     def event(self, client, words):
         """Reads an event line after its client."""
         binds = words[1:2] == ["="]
@@ -136,9 +140,9 @@ class Reader:
             what, _, of = str(kind).partition(" ")
             need(word in ATTRIBUTES[of] if what == "get" else what in ("set", "paint") or is_of_kind(word, kind), 6)
         self.in_setup = self.in_setup and client == 0
-        seen = self.names[client] | self.of_setup
-        need(all(word in seen for word, kind in zip(words, kinds) if kind == "handle" and word != "none"), 7)
-        need(name is None or name not in seen, 7)
+        used = [word for word, kind in zip(words, kinds) if kind == "handle" and word != "none"]
+        need(all(self.sees(client, word) for word in used), 7)
+        need(name is None or not self.sees(client, name), 7)
         if name is not None:
             (self.of_setup if self.in_setup else self.names[client]).add(name)
         self.has_events = True

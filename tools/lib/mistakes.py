@@ -6,14 +6,15 @@ compares with it. What may stand in a place is found by that reader: it reads th
 import copy
 import difflib
 import re
+from functools import cached_property
 
 from lib.calls import table
 from lib.calls_pages import LETTERS, forms
 from lib.encoding import text_of, wrong_byte, wrong_file
-from lib.grammar import PAINTS, Fault as Broken, Reader, first_fault, is_name
+from lib.grammar import PAINTS, Fault as Broken, Reader, first_fault
 from lib.limits import MOST_LINES, MOST_NUMBER, MOST_SIDE
 from lib.program import PROGRAM, printed_bytes
-from lib.script import HEADER, lines_of
+from lib.script import CLIENTS, HEADER, lines_of
 from lib.tool import Refused
 from lib.verbs import ATTRIBUTES, CREATIONS, VERBS, WORDS
 
@@ -99,10 +100,25 @@ class Fault:
         """Returns where a word begins, or where the next one would."""
         return self.words[place][0] if place < len(self.words) else self.end + bool(self.words)
 
+    @cached_property
+    def kinds(self):
+        """Returns what each name that a line before binds stands for."""
+        lines = lines_of("\n".join(self.lines[: self.number - 1]))
+        return {line.name: MADE.get(line.verb, line.verb) for line in lines if line.name}
+
+    @cached_property
+    def visible(self):
+        """Returns the names that the line's client sees."""
+        client = self.said[0] if self.said else ""
+        return self.reader.of_setup | (self.reader.names[int(client)] if client in CLIENTS and client else set())
+
     def breaks(self, words):
         """Returns the rule that the line breaks with these words in its place, or none."""
+        reader = copy.copy(self.reader)
+        # What a line binds goes into these.
+        reader.names, reader.of_setup = {client: set(own) for client, own in reader.names.items()}, set(reader.of_setup)
         try:
-            copy.deepcopy(self.reader).line(" ".join(words).encode("utf-8"))
+            reader.line(" ".join(words).encode("utf-8"))
         except Broken as broken:
             return broken.rule
         return None
@@ -171,12 +187,6 @@ def value_form(fault):
 # Names, and what each of them stands for.
 
 
-def kinds_of_names(fault):
-    """Returns what each name that a line before binds stands for."""
-    lines = lines_of("\n".join(fault.lines[: fault.number - 1]))
-    return {line.name: MADE.get(line.verb, line.verb) for line in lines if line.name}
-
-
 def wanted_at(fault, place):
     """Returns what an argument of the line's call names, or nothing where it is no name."""
     at = place - fault.verb_at - 1
@@ -188,11 +198,12 @@ def wanted_at(fault, place):
 
 def names_at(fault, place):
     """Returns the names that may stand in a place: those of the kind that is wanted there, where there are some."""
-    kinds = kinds_of_names(fault)
-    fitting = [name for name in kinds if fault.helps(fault.changed(place, name))]
+    is_none = ["none"] if fault.helps(fault.changed(place, "none")) else []
+    # Where one name fits, all fit that are seen.
+    if not any(fault.helps(fault.changed(place, name)) for name in list(fault.visible)[:1]):
+        return is_none
     wanted = wanted_at(fault, place)
-    fitting = [name for name in fitting if kinds[name] == wanted] or fitting
-    return sorted([*fitting, "none"]) if fault.helps(fault.changed(place, "none")) else sorted(fitting)
+    return sorted(([name for name in fault.visible if fault.kinds.get(name) == wanted] or list(fault.visible)) + is_none)
 
 
 def told_names(fault, place):
@@ -200,15 +211,14 @@ def told_names(fault, place):
     named = names_at(fault, place)
     if len(named) > MOST_NAMES:
         close = near(fault.said[place], named)
-        return [f"one of {len(named)} names" + (f", perhaps {' or '.join(close)}" if close else "")]
+        return [f"one of {len(named):,} names" + (f", perhaps {' or '.join(close)}" if close else "")]
     return [one_of("name", named)] if named else []
 
 
 def without_device(fault):
     """Returns whether the call wants a device first, and the line begins with what stands after it."""
     arguments = [ARGUMENTS.get(name, name) for name, _ in fault.call.arguments] if fault.call else []
-    kinds = kinds_of_names(fault)
-    first = [kinds.get(word) for word in fault.said[fault.verb_at + 1 : fault.verb_at + 2]]
+    first = [fault.kinds.get(word) for word in fault.said[fault.verb_at + 1 : fault.verb_at + 2]]
     return arguments[:1] == ["device"] and arguments[1:2] == first
 
 
@@ -276,7 +286,7 @@ def expected_at(fault, place):
         return [f"the same in this order: {ordered}"]
     if fault.helps(fault.changed(place, "1x1")):
         return [SIZE]
-    words = [word for word in vocabulary() if not (is_name(word) and word in kinds_of_names(fault)) and word != "none"]
+    words = [word for word in vocabulary() if word not in fault.visible and word != "none"]
     words = [word for word in words if fault.helps(fault.changed(place, word))]
     named = told_names(fault, place)
     # Where any name may stand, so may `none`; where a few words may, it is one of them.
@@ -381,7 +391,7 @@ def word_mistake(fault):
 
 def device_mistake(fault):
     """Rules 5 to 7: the device that is missing in front of the other arguments."""
-    devices = sorted(name for name, kind in kinds_of_names(fault).items() if kind == "device")
+    devices = sorted(name for name, kind in fault.kinds.items() if kind == "device")
     return [fault.column(fault.verb_at + 1)], [f"a device in front of {fault.said[fault.verb_at + 1]}, as {devices[0] if devices else 'd'}"]
 
 
