@@ -45,7 +45,8 @@ DECLARED = ("port", "pipes", "end")
 NOTE = re.compile(r"line (\d+): rule (\d+)\n")
 FILM_AFTER_END = re.compile(r"[ \t]*end[ \t\r]*(WFF[12])")
 FILMS = ("WFF1", "WFF2")
-FRESH = "a_name_of_no_one"
+# A name that no script has, as far as that goes.
+FRESH = "name_of_none"
 FLAGS = ("alpha", "source", "mask")
 PAINT_FORMS = {"fill": "r g b a", "box": "x y w h r g b a", "checker": "n r g b a r g b a", "ramp": "r g b a r g b a", "row": "y hex"}
 # What is made by a verb, where that is not the verb's own word, and what an argument names, where that is not the argument's own name.
@@ -286,9 +287,11 @@ def expected_at(fault, place):
         return [f"the same in this order: {ordered}"]
     if fault.helps(fault.changed(place, "1x1")):
         return [SIZE]
+    named = told_names(fault, place)
+    if fault.helps(fault.changed(place, FRESH)):
+        return named or ["a name"]
     words = [word for word in vocabulary() if word not in fault.visible and word != "none"]
     words = [word for word in words if fault.helps(fault.changed(place, word))]
-    named = told_names(fault, place)
     # Where any name may stand, so may `none`; where a few words may, it is one of them.
     if words and named == ["the name none"]:
         words, named = sorted([*words, "none"]), []
@@ -340,6 +343,8 @@ def verb_mistake(fault):
         return [fault.column(1)], [f"{verb} makes nothing, so no name and no = stand in front of it"]
     if verb in CREATIONS:
         return [fault.column(fault.verb_at)], [f"{verb} makes something, so NAME = stands in front of it"]
+    if said[2:3] and said[2] in CREATIONS:
+        return [fault.column(2)], [f"= in front of {said[2]}: {said[0]} {verb} = {' '.join(said[2:])}"]
     name, is_joined, rest = " ".join(said[1:]).partition("=")
     if is_joined and said[2:3] != ["="]:
         return [fault.column(1)], [f"= as a word of its own: {said[0]} {name.strip()} = {rest.strip()}"]
@@ -351,7 +356,8 @@ def near_verbs(word):
     plain = word.replace("_", "").lower()
     named = [call for call in CALLS.values() if call.name.lower() == plain]
     close = named or [CALLS[verb] for verb in near(word, CALLS)]
-    return ["perhaps " + " or ".join(forms(call, TABLE).replace("`", "") for call in close)] if close else []
+    told_forms = [forms(call, TABLE).replace("`", "") for call in close]
+    return [f"perhaps {' or '.join(told_forms)}" if close else "a verb, of which docs/formats.md has the table"]
 
 
 def count_mistake(fault):
@@ -370,13 +376,27 @@ def count_mistake(fault):
     return [fault.column(fault.verb_at)], []
 
 
+def unknown_word(fault):
+    """Returns the place of the word of an attribute or of a paint where it is none, and those that there are, or nothing."""
+    for place, kind in enumerate(VERBS.get(fault.verb, []), fault.verb_at + 1):
+        what, _, of = kind.partition(" ")
+        known = ATTRIBUTES[of] if what in ("set", "get") else PAINTS if what == "paint" else None
+        if known and place < len(fault.said) and fault.said[place] not in known:
+            return place, sorted(known)
+    return None
+
+
 def word_mistake(fault):
     """Rules 6 and 7: the word that is wrong, and what may stand there. A name that is bound twice wants another one."""
     said = fault.said
-    if said[2:3] == ["="] and fault.helps(fault.changed(1, FRESH[:12])):
+    if said[2:3] == ["="] and fault.helps(fault.changed(1, FRESH)):
         return [fault.column(1)], ["a name that is not bound yet, of a lower-case letter and at most 15 more letters, digits or _"]
+    unknown = unknown_word(fault)
+    if unknown:
+        place, known = unknown
+        fitting = [word for word in known if fault.helps(fault.changed(place, word))]
+        return [fault.column(place)], [one_of("word", fitting or known)]
     places = range(fault.verb_at + 1, len(said))
-    # A word that decides what stands after it is asked last.
     for place in reversed(places):
         expected = expected_at(fault, place)
         if expected:
