@@ -68,7 +68,7 @@ class Entry(NamedTuple):
 
 
 def counted(codes):
-    """How many events there are and how many of them are refused, in words, by a count of each code."""
+    """Tells how many events there are and how many of them are refused, by a count of each code."""
     total = sum(codes.values())
     each = ", ".join(f"{codes[code]:,} {CODES[code]}" for code in sorted(codes) if code != OK)
     events = f"{total:,} event{'s' * (total != 1)}"

@@ -104,14 +104,14 @@ def is_within(rect, stream):
 
 
 def no_buffer(stream):
-    """Why no buffer of a stream may be taken, with the stream."""
+    """Tells why no buffer of a stream may be taken, with the stream."""
     if stream.depth:
         return f"as many images as its depth, {stream.depth}, wait in {{}}", stream
     return f"none of the {stream.buffers} buffers of {{}} is free", stream
 
 
 def not_within(has, stream):
-    """Why a source rectangle is refused, with a place for its stream."""
+    """Tells why a source rectangle is refused, with a place for its stream."""
     x, y, w, h = has["srcrect"]
     if w < 1 or h < 1:
         return f"its source rectangle of {{}} is {w} by {h}, and has no pixel"
@@ -119,17 +119,17 @@ def not_within(has, stream):
 
 
 def no_sides(sides):
-    """Why a destination is refused."""
+    """Tells why a destination is refused."""
     return f"its destination is {sides[0]} by {sides[1]}, and a side is from 1 to {MOST_SIDE:,}"
 
 
 def port_named(number):
-    """A port in words, or none for 0."""
+    """Tells a port in words, or none for 0."""
     return f"port {number}" if number else "no port"
 
 
 def number_of(name, known, index):
-    """A number of an attribute, which has these."""
+    """Answers a number of an attribute, which has these."""
     counted = f"{len(known)} numbers, counted from 0" if len(known) > 1 else "one number, of index 0"
     need(0 <= index < len(known), "IllegalArgument", f"{name} has {counted}")
     return known[index]
@@ -340,7 +340,7 @@ class Machine:
                                   layers=layers)
 
     def layer_for(self, element, place):
-        """The layer of an inserted element, or a refusal by the first rule of a commit that it breaks, whose value has the place."""
+        """Makes the layer of an inserted element, or refuses it by the first rule of a commit that it breaks, whose value has the place."""
         has = element.has
         source, mask = self.live.get(has["source"]), self.live.get(has["mask"])
         sides = has["dest"][2:]

@@ -99,28 +99,28 @@ def chunks_of(data):
 
 
 def as_it_is(_row, _above, _step):
-    """A row that is kept as it is."""
+    """Keeps a row as it is."""
 
 
 def by_left(row, _above, step):
-    """A row whose bytes are told by those at their left."""
+    """Adds to each byte of a row the one at its left."""
     for channel in range(step):
         row[channel::step] = bytes(itertools.accumulate(row[channel::step], lambda left, own: (left + own) & 255))
 
 
 def by_above(row, above, _step):
-    """A row whose bytes are told by those above them."""
+    """Adds to each byte of a row the one above it."""
     row[:] = bytes((own + high) & 255 for own, high in zip(row, above))
 
 
 def by_both(row, above, step):
-    """A row whose bytes are told by the mean of both."""
+    """Adds to each byte of a row the mean of both."""
     for x, high in enumerate(above):
         row[x] = (row[x] + ((row[x - step] if x >= step else 0) + high >> 1)) & 255
 
 
 def by_nearest(row, above, step):
-    """A row whose bytes are told by the neighbour that is nearest to left + above - corner."""
+    """Adds to each byte of a row the neighbour that is nearest to left + above - corner."""
     for x, high in enumerate(above):
         left, corner = (row[x - step], above[x - step]) if x >= step else (0, 0)
         to_left, to_above, to_corner = abs(high - corner), abs(left - corner), abs(left + high - 2 * corner)
@@ -176,13 +176,13 @@ def pixel_of(kind, bits, sample, palette, transparency, key):
 
 
 def sides(data):
-    """The sides that a PNG file says to have, or none where it does not begin with them."""
+    """Returns the sides that a PNG file says it has, or none where it does not begin with them."""
     first = len(MAGIC) + 4
     return struct.unpack_from(">II", data, first + 4) if data[first : first + 4] == b"IHDR" and len(data) >= first + 12 else None
 
 
 def wide(width, kind, row):
-    """The pixels of a row of eight bits a channel whose colours are told by themselves, with the alpha where it has none."""
+    """Returns the pixels of a row of eight bits a channel that needs no palette, opaque where it has no alpha."""
     if kind == COLOUR_ALPHA:
         return row
     pixels = bytearray(b"\xff" * (4 * width))

@@ -31,7 +31,7 @@ def checked(text, film):
 
 
 def checked_bytes(given):
-    """The same of a script and a film that may be any bytes."""
+    """Returns the same of a script and a film that may be any bytes."""
     ran = subprocess.run([str(PROGRAM), "check"], input=given, capture_output=True, timeout=SECONDS, check=False)
     return ran.returncode, ran.stderr.decode("utf-8", "replace")
 
@@ -55,6 +55,6 @@ def logged_bytes(data, depth):
 
 
 def printed_bytes(data):
-    """The exit status and the notes of a script that is printed, which may be any bytes."""
+    """Returns the exit status and the notes of a script that is printed, which may be any bytes."""
     ran = subprocess.run([str(PROGRAM), "print"], input=data, capture_output=True, timeout=SECONDS, check=False)
     return ran.returncode, ran.stderr.decode("utf-8", "replace")

@@ -263,7 +263,7 @@ class Story:
         return self.names.get(handle, f"handle {handle}")
 
     def of(self, handle):
-        """Of which object something is, in words, or nothing where no handle tells that."""
+        """Tells of which object something is, or nothing where no handle tells that."""
         return f" of {self.named(handle)}" if handle else ""
 
     def what(self, step, entry):

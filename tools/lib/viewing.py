@@ -1,4 +1,5 @@
-"""What tools that show a film need beside the display: the frames of one port, what keys do, and a script that is played anew when it changes."""
+"""What tools that show a film need beside the display: the frames of one port, what keys do, and a script that is played anew when it
+changes."""
 
 import subprocess
 import sys
