@@ -12,7 +12,7 @@ from lib.calls import table
 from lib.calls_pages import LETTERS, forms
 from lib.encoding import text_of, wrong_byte, wrong_file
 from lib.grammar import PAINTS, Fault as Broken, Reader, first_fault
-from lib.limits import MOST_LINES, MOST_NUMBER, MOST_SIDE
+from lib.limits import MOST_LINES, MOST_NUMBER, MOST_PORTS, MOST_SIDE
 from lib.program import PROGRAM, printed_bytes
 from lib.script import CLIENTS, HEADER, lines_of
 from lib.tool import Refused
@@ -30,10 +30,6 @@ RULES = {
     8: "the script ends without the line end",
     9: f"a script has at most {MOST_LINES:,} lines",
 }
-PLACES = (
-    "ports come first, four at most; then pipes once, then the event lines, and end last; before the first port stands nothing; a tick "
-    "is client 0's"
-)
 SIZE = f"a width and a height as 320x240, each from 1 to {MOST_SIDE:,}"
 PIXELS = f"8 hexadecimal digits for each pixel, red, green, blue and alpha, of at most {MOST_SIDE:,} pixels"
 IS_SIZE = re.compile(r"\d+x\d+")
@@ -360,6 +356,24 @@ def near_verbs(word):
     return [f"perhaps {' or '.join(told_forms)}" if close else "a verb, of which docs/formats.md has the table"]
 
 
+def place_mistake(fault):
+    """Rule 4: why the line may not stand where it does."""
+    first, reader = fault.said[0], fault.reader
+    if reader.has_end:
+        told = "nothing, since the script ends before this line"
+    elif not reader.ports and first != "port":
+        told = "a port, as port 320x240, before anything else"
+    elif first == "port" and reader.ports == MOST_PORTS:
+        told = f"no port more: a script has at most {MOST_PORTS}"
+    elif first == "port":
+        told = "no port: ports stand before pipes and before the first event line"
+    elif first == "pipes":
+        told = "no pipes: it stands once, before the first event line"
+    else:
+        told = "0 tick, since the clock is client 0's"
+    return [fault.column(0)], [told]
+
+
 def count_mistake(fault):
     """Rule 5: the first word that is too many, or how many are missing."""
     said = fault.said
@@ -415,16 +429,23 @@ def device_mistake(fault):
     return [fault.column(fault.verb_at + 1)], [f"a device in front of {fault.said[fault.verb_at + 1]}, as {devices[0] if devices else 'd'}"]
 
 
-MISTAKES = {0: header_mistake, 1: byte_mistake, 2: first_mistake, 3: verb_mistake, 5: count_mistake, 6: word_mistake, 7: word_mistake}
+MISTAKES = {
+    0: header_mistake,
+    1: byte_mistake,
+    2: first_mistake,
+    3: verb_mistake,
+    4: place_mistake,
+    5: count_mistake,
+    6: word_mistake,
+    7: word_mistake,
+}
 
 
 def mistake(fault):
     """Returns the columns of the words that are wrong, and what is told of them."""
     if fault.rule in (5, 6, 7) and without_device(fault):
         return device_mistake(fault)
-    if fault.rule in MISTAKES:
-        return MISTAKES[fault.rule](fault)
-    return ([fault.column(0)], [PLACES]) if fault.rule == 4 else ([], [])
+    return MISTAKES[fault.rule](fault) if fault.rule in MISTAKES else ([], [])
 
 
 def shown(line, carets):
