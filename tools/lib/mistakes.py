@@ -3,6 +3,7 @@
 Whether a script is refused, and by which rule, the program decides where it is built, and else lib/grammar.py, which tools/try-model
 compares with it. What may stand in a place is found by that reader: it reads the line with one word changed, more or less."""
 
+import contextlib
 import copy
 import difflib
 import re
@@ -75,7 +76,9 @@ class Fault:
         """Returns the reader as it stands before the line."""
         reader = Reader()
         for line in self.lines[1 : self.number - 1]:
-            reader.line(line.encode("utf-8"))
+            # The program has read these lines, whatever this reader says of them.
+            with contextlib.suppress(Broken):
+                reader.line(line.encode("utf-8"))
         return reader
 
     @property
@@ -106,8 +109,8 @@ class Fault:
     @cached_property
     def visible(self):
         """Returns the names that the line's client sees."""
-        client = self.said[0] if self.said else ""
-        return self.reader.of_setup | (self.reader.names[int(client)] if client in CLIENTS and client else set())
+        client = self.said[0]
+        return self.reader.of_setup | (self.reader.names[int(client)] if client in tuple(CLIENTS) else set())
 
     def breaks(self, words):
         """Returns the rule that the line breaks with these words in its place, or none."""
