@@ -13,7 +13,7 @@ from lib.calls import table
 from lib.calls_pages import LETTERS, forms
 from lib.encoding import text_of, wrong_byte, wrong_file
 from lib.grammar import PAINTS, Fault as Broken, Reader, first_fault
-from lib.limits import MOST_LINES, MOST_NUMBER, MOST_PORTS, MOST_SIDE
+from lib.limits import MOST_LINES, MOST_NUMBER, MOST_PORTS, MOST_SCRIPT, MOST_SIDE
 from lib.program import PROGRAM, printed_bytes
 from lib.script import CLIENTS, HEADER, lines_of
 from lib.tool import Refused
@@ -34,6 +34,7 @@ RULES = {
 SIZE = f"a width and a height as 320x240, each from 1 to {MOST_SIDE:,}"
 PIXELS = f"8 hexadecimal digits for each pixel, red, green, blue and alpha, of at most {MOST_SIDE:,} pixels"
 IS_SIZE = re.compile(r"\d+x\d+")
+COMMAS = re.compile(r"[^,]+,.*")
 COMMENT = "a comment, which begins with #"
 COMMENT_FOLLOWS = "what follows # is a comment"
 # How comments begin in other languages.
@@ -135,6 +136,8 @@ class Fault:
 
 def fault_of(data):
     """Returns the first fault of a script, or none."""
+    if len(data) > MOST_SCRIPT:
+        raise Refused(f"the script has {len(data):,} bytes, and at most {MOST_SCRIPT:,} are read")
     if not PROGRAM.is_file():
         found = first_fault(data)
         return Fault(data, *found) if found else None
@@ -444,10 +447,24 @@ MISTAKES = {
 }
 
 
+def apart_mistake(fault):
+    """Rules 5 and 6: words that stand apart otherwise than by spaces: by commas, or a width and a height by an x. Nothing where that is not
+    what is wrong."""
+    for sign, pattern in ((",", COMMAS), ("x", IS_SIZE)):
+        places = [place for place, word in enumerate(fault.said) if pattern.fullmatch(word)]
+        words = " ".join(word.replace(sign, " ") if place in places else word for place, word in enumerate(fault.said)).split()
+        if places and fault.helps(words):
+            return [fault.column(place) for place in places], [f"words apart by spaces alone: {' '.join(words)}"]
+    return None
+
+
 def mistake(fault):
     """Returns the columns of the words that are wrong, and what is told of them."""
     if fault.rule in (5, 6, 7) and without_device(fault):
         return device_mistake(fault)
+    apart = apart_mistake(fault) if fault.rule in (5, 6) else None
+    if apart:
+        return apart
     return MISTAKES[fault.rule](fault) if fault.rule in MISTAKES else ([], [])
 
 
