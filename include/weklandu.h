@@ -13,10 +13,10 @@
  *   thread after another. wk_paint, wk_frame_extent and wk_read_frame need the frame's handle alone, so a caller paints and reads outside
  *   of the machine's mutex, and holds it for wk_begin_* and wk_end.
  * - No call from a signal handler, nor in a child between fork and exec. malloc, realloc and free are those of one allocator.
- * - A thread that paints has a stack of STACK_KB KB (docs/embedding.md).
+ * - A thread that paints has 192 KB of stack: wk_paint, wk_read_frame and wk_end of a frame that was not painted yet.
  *
- * A client is a number of the caller's, by which the machine tells apart who called. Pixels stand row by row, stride bytes apart. Link
- * with -lweklandu. `make` needs nothing else: the library calls malloc, realloc, free and what copies memory.
+ * A client is a number of the caller's, which says who called and changes no answer. Pixels stand row by row, stride bytes apart. Link
+ * with -lweklandu. The library calls malloc, realloc, free, memcpy, memmove and memset, and nothing else.
  */
 #ifndef WEKLANDU_H
 #define WEKLANDU_H

@@ -18,7 +18,7 @@ FOUR = 4
 
 
 class Made(NamedTuple):
-    """A call of the library: the name of its function behind `wk_`, the client and the other arguments, and the code and the value that it
+    """A call of the library: the name of its function after `wk_`, the client and the other arguments, and the code and the value that it
     answers."""
 
     name: str

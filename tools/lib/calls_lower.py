@@ -225,8 +225,8 @@ def calls_antt(table):
     """Returns Calls.antt of wf_model: what each call does, by who answers it."""
     marks = {call.name: "memory_refused" if call.is_creation else "" for call in table.calls}
 
-    def lines(part, before, behind, done):
-        return "".join(equation(f"{before} {applied('call', c)}{behind}", done(c)) for c in table.calls if c.part == part)
+    def lines(part, before, after, done):
+        return "".join(equation(f"{before} {applied('call', c)}{after}", done(c)) for c in table.calls if c.part == part)
 
     def by_core(call):
         return model(call, "screen" if call.texts.get("sees") == "screen" else "", marks[call.name])

@@ -41,14 +41,14 @@ def verbs_py(table):
                          for name, own in objects.items()).replace("'", '"')
     kinds = {name: kind.words for name, kind in table.kinds.items() if len(kind.words) > 1}
     words = "".join(f"    {name!r}: ({', '.join(map(repr, own))}),\n" for name, own in kinds.items()).replace("'", '"')
-    return f'''"""The words of scripts: verbs with what stands behind them, and attributes. {WHOLE}"""
+    return f'''"""The words of scripts: verbs with what stands after them, and attributes. {WHOLE}"""
 
-# The attributes of each kind of object, with what stands behind them: so many numbers, or a word of this kind.
+# The attributes of each kind of object, with what stands after them: so many numbers, or a word of this kind.
 ATTRIBUTES = {{
 {attributes}}}
 WORDS = {{
 {words}}}
-# What stands behind each verb. `set X` is an attribute of X with its value, `get X` one with the number of a component.
+# What stands after each verb. `set X` is an attribute of X with its value, `get X` one with the number of a component.
 VERBS = {{
 {entries(table, False)}}}
 CREATIONS = {{

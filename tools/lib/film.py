@@ -6,7 +6,7 @@ A film is refused at its first fault, which has a place, the first byte that is 
 2  the letter of a part is not one that may come here
 3  the film ends too early; the place is the film's length
 4  a port, a side, a client or a code is out of its range
-5  something stands behind the end
+5  something stands after the end
 """
 
 import contextlib
@@ -67,9 +67,17 @@ class Entry(NamedTuple):
         return f"{CODES[self.code]} {self.value}"
 
 
+def counted(codes):
+    """Tells how many events there are and how many of them are refused, by a count of each code."""
+    total = sum(codes.values())
+    each = ", ".join(f"{codes[code]:,} {CODES[code]}" for code in sorted(codes) if code != OK)
+    events = f"{total:,} event{'s' * (total != 1)}"
+    return f"{events}, {total - codes[OK]:,} of them refused: {each}" if each else f"{events}, none of them refused"
+
+
 class Film:
     """A film that is read from a stream: its form at once, then the frames, and then the entries of the journal. What is
-    behind the place that was asked for is not looked at yet."""
+    after the place that was asked for is not looked at yet."""
 
     def __init__(self, source):
         self.source = source
@@ -119,7 +127,7 @@ class Film:
             yield Frame(port, tick, begin, width, height, self.take(4 * width * height, "the pixels of a frame"))
 
     def entries(self):
-        """The entries of the journal. Frames that were not asked for are passed over; behind the last entry the film ends."""
+        """The entries of the journal. Frames that were not asked for are passed over; after the last entry the film ends."""
         for _ in self.frames():
             pass
         for _ in range(self.number(4, 0, MOST_NUMBER, "the number of entries")):
@@ -128,7 +136,7 @@ class Film:
             yield Entry(client, code, self.number(4, 0, MOST_NUMBER, "the value of an entry"))
         self.tag((b"E",), "the letter of the end")
         if self.source.read(1):
-            raise NoFilm(self.place, 5, "something stands behind the end")
+            raise NoFilm(self.place, 5, "something stands after the end")
 
 
 class Survey:

@@ -92,7 +92,7 @@ class Reader:
         self.of_setup = set()
 
     def line(self, raw):
-        """Reads a line behind the first, or refuses it."""
+        """Reads a line after the first, or refuses it."""
         raw = raw[:-1] if raw.endswith(b"\r") else raw
         need(all(byte == 9 or 0x20 <= byte <= 0x7E for byte in raw), 1)
         words = [word for word in re.split(r"[ \t]+", raw.decode("ascii").partition("#")[0]) if word]
@@ -122,8 +122,12 @@ class Reader:
             need(len(words) == 1, 5)
             self.has_end = True
 
+    def sees(self, client, name):
+        """A client sees a name."""
+        return name in self.names[client] or name in self.of_setup
+
     def event(self, client, words):
-        """Reads an event line behind its client."""
+        """Reads an event line after its client."""
         binds = words[1:2] == ["="]
         name, words = (words[0], words[2:]) if binds else (None, words)
         need(words and words[0] in (CREATIONS if binds else VERBS), 3)
@@ -136,9 +140,9 @@ class Reader:
             what, _, of = str(kind).partition(" ")
             need(word in ATTRIBUTES[of] if what == "get" else what in ("set", "paint") or is_of_kind(word, kind), 6)
         self.in_setup = self.in_setup and client == 0
-        seen = self.names[client] | self.of_setup
-        need(all(word in seen for word, kind in zip(words, kinds) if kind == "handle" and word != "none"), 7)
-        need(name is None or name not in seen, 7)
+        used = [word for word, kind in zip(words, kinds) if kind == "handle" and word != "none"]
+        need(all(self.sees(client, word) for word in used), 7)
+        need(name is None or not self.sees(client, name), 7)
         if name is not None:
             (self.of_setup if self.in_setup else self.names[client]).add(name)
         self.has_events = True

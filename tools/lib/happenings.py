@@ -3,10 +3,9 @@ program. The order is played again by lib/replay.py, so it may be that of any fi
 
 from typing import NamedTuple
 
-from lib.grammar import first_fault
 from lib.names import Counted
 from lib.replay import Replay
-from lib.script import DISPLAY_COMMITS, Misfit
+from lib.script import DISPLAY_COMMITS, Step
 
 
 class Watched(Counted):
@@ -43,47 +42,31 @@ class Watched(Counted):
 
 
 class Moment(NamedTuple):
-    """A turn of an order: its place, counted from 0, the number of its line and whether that is a tick, and what happened in it."""
+    """A turn of an order: its place, counted from 0, its step, what happened in it, and the replay right after it."""
 
     place: int
-    line: int
-    is_tick: bool
+    step: Step
     happened: list
+    replay: Replay
+
+    @property
+    def line(self):
+        """Answers the number of its line."""
+        return self.step.line.number
 
 
-def moments(lines, order):
-    """Plays the `order` of a script's `lines`, and gives its turns one after another. Raises Misfit where it is none."""
-    replay = Replay(lines, Watched)
+def moments(lines, order, kind=Watched):
+    """Plays the `order` of a script's `lines` on a machine of a `kind`, and gives its turns one after another. Raises Misfit where it is
+    none."""
+    replay = Replay(lines, kind)
     for place, step in enumerate(replay.play(order)):
-        yield Moment(place, step.line.number, step.line.verb == "tick", replay.machine.happened)
-
-
-class Happened(NamedTuple):
-    """What happened in each turn of an order, up to the first that the machine answers otherwise, and how it does, or nothing. It is not
-    known of any turn where a line breaks a rule."""
-
-    turns: list
-    fault: str
-
-
-def happened(lines, order):
-    """Tells what happened in each turn of the `order` of a script's `lines`, which may be no script."""
-    broken = first_fault("\n".join(line.text for line in lines).encode("utf-8", "replace"))
-    if broken:
-        return Happened([], "line {}: rule {}".format(*broken))
-    turns = []
-    try:
-        for moment in moments(lines, order):
-            turns.append(moment.happened)
-    except Misfit as misfit:
-        return Happened(turns, str(misfit))
-    return Happened(turns, "")
+        yield Moment(place, step, replay.machine.happened, replay)
 
 
 def log(lines, order, depth):
     """Answers the log of the `order` of a script's `lines`, by a queue of `depth` entries. Raises Misfit where it is no order of them."""
     turns = list(moments(lines, order))
-    last = {turn.line: turn.place for turn in turns if turn.is_tick}
+    last = {turn.line: turn.place for turn in turns if turn.step.line.verb == "tick"}
     emptied = {*last.values(), len(turns) - 1}
     text, queue, lost = "", [], 0
     for turn in turns:

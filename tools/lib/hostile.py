@@ -38,7 +38,7 @@ SCRIPTS = {
     "spaces": (lambda size: b" " * size, 5),
     "bytes 0": (lambda size: bytes(size), 5),
     "bytes at random": (lambda size: random.Random(7).randbytes(size), 5),
-    "bytes at random behind the header": (lambda size: b"WFS1\n" + random.Random(7).randbytes(size - 5), 5),
+    "bytes at random after the header": (lambda size: b"WFS1\n" + random.Random(7).randbytes(size - 5), 5),
     "a word that fills a line": (lambda size: START + b"0 " + b"a" * (size - len(START) - 2), 5),
     "words that fill a line": (lambda size: START + b"0 stat" + b" a" * ((size - len(START) - 6) // 2), 5),
     "empty lines": (lambda size: START + b"\n" * (size - len(START)), 5),

@@ -7,6 +7,9 @@ from typing import NamedTuple
 from lib.model import Machine, Thing, add, need
 
 
+A_FRAME_RUNS = "a frame runs"
+
+
 class Frame(NamedTuple):
     """The running frame: its number, its context or None, its port or 0, and the streams whose images are in it."""
 
@@ -77,7 +80,8 @@ class Counted(Machine):
         """The stream of a canvas, which has a number, a format and sides, where that is its write buffer and out at a client."""
         number, form, width, height = words
         stream = next((each for each in self.streams if each.number == number), None)
-        need(stream is not None and stream.out == "client" and (stream.form, stream.w, stream.h) == (form, width, height), "BadHandle")
+        is_own = stream is not None and stream.out == "client" and (stream.form, stream.w, stream.h) == (form, width, height)
+        need(is_own, "BadHandle", "no such write buffer is out")
         stream.out = None
         return stream
 
@@ -98,7 +102,7 @@ class Counted(Machine):
         self.frame = Frame(self.begun, context, port, [stream for stream in shown.values() if id(stream) in images])
 
     def begin_next(self, words, _):
-        need(self.frame is None, "Busy")
+        need(self.frame is None, "Busy", A_FRAME_RUNS)
         context = self.next_context(words[0])
         if context is None:
             return 0
@@ -107,13 +111,13 @@ class Counted(Machine):
 
     def begin_context(self, words, _):
         context = self.context_for(words)
-        need(self.frame is None, "Busy")
+        need(self.frame is None, "Busy", A_FRAME_RUNS)
         self.run(context, 0, self.begin(context, 0))
         return context.handle
 
     def begin_port(self, words, _):
         self.numbered(self.ports, words[0])
-        need(self.frame is None, "Busy")
+        need(self.frame is None, "Busy", A_FRAME_RUNS)
         begun = super().begin_port(words[0])
         if begun is None:
             return 0
@@ -122,7 +126,7 @@ class Counted(Machine):
 
     def end(self, words, _):
         """Ends the running frame, where the Job has its number and its kind: a context's handle and its target's number, or a port."""
-        need(self.frame is not None and tuple(words) == job_of(self.frame), "BadHandle")
+        need(self.frame is not None and tuple(words) == job_of(self.frame), "BadHandle", "no such frame runs")
         context, self.frame = self.frame.context, None
         if context:
             super().end(context, self.image)

@@ -43,7 +43,7 @@ class Names:
         (self.of_setup if in_setup else self.values[client])[name] = handle
 
     def read(self, client, verb, words):
-        """Answers the `words` behind a `verb` of a `client` as a call has them: numbers, handles by their names, and flags by their
+        """Answers the `words` after a `verb` of a `client` as a call has them: numbers, handles by their names, and flags by their
         words."""
         form = (CREATIONS | VERBS)[verb]
         read = []
@@ -109,7 +109,7 @@ class Show:
         return self.event(client, code, value)
 
     def line(self, client, words):
-        """Plays a line of a client behind its number."""
+        """Plays a line of a client after its number."""
         self.in_setup = self.in_setup and client == 0
         name, words = (words[0], words[2:]) if words[1:2] == ["="] else (None, words)
         verb, words = words[0], words[1:]
@@ -200,7 +200,7 @@ class Piece(NamedTuple):
 
 
 def pieces(show, form):
-    """The pieces of a play's film. A frame that is not written whole is ended, and nothing is played behind it."""
+    """The pieces of a play's film. A frame that is not written whole is ended, and nothing is played after it."""
     found = [Piece(MAGIC[form], 0)]
     for frame in show.frames:
         where = struct.pack(">BI", frame.port, frame.tick) + (struct.pack(">I", frame.begin) if form == 2 else b"")

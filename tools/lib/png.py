@@ -1,5 +1,6 @@
 """Writes pictures as PNG and as animated PNG, and reads small ones."""
 
+import itertools
 import struct
 import zlib
 
@@ -94,10 +95,40 @@ def chunks_of(data):
         at += 12 + length
 
 
-def paeth(left, above, corner):
-    """The neighbour that is nearest to left + above - corner."""
-    wanted = left + above - corner
-    return min((left, above, corner), key=lambda near: abs(wanted - near))
+# Each filter, undone in the bytes of a row, of which `step` bytes lie from a pixel to the next.
+
+
+def as_it_is(_row, _above, _step):
+    """Keeps a row as it is."""
+
+
+def by_left(row, _above, step):
+    """Adds to each byte of a row the one at its left."""
+    for channel in range(step):
+        row[channel::step] = bytes(itertools.accumulate(row[channel::step], lambda left, own: (left + own) & 255))
+
+
+def by_above(row, above, _step):
+    """Adds to each byte of a row the one above it."""
+    row[:] = bytes((own + high) & 255 for own, high in zip(row, above))
+
+
+def by_both(row, above, step):
+    """Adds to each byte of a row the mean of both."""
+    for x, high in enumerate(above):
+        row[x] = (row[x] + ((row[x - step] if x >= step else 0) + high >> 1)) & 255
+
+
+def by_nearest(row, above, step):
+    """Adds to each byte of a row the neighbour that is nearest to left + above - corner."""
+    for x, high in enumerate(above):
+        left, corner = (row[x - step], above[x - step]) if x >= step else (0, 0)
+        to_left, to_above, to_corner = abs(high - corner), abs(left - corner), abs(left + high - 2 * corner)
+        near = left if to_left <= to_above and to_left <= to_corner else high if to_above <= to_corner else corner
+        row[x] = (row[x] + near) & 255
+
+
+FILTERS = (as_it_is, by_left, by_above, by_both, by_nearest)
 
 
 def unfiltered(data, height, stride, step):
@@ -107,12 +138,9 @@ def unfiltered(data, height, stride, step):
     above = bytes(stride)
     for start in range(0, len(data), stride + 1):
         kind, row = data[start], bytearray(data[start + 1 : start + 1 + stride])
-        if kind > 4:
+        if kind >= len(FILTERS):
             raise NoPng("its pixels are damaged")
-        for x in range(stride if kind else 0):
-            left, corner = (row[x - step], above[x - step]) if x >= step else (0, 0)
-            predicted = (0, left, above[x], (left + above[x]) // 2, paeth(left, above[x], corner))[kind]
-            row[x] = (row[x] + predicted) % 256
+        FILTERS[kind](row, above, step)
         yield row
         above = row
 
@@ -147,6 +175,22 @@ def pixel_of(kind, bits, sample, palette, transparency, key):
     return bytes((whole * 3)[:3] + [alpha])
 
 
+def sides(data):
+    """Returns the sides that a PNG file says it has, or none where it does not begin with them."""
+    first = len(MAGIC) + 4
+    return struct.unpack_from(">II", data, first + 4) if data[first : first + 4] == b"IHDR" and len(data) >= first + 12 else None
+
+
+def wide(width, kind, row):
+    """Returns the pixels of a row of eight bits a channel that needs no palette, opaque where it has no alpha."""
+    if kind == COLOUR_ALPHA:
+        return row
+    pixels = bytearray(b"\xff" * (4 * width))
+    for channel in range(3):
+        pixels[channel::4] = row[channel::3]
+    return pixels
+
+
 def read(data, most):
     """The sides of a PNG file and its pixels, which are red, green, blue and alpha in rows from the top. Sides are at most so
     long. Of 16 bits a channel the upper 8 are taken; colours are taken as they stand, whatever their profile."""
@@ -172,7 +216,11 @@ def read(data, most):
     palette, transparency = parts.get(b"PLTE", b""), parts.get(b"tRNS", b"")
     key = key_of(kind, bits, transparency)
     pixels = bytearray()
+    is_plain = bits == 8 and kind in (COLOUR, COLOUR_ALPHA) and key is None
     for row in unfiltered(rows, height, stride, max(1, CHANNELS[kind] * bits // 8)):
+        if is_plain:
+            pixels += wide(width, kind, row)
+            continue
         told = samples(row, bits, count)
         for x in range(0, count, CHANNELS[kind]):
             pixels += pixel_of(kind, bits, told[x : x + CHANNELS[kind]], palette, transparency, key)

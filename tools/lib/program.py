@@ -26,8 +26,12 @@ def play_bytes(data, form=2, *more):
 
 
 def checked(text, film):
-    """The exit status and the notes of a check of the film behind a script."""
-    given = text.encode("utf-8") + film
+    """The exit status and the notes of a check of the film after a script."""
+    return checked_bytes(text.encode("utf-8") + film)
+
+
+def checked_bytes(given):
+    """Returns the same of a script and a film that may be any bytes."""
     ran = subprocess.run([str(PROGRAM), "check"], input=given, capture_output=True, timeout=SECONDS, check=False)
     return ran.returncode, ran.stderr.decode("utf-8", "replace")
 
@@ -39,7 +43,7 @@ def has_events():
 
 
 def logged(text, film, depth):
-    """Answers the exit status, the log and the notes of a `film` behind the script `text`, by a queue of `depth` entries."""
+    """Answers the exit status, the log and the notes of a `film` after the script `text`, by a queue of `depth` entries."""
     return logged_bytes(text.encode("utf-8") + film, depth)
 
 
@@ -50,8 +54,7 @@ def logged_bytes(data, depth):
     return ran.returncode, ran.stdout, ran.stderr.decode("utf-8", "replace")
 
 
-def printed(text):
-    """The exit status and the notes of a script that is printed."""
-    words = [str(PROGRAM), "print"]
-    ran = subprocess.run(words, input=text.encode("utf-8"), capture_output=True, timeout=SECONDS, check=False)
+def printed_bytes(data):
+    """Returns the exit status and the notes of a script that is printed, which may be any bytes."""
+    ran = subprocess.run([str(PROGRAM), "print"], input=data, capture_output=True, timeout=SECONDS, check=False)
     return ran.returncode, ran.stderr.decode("utf-8", "replace")

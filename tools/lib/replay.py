@@ -118,6 +118,15 @@ class Replay:
         return bytes(canvas.pixels)
 
 
+def serial(lines):
+    """Plays the `lines` of a script in the order of the file, without pictures. Answers the order."""
+    programs, replay = Programs(lines), Replay(lines)
+    while any(programs.wanted.values()):
+        _, client = min((step.line.number, client) for client, step in programs.wanted.items() if step)
+        programs.answer(replay.answer(programs.wanted[client], client))
+    return replay.turns
+
+
 def shuffled(text, chance):
     """Plays the script `text` in an order at random, by `chance`: each turn is that of any client that may have it, and some creations get
     no memory. Answers the play."""
@@ -133,7 +142,7 @@ def shuffled(text, chance):
 
 
 def verdict(text, data):
-    """Answers the exit status and the notes of a check of a film, `data`, behind the script `text`."""
+    """Answers the exit status and the notes of a check of a film, `data`, after the script `text`."""
     replay = Replay(lines_of(text), paints=True)
     try:
         read = Film(io.BytesIO(data))

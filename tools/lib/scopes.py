@@ -97,7 +97,7 @@ class Names:
             bound = bound | {words[0]}
 
     def _clause(self, item, bound):
-        """Reads a clause with what is defined for it behind `where`."""
+        """Reads a clause with what is defined for it after `where`."""
         place = next((place for place, line in enumerate(item) if line.strip() == "where"), len(item))
         local = item[place + 1 :]
         heads = {without_modifiers(list(tokens_of(own)))[0] for own in items_of(local)}

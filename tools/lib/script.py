@@ -46,7 +46,7 @@ DISPLAY_COMMITS = ("commit_device", "commit_port", "commit_pipe")
 
 
 class Line(NamedTuple):
-    """A line of a script: its number, what it says, the comment behind that, and of an event line who speaks, the name that
+    """A line of a script: its number, what it says, the comment after that, and of an event line who speaks, the name that
     is bound and the verb."""
 
     number: int
@@ -70,7 +70,7 @@ class Misfit(Exception):
     """A journal is not that of the script: at which entry, counted from 0, that shows, and how."""
 
     def __init__(self, place, fault):
-        super().__init__(f"event {place + 1}: {fault}")
+        super().__init__(f"event {place}: {fault}")
         self.place = place
 
 
@@ -166,7 +166,7 @@ class Programs:
         return self.wanted[0] is None or self.wanted[0].line.number not in self.setup
 
     def answer(self, entry):
-        """Goes on behind the step of a client that is answered by `entry`."""
+        """Goes on after the step of a client that is answered by `entry`."""
         try:
             self.wanted[entry.client] = self.running[entry.client].send(reply(self.wanted[entry.client], entry))
         except StopIteration:
@@ -233,7 +233,7 @@ class Story:
         elif step.what == PORT and came:
             self.shown.append(Shown(step.port, self.ticks[line.number], place, self.composed.get(step.port)))
         is_news = came and (step.what == POST or step.what == CALL and line.verb in NEWS)
-        return Told(line, self.what(step, value), self.meaning(step, entry), is_news)
+        return Told(line, self.what(step, entry), self.meaning(step, entry), is_news)
 
     def judge(self, place, step, entry):
         """Raises Misfit for an answer that the line can't get: an Ok with another value, or a fault of a commit."""
@@ -262,14 +262,18 @@ class Story:
         """An object in words."""
         return self.names.get(handle, f"handle {handle}")
 
-    def what(self, step, value):
+    def of(self, handle):
+        """Tells of which object something is, or nothing where no handle tells that."""
+        return f" of {self.named(handle)}" if handle else ""
+
+    def what(self, step, entry):
         """What an event does, where its line makes several."""
         if step.what == CALL or step.what == ACQUIRE and step.line.verb == "acquire":
             return ""
-        if step.what == NEXT_CONTEXT and value == 0:
+        if step.what == NEXT_CONTEXT and entry.value == 0:
             return "no more contexts"
         if step.what in (NEXT_CONTEXT, BEGIN):
-            return f"frame of {self.named(value)} begins"
+            return f"frame of {self.named(entry.value)} begins" if entry.code == OK else f"no frame{self.of(entry.value)} begins"
         if step.what == PORT:
             return f"frame of port {step.port} begins"
         if step.what == END:

@@ -176,7 +176,7 @@ def mangled(chance, text):
             data[place : place + 1] = chance.choice((b" ", b"\t", b"\r", b"\n", b"#", b"=", b"-", b"0", b"a", b"_", b"x", b"\x7f", b"\xff"))
         else:
             start = data.rfind(b" ", 0, place) + 1
-            behind = data.find(b" ", place)
-            data[start : behind if behind >= 0 else len(data)] = chance.choice(words).encode()
+            after = data.find(b" ", place)
+            data[start : after if after >= 0 else len(data)] = chance.choice(words).encode()
         data = data or bytearray(b"W")
     return bytes(data)

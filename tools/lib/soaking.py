@@ -369,6 +369,6 @@ def cases(soaking):
 
 
 def beginning(soaking, place):
-    """The lines up to one of these, by its place from 0, without the looks before it, and the number of the event that it is of."""
+    """The lines up to one of these, by its place from 0, without the looks before it, and the number of the event that it is of, from 0."""
     kept = [text for text, kind in soaking.lines[:place] if kind != LOOK] + [soaking.lines[place][0]]
-    return "".join(f"{text}\n" for text in kept), sum(kind == EVENT for _, kind in soaking.lines[: place + 1])
+    return "".join(f"{text}\n" for text in kept), max(0, sum(kind == EVENT for _, kind in soaking.lines[: place + 1]) - 1)

@@ -58,6 +58,9 @@ def run(name, main):
     """Runs a tool and ends with its status. Each way that does not work has one line: no film (2), a refusal or no way to
     read or write (1), a Ctrl-C (130). Where nobody reads on, the tool ends as other programs do."""
     signal.signal(signal.SIGPIPE, signal.SIG_DFL)
+    for told in sys.stdout, sys.stderr:
+        # A terminal may have no sign for a letter of a script.
+        told.reconfigure(errors="backslashreplace")
     status, line = DONE, None
     try:
         main()

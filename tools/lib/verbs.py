@@ -1,6 +1,6 @@
-"""The words of scripts: verbs with what stands behind them, and attributes. tools/calls writes this file."""
+"""The words of scripts: verbs with what stands after them, and attributes. tools/calls writes this file."""
 
-# The attributes of each kind of object, with what stands behind them: so many numbers, or a word of this kind.
+# The attributes of each kind of object, with what stands after them: so many numbers, or a word of this kind.
 ATTRIBUTES = {
     "element": {
         "dest": 4,
@@ -48,7 +48,7 @@ WORDS = {
     "filter": ("none", "faster", "better"),
     "transparency": ("none", "alpha", "source", "mask", "alpha+source", "alpha+mask", "source+mask", "alpha+source+mask"),
 }
-# What stands behind each verb. `set X` is an attribute of X with its value, `get X` one with the number of a component.
+# What stands after each verb. `set X` is an attribute of X with its value, `get X` one with the number of a component.
 VERBS = {
     "del_stream": ["handle"],
     "acquire": ["handle"],
