@@ -28,7 +28,7 @@ from lib.wire import TABLE, arguments_of  # noqa: E402
 
 # The folder of the broker's sockets, where the variable names none.
 FOLDER = "/run/wf"
-PIECE = 1 << 20
+PIECE = 1 << 18
 OK = 0
 
 
@@ -97,11 +97,13 @@ def given(value):
 
 
 class Client:
-    """A connection to the broker by the socket of a `name`: `wm`, `app` or `out`. Use one in one thread."""
+    """A connection to the broker by the socket of a `name`: `wm`, `app` or `out`, in the folder `where`, or in that which WF_DIR names. Use
+    one in one thread."""
 
-    def __init__(self, name):
+    def __init__(self, name, where=None):
+        self.where = Path(where or folder())
         self.socket = socket.socket(socket.AF_UNIX, socket.SOCK_STREAM)
-        self.socket.connect(str(folder() / name))
+        self.socket.connect(str(self.where / name))
         self.socket.setblocking(False)
         self.out = bytearray()
         self.kept = bytearray()
@@ -143,7 +145,7 @@ class Client:
             if readable:
                 self.take_bytes()
             if writable:
-                del self.out[: self.socket.send(memoryview(bytes(self.out[:PIECE])))]
+                del self.out[: self.socket.send(self.out[:PIECE])]
 
     def take_more(self):
         """Sends all that was said, and waits until something comes."""
@@ -206,9 +208,9 @@ class Client:
 class Output(Client):
     """The client that ticks, and reads the frames."""
 
-    def __init__(self):
-        super().__init__("out")
-        self.frames = os.open(folder() / "frames", os.O_RDONLY | os.O_NONBLOCK)
+    def __init__(self, where=None):
+        super().__init__("out", where)
+        self.frames = os.open(self.where / "frames", os.O_RDONLY | os.O_NONBLOCK)
 
     def close(self):
         super().close()
