@@ -210,6 +210,16 @@ def film_frame(port, tick, width, height, pixels):
     return FRAME_HEAD.pack(b"F", port, tick, width, height) + pixels
 
 
+def film_frames(data):
+    """Yields the frames that stand in `data`, as a film of form 1 has them: each with its port, its tick, its sides and its pixels."""
+    at = 0
+    while at < len(data):
+        _, port, tick, width, height = FRAME_HEAD.unpack_from(data, at)
+        end = at + FRAME_HEAD.size + 4 * width * height
+        yield port, tick, width, height, data[at + FRAME_HEAD.size : end]
+        at = end
+
+
 def screen_frame(pixels):
     """Returns the pixels of a frame as words of X R G B with the lowest byte first: B, G, R and X, which is 255 as the alpha."""
     turned = bytearray(pixels)
