@@ -145,7 +145,7 @@ class Client:
             if readable:
                 self.take_bytes()
             if writable:
-                del self.out[: self.socket.send(self.out[:PIECE])]
+                del self.out[: self.socket.send(self.out[:PIECE], socket.MSG_NOSIGNAL)]
 
     def take_more(self):
         """Sends all that was said, and waits until something comes."""
