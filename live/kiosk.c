@@ -96,7 +96,10 @@ static void open_pointer(void) {
     if (!has_pointer) return;
     uint32_t stream = need(wf_stream_new(&client, POINTER, POINTER, WF_FORMAT_RGBA8_PRE, 2), "stream");
     need(wf_acquire(&client, stream), "canvas");
-    for (int y = 0; y < POINTER; y++) wf_rectangle(&client, 0, y, y + 1 < 2 * (POINTER - y) ? y + 1 : 2 * (POINTER - y), 1, 255, 255, 255, 255);
+    for (int y = 0; y < POINTER; y++) {
+        int below = 2 * (POINTER - y);
+        wf_rectangle(&client, 0, y, y + 1 < below ? y + 1 : below, 1, 255, 255, 255, 255);
+    }
     need(wf_post(&client), "post");
     uint32_t source = need(wf_display_source(&client, PIPE, stream), "source");
     need(wf_pipe_set(&client, PIPE, WF_PIPE_SRC_RECT, (const int64_t[]){0, 0, POINTER, POINTER}), "part");

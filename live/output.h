@@ -32,7 +32,8 @@ static inline int open_output(output *own, const char *where) {
     char path[sizeof address.sun_path + 8];
     signal(SIGPIPE, SIG_IGN); /* a broker that is gone shows by what write answers */
     *own = (output){.sock = socket(AF_UNIX, SOCK_STREAM | SOCK_CLOEXEC, 0)};
-    if ((size_t)snprintf(address.sun_path, sizeof address.sun_path, "%s/out", where) >= sizeof address.sun_path) return errno = ENAMETOOLONG, -1;
+    size_t length = (size_t)snprintf(address.sun_path, sizeof address.sun_path, "%s/out", where);
+    if (length >= sizeof address.sun_path) return errno = ENAMETOOLONG, -1;
     if (own->sock < 0 || connect(own->sock, (struct sockaddr *)&address, sizeof address)) return -1;
     snprintf(path, sizeof path, "%s/frames", where);
     own->frames = open(path, O_RDONLY | O_NONBLOCK | O_CLOEXEC);

@@ -4,9 +4,9 @@
  *     if (wf_open(&client, "/run/wf/app")) return 1;
  *     wf_told stream = wf_stream_new(&client, 64, 48, WF_FORMAT_RGBX8, 3);
  *
- * A function sends its message and waits for the answer. Between wf_begin and wf_end it does not wait: it answers 0 and 0 at once, and wf_end
- * waits for all and tells the first that was refused. What others tell goes to `heard`, where the client has one, which sends nothing itself.
- * No function allocates. Where the broker is gone, the code is WF_LOST. One client is used by one thread.
+ * A function sends its message and waits for the answer. Between wf_begin and wf_end it does not wait: it answers 0 and 0 at once, and
+ * wf_end waits for all and tells the first that was refused. What others tell goes to `heard`, where the client has one, which sends
+ * nothing itself. No function allocates. Where the broker is gone, the code is WF_LOST. One client is used by one thread.
  */
 #ifndef WFCLIENT_H
 #define WFCLIENT_H
@@ -93,7 +93,8 @@ static inline int wf_send(wf_client *client, uint8_t number, const int64_t *argu
 }
 
 /* Takes answers up to the next that somebody asked for, or up to the next at all where it `stops` there. Its number and the answer go to
- * `number` and `told`, and of the bytes behind, `most` to `room`. `heard` gets what came unasked. Returns 0, or -1 where the broker is gone. */
+ * `number` and `told`, and of the bytes behind, `most` to `room`. `heard` gets what came unasked. Returns 0, or -1 where the broker is
+ * gone. */
 static inline int wf_next(wf_client *client, uint8_t *number, wf_told *told, uint8_t *room, size_t most, bool stops) {
     uint8_t head[WF_ANSWER], own[WF_MOST_TOLD], rest[256];
     for (;;) {

@@ -233,7 +233,8 @@ class Output(Client):
 
 
 def method_of(own_name, name, arguments, has_bytes, does):
-    """Returns the method of a message: its own name, the message's, its arguments with their kinds, whether bytes follow, and what it does."""
+    """Returns the method of a message: its own name, the message's, its arguments with their kinds, whether it `has_bytes` behind them, and
+    what it does."""
     parameters = [inspect.Parameter(each, inspect.Parameter.POSITIONAL_OR_KEYWORD) for each, _ in arguments]
     if has_bytes:
         parameters.append(inspect.Parameter("data", inspect.Parameter.POSITIONAL_OR_KEYWORD, default=b""))

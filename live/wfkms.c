@@ -2,9 +2,9 @@
  *
  *     cc -O2 $(pkg-config --cflags libdrm) -o wfkms wfkms.c && ./wfkms DIR [CARD [FRAMES [PORT]]]
  *
- * DIR has the sockets of the broker, CARD is /dev/dri/card0, FRAMES and PORT are as of wfview. It takes the first output with a screen, in its
- * best mode, and shows a frame in the middle. It needs the kernel's headers of DRM and no library, and must be the only one that has the card.
- * With a DIR of `-` it shows a pattern of its own, with no broker. Pointer and keys are not read.
+ * DIR has the sockets of the broker, CARD is /dev/dri/card0, FRAMES and PORT are as of wfview. It takes the first output with a screen, in
+ * its best mode, and shows a frame in the middle. It needs the kernel's headers of DRM and no library, and must be the only one that has
+ * the card. With a DIR of `-` it shows a pattern of its own, with no broker. Pointer and keys are not read.
  */
 #define _GNU_SOURCE
 #include "output.h"
@@ -74,7 +74,8 @@ static void find_screen(void) {
         .encoder_id_ptr = (uintptr_t)encoders, .count_encoders = MOST_OBJECTS};
     ask(DRM_IOCTL_MODE_GETRESOURCES, &r, "what the card has");
     /* where there are more of a kind than there is room for, the card counts them and tells none */
-    uint32_t crtc_count = r.count_crtcs > MOST_OBJECTS ? 0 : r.count_crtcs, count = r.count_connectors > MOST_OBJECTS ? 0 : r.count_connectors;
+    uint32_t crtc_count = r.count_crtcs > MOST_OBJECTS ? 0 : r.count_crtcs;
+    uint32_t count = r.count_connectors > MOST_OBJECTS ? 0 : r.count_connectors;
     for (uint32_t i = 0; i < count; i++)
         if (try_connector(connectors[i], crtcs, crtc_count)) return;
     fprintf(stderr, "wfkms: no output has a screen\n");
@@ -105,7 +106,11 @@ static void draw(const buffer *b, const shown *frame) {
 /* Draws a pattern that moves. */
 static void draw_pattern(const buffer *b, long number) {
     static uint8_t pixels[4 * PATTERN * PATTERN];
-    for (size_t i = 0; i < sizeof pixels; i++) pixels[i] = (uint8_t)(i % 4 == 0 ? i / 4 + (size_t)number : i % 4 == 1 ? i / 4 / PATTERN : 128);
+    for (size_t i = 0; i < PATTERN * PATTERN; i++) {
+        pixels[4 * i] = (uint8_t)(i + (size_t)number);
+        pixels[4 * i + 1] = (uint8_t)(i / PATTERN);
+        pixels[4 * i + 2] = 128;
+    }
     draw(b, &(shown){1, PATTERN, PATTERN, pixels});
 }
 

@@ -2,9 +2,9 @@
  *
  *     cc -O2 -o wfview wfview.c -lX11 -lXext && ./wfview DIR [HZ [FRAMES [PORT]]]
  *
- * DIR has the sockets of the broker. It ticks HZ times a second (60), after FRAMES frames it ends and tells how long they took (0: never), and
- * PORT is the one that is shown (1). The window has 24 bits a pixel. Pictures go by shared memory where the display has that, else by the
- * connection. It ends where the broker does.
+ * DIR has the sockets of the broker. It ticks HZ times a second (60), after FRAMES frames it ends and tells how long they took (0: never),
+ * and PORT is the one that is shown (1). The window has 24 bits a pixel. Pictures go by shared memory where the display has that, else by
+ * the connection. It ends where the broker does.
  */
 #define _GNU_SOURCE
 #include "output.h"
@@ -128,7 +128,8 @@ static void count_frame(times *t) {
 
 /* Waits for one thing, and does it: a tick is due at `next`. False where the broker is gone. */
 static bool turn(double next, int port, times *t) {
-    struct pollfd w[] = {{own.sock, (short)(POLLIN | (held(&own.to) ? POLLOUT : 0)), 0}, {own.frames, POLLIN, 0}, {ConnectionNumber(display), POLLIN, 0}};
+    short of_socket = (short)(POLLIN | (held(&own.to) ? POLLOUT : 0));
+    struct pollfd w[] = {{own.sock, of_socket, 0}, {own.frames, POLLIN, 0}, {ConnectionNumber(display), POLLIN, 0}};
     double left = next - seconds();
     poll(w, 3, own.is_owed ? 100 : left > 0 ? (int)(left * 1000) + 1 : 0);
     bool was_owed = own.is_owed;

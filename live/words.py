@@ -1,12 +1,12 @@
-"""What window manager, apps and output tell one another, by docs/live.md: a letter and three numbers, of 13 bytes. The core looks at none of
-it, so another window manager may have other words."""
+"""What window manager, apps and output tell one another, by docs/live.md: a letter and three numbers, of 13 bytes. The core looks at none
+of it, so another window manager may have other words."""
 
 import struct
 from typing import NamedTuple
 
 FORM = struct.Struct(">c3i")
-# From an app: it shows a stream of this width and height. From the output, and to the app whose window it is in: the pointer moved, a button
-# went down or up, a key went down. To an app: its window was closed, or it should say again which stream it shows.
+# From an app: it shows a stream of this width and height. From the output, and to the app whose window it is in: the pointer moved, a
+# button went down or up, a key went down. To an app: its window was closed, or it should say again which stream it shows.
 SHOW, MOVE, PRESS, RELEASE, KEY, CLOSE, AGAIN = b"w", b"m", b"b", b"r", b"k", b"c", b"s"
 
 

@@ -1,5 +1,5 @@
-"""The messages of the live core as bytes, by docs/live.md: which there are, who may send each, and what comes back. The calls among them are
-those of the table of calls, as lib/wire.py writes them."""
+"""The messages of the live core as bytes, by docs/live.md: which there are, who may send each, and what comes back. The calls among them
+are those of the table of calls, as lib/wire.py writes them."""
 
 from typing import NamedTuple
 

@@ -1,5 +1,5 @@
-"""Whole live systems that are tried: a desk with two apps, hostile apps, and a window of X11. Each is a broker with a core in a folder of its
-own, and what its core read is played once more."""
+"""Whole live systems that are tried: a desk with two apps, hostile apps, and a window of X11. Each is a broker with a core in a folder of
+its own, and what its core read is played once more."""
 
 import contextlib
 import ctypes
@@ -24,8 +24,8 @@ SIDES, PIPES = (160, 120), 1
 COMMIT = NAMED["Commit"].number
 MANAGER, CLOCK, WAVES = 0, *list(APPS)[:2]
 TICKS = 60
-# The sum over the bytes of the last frame after so many ticks, after the window of the waves was moved and the pointer with it, once the app
-# of the waves was killed, and once another window manager has the screen. All of them were looked at.
+# The sum over the bytes of the last frame after so many ticks, after the window of the waves was moved and the pointer with it, once the
+# app of the waves was killed, and once another window manager has the screen. All of them were looked at.
 SUMS = {"ticks": 10_380_073, "moved": 10_595_871, "killed": 10_285_192, "again": 8_030_612}
 # The window of the waves, and where its bar is gripped and let go.
 WINDOW, GRIP, DROP = (64, 40), (50, 40), (90, 70)
@@ -258,6 +258,11 @@ def warped(display, x, y):
     x11.XCloseDisplay(opened)
 
 
+def picture_of(around):
+    """Returns what `xwd` says of the screen that the variables `around` name."""
+    return subprocess.run(["xwd", "-root", "-silent"], env=around, capture_output=True, timeout=SECONDS, check=False)
+
+
 def view(folder, own, around):
     """Shows a still picture in a window, and moves the pointer. Yields what is wrong."""
     with System(folder, own.broker, SIDES, PIPES) as system:
@@ -265,11 +270,7 @@ def view(folder, own, around):
         shown = subprocess.Popen([own.view, system.place, "20"], env=around, stdout=subprocess.DEVNULL)
         system.parts.append(shown)
 
-        def screen():
-            done = subprocess.run(["xwd", "-root", "-silent"], env=around, capture_output=True, timeout=SECONDS, check=True)
-            return screen_of(done.stdout, *SIDES)
-
-        if not is_soon(lambda: screen() == wanted):
+        if not is_soon(lambda: screen_of(picture_of(around).stdout, *SIDES) == wanted):
             yield "the window shows something else than the frame"
         warped(around["DISPLAY"], 33, 44)
         if not is_soon(lambda: (event := client.event(wait=False)) and event[:2] == (OUTPUT, word(MOVE, 33, 44, 0))):
@@ -288,7 +289,7 @@ def tries_view(folder, own):
         server = subprocess.Popen(["Xvfb", display, "-screen", "0", ROOT, *words], stderr=subprocess.DEVNULL)
         around = os.environ | {"DISPLAY": display}
         try:
-            if not is_soon(lambda: subprocess.run(["xwd", "-root", "-silent"], env=around, capture_output=True, check=False).returncode == 0):
+            if not is_soon(lambda: picture_of(around).returncode == 0):
                 raise NoWay("Xvfb does not start")
             yield from (f"view{''.join(words[1:])}: {line}" for line in view(fresh(folder, f"view{place}"), own, around))
         finally:
