@@ -10,7 +10,6 @@
 #include <stdio.h>
 #include <sys/socket.h>
 #include <sys/un.h>
-#include <time.h>
 
 enum { FRAME_HEAD = 10, TICK = 51, TELL = 53 };
 
@@ -19,12 +18,6 @@ typedef struct shown { int port, w, h; const uint8_t *pixels; } shown;
 
 /* The output: the socket, what goes and comes there, the frames' pipe, what came of it, and whether the answer to a tick is owed. */
 typedef struct output { int sock, frames; queue to, from, pixels; bool is_owed; } output;
-
-static inline double seconds(void) {
-    struct timespec t;
-    clock_gettime(CLOCK_MONOTONIC, &t);
-    return (double)t.tv_sec + (double)t.tv_nsec / 1e9;
-}
 
 /* Connects in the folder `where`. Returns 0, or -1 with errno. */
 static inline int open_output(output *own, const char *where) {

@@ -1,4 +1,4 @@
-/* Bytes that wait on their way from one descriptor to another, for the programs of this folder. */
+/* Bytes that wait on their way from one descriptor to another, and a clock, for the programs of this folder. */
 #ifndef QUEUE_H
 #define QUEUE_H
 
@@ -8,6 +8,7 @@
 #include <stdint.h>
 #include <stdlib.h>
 #include <string.h>
+#include <time.h>
 #include <unistd.h>
 
 /* The bytes that are read at once. */
@@ -17,6 +18,13 @@ enum { LENGTH = 4, HEAD = 5 };
 
 /* Bytes that wait: those at `at` from `from` up to `to`, of `room` that there are. */
 typedef struct queue { uint8_t *at; size_t from, to, room; } queue;
+
+/* Returns the seconds of a clock that is never set. */
+static inline double seconds(void) {
+    struct timespec t;
+    clock_gettime(CLOCK_MONOTONIC, &t);
+    return (double)t.tv_sec + (double)t.tv_nsec / 1e9;
+}
 
 static inline size_t held(const queue *q) { return q->to - q->from; }
 

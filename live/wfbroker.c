@@ -8,8 +8,8 @@
  * the output reads. Frames don't pass through the broker: it reads them only where there is no output.
  *
  * It puts a client's number before each of its frames, so that none can speak as another, and looks at lengths and numbers of clients
- * alone: it knows no call. Of several clients with a whole frame it takes one each in turn. Where a client leaves, or is cut off, it tells
- * the core by message 0 as client 255, and gives the number to nobody else before that is answered.
+ * alone, and at whether an answer came unasked: it knows no call. Of several clients with a whole frame it takes one each in turn. Where a
+ * client leaves, or is cut off, it tells the core by message 0 as client 255, and gives the number to nobody else before that is answered.
  *
  * It ends with the core's status where the core ends, and by SIGTERM or SIGINT: then the core's input ends, and it waits for the core.
  */
@@ -25,18 +25,18 @@
 #include <sys/stat.h>
 #include <sys/un.h>
 #include <sys/wait.h>
-#include <time.h>
 
-enum { MANAGER = 0, OUTPUT = 8, CLIENTS = 9, BROKER = 255, GONE = 0 };
+enum { MANAGER = 0, OUTPUT = 8, CLIENTS = 9, BROKER = 255, GONE = 0, TOLD = 55, LEFT = 56 };
 enum { LEAST_ANSWER = 7, MOST = 4194338 }; /* the least length of an answer, and the most of a frame to the core */
 enum { AHEAD = 64 * 1024 };         /* with so many bytes on their way to the core no frame is passed on */
-enum { SLOW = 64 * 1024 };          /* of a client that has so many bytes to read no frame is passed on */
+enum { OWED = 64 };                 /* nor one of a client of which so many are not answered yet, so that others wait for no more of it */
+enum { SLOW = 64 * 1024 };          /* nor one of a client that has so many bytes to read */
 enum { PATIENCE = 5 };              /* one that reads none of them for so many seconds is cut off */
 enum { BEHIND = MOST + SLOW };      /* and so is one that has more than these to read */
 
-/* A client: its socket or -1, whether the core still has to let go of the last one of this number, what it sent and what it will get, and
- * when it read last. */
-typedef struct peer { int fd; bool is_leaving; queue in, out; int64_t read_at; } peer;
+/* A client: its socket or -1, whether the core still has to let go of the last one of this number, what it sent and what it will get, how
+ * many of its frames are not answered yet, and when it read last. */
+typedef struct peer { int fd; bool is_leaving; queue in, out; int owed; double read_at; } peer;
 /* A socket that takes the clients from `first` to `last`. */
 typedef struct door { const char *name; int first, last, fd; } door;
 
@@ -51,13 +51,6 @@ static volatile sig_atomic_t is_ending;
 static void die(const char *what) {
     fprintf(stderr, "wfbroker: %s: %s\n", what, strerror(errno));
     exit(1);
-}
-
-/* Returns the seconds of a clock that is never set. */
-static int64_t now(void) {
-    struct timespec t;
-    clock_gettime(CLOCK_MONOTONIC, &t);
-    return t.tv_sec;
 }
 
 /* Reads frames that nobody is there to read, up to the last one that was written. */
@@ -108,7 +101,7 @@ static bool is_whole(const queue *q) {
 /* Passes a frame of a client on. False where none is passed. */
 static bool pass_call(int k) {
     peer *p = &peers[k];
-    if (p->fd < 0 || held(&p->out) > SLOW || !is_whole(&p->in)) return false;
+    if (p->fd < 0 || p->owed >= OWED || held(&p->out) > SLOW || !is_whole(&p->in)) return false;
     size_t length = length_at(&p->in);
     if (length < 1 || length >= MOST) {
         drop(k, "a length is wrong");
@@ -117,6 +110,7 @@ static bool pass_call(int k) {
     add_head(&to_core, length + 1, k);
     add(&to_core, p->in.at + p->in.from + LENGTH, length);
     take(&p->in, LENGTH + length);
+    p->owed++;
     return true;
 }
 
@@ -139,7 +133,8 @@ static bool pass_answer(void) {
     if (at[0] == BROKER) let_go();
     if (at[0] < CLIENTS && peers[at[0]].fd >= 0) {
         peer *p = &peers[at[0]];
-        if (held(&p->out) == 0) p->read_at = now();
+        if ((at[1] != TOLD && at[1] != LEFT) || at[2] != 0) p->owed--; /* what comes unasked is never refused */
+        if (held(&p->out) == 0) p->read_at = seconds();
         add_head(&p->out, length - 1, -1);
         add(&p->out, at + 1, length - 1);
     }
@@ -153,9 +148,9 @@ static void hand_answers(int k) {
     size_t before = held(&p->out);
     if (p->fd < 0) return;
     if (!flush(p->fd, &p->out)) drop(k, NULL);
-    else if (held(&p->out) < before) p->read_at = now();
+    else if (held(&p->out) < before) p->read_at = seconds();
     else if (held(&p->out) > BEHIND) drop(k, "it has too much to read");
-    else if (held(&p->out) > SLOW && now() - p->read_at > PATIENCE) drop(k, "it does not read");
+    else if (held(&p->out) > SLOW && seconds() - p->read_at > PATIENCE) drop(k, "it does not read");
 }
 
 /* Waits until something can be done: `w` gets what. */
@@ -171,10 +166,7 @@ static void watch(struct pollfd *w, const sigset_t *signals) {
         bool is_full = held(&p->in) >= PIECE && is_whole(&p->in);
         w[FIRST_PEER + k] = (struct pollfd){p->fd, (short)((is_full ? 0 : POLLIN) | (held(&p->out) ? POLLOUT : 0)), 0};
     }
-    if (ppoll(w, WATCHED, is_slow ? &(struct timespec){.tv_sec = 1} : NULL, signals) < 0) {
-        if (errno != EINTR) die("poll");
-        for (int i = 0; i < WATCHED; i++) w[i].revents = 0;
-    }
+    if (ppoll(w, WATCHED, is_slow ? &(struct timespec){.tv_sec = 1} : NULL, signals) < 0 && errno != EINTR) die("poll");
 }
 
 /* Does what can be done. False where the core has ended. */
@@ -194,13 +186,16 @@ static bool turn(const struct pollfd *w) {
     return true;
 }
 
-/* Ends the core's input, and reads what it still writes. */
+/* Ends the core's input, behind the frames that are on their way, and reads what it still writes. */
 static void end_core(void) {
-    close(core_in);
     for (bool is_there = true; is_there; take(&from_core, held(&from_core))) {
-        struct pollfd w[] = {{core_out, POLLIN, 0}, {frames, POLLIN, 0}};
-        poll(w, 2, -1);
-        if (w[0].revents) is_there = fill(core_out, &from_core);
+        if (core_in >= 0 && (!flush(core_in, &to_core) || held(&to_core) == 0)) {
+            close(core_in);
+            core_in = -1;
+        }
+        struct pollfd w[] = {{core_in, POLLOUT, 0}, {core_out, POLLIN, 0}, {frames, POLLIN, 0}};
+        poll(w, 3, -1);
+        if (w[1].revents) is_there = fill(core_out, &from_core);
         drain();
     }
 }
@@ -291,6 +286,7 @@ int main(int argc, char **argv) {
     close_folder();
     if (is_ending) end_core();
     int status = 0;
+    if (core_in >= 0) close(core_in);
     close(core_out);
     waitpid(core, &status, 0);
     return WIFEXITED(status) ? WEXITSTATUS(status) : 1;

@@ -27,7 +27,7 @@ typedef struct wf_told { uint8_t code; uint32_t value; } wf_told;
 /* What comes unasked: number WF_HEARD_TOLD with the client that tells and its bytes, or WF_HEARD_LEFT with the client that is gone. */
 typedef struct wf_heard { uint8_t number; uint32_t client; const uint8_t *bytes; size_t count; } wf_heard;
 
-enum { WF_HEARD_TOLD = 55, WF_HEARD_LEFT = 56, WF_LOST = 254 };
+enum { WF_HEARD_TOLD = 55, WF_HEARD_LEFT = 56, WF_OK = 0, WF_LOST = 254 };
 enum { WF_MANAGER = 0, WF_OUTPUT = 8, WF_MOST_TOLD = 4096, WF_MOST_OWED = 256, WF_ANSWER = 10, WF_MOST_ARGUMENTS = 9 };
 
 /* A connection: its socket, whether answers are awaited later and how many are owed, the first of them that was refused, and who hears what
@@ -101,7 +101,7 @@ static inline int wf_next(wf_client *client, uint8_t *number, wf_told *told, uin
         if (wf_read(client, head, sizeof head)) return -1;
         *number = head[4];
         *told = (wf_told){head[5], wf_number(head + 6)};
-        bool is_event = *number == WF_HEARD_TOLD || *number == WF_HEARD_LEFT;
+        bool is_event = (*number == WF_HEARD_TOLD || *number == WF_HEARD_LEFT) && told->code == WF_OK; /* and not refused */
         size_t has = is_event ? sizeof own : most, length = wf_number(head) - 6, kept = length < has ? length : has;
         if (kept > 0 && wf_read(client, is_event ? own : room, kept)) return -1;
         for (size_t left = length - kept, part; left > 0; left -= part)

@@ -170,7 +170,7 @@ class Client:
 
     def take_answer(self, answer):
         """Gives an answer to the Reply that it is for. Answers come in the order of the messages, but for those of `wait`."""
-        if answer.number in (TOLD, LEFT):
+        if answer.number in (TOLD, LEFT) and answer.code == OK:
             self.events.append(Event(answer.value, answer.data, answer.number == LEFT))
             return
         if answer.number == WAIT:

@@ -42,12 +42,24 @@ def is_cut_off(own):
         return True
 
 
+def next_answers(own, count):
+    """Returns the next answers that a socket gets, or fewer where it is cut off."""
+    data, found = b"", []
+    while len(found) < count:
+        while len(data) < LENGTH or len(data) < LENGTH + int.from_bytes(data[:LENGTH], "big"):
+            more = own.recv(PIECE)
+            if not more:
+                return found
+            data += more
+        end = LENGTH + int.from_bytes(data[:LENGTH], "big")
+        found.append(answer_of(data[LENGTH:end]))
+        data = data[end:]
+    return found
+
+
 def first_answer(own):
     """Returns the first answer that a socket gets."""
-    data = b""
-    while len(data) < LENGTH or len(data) < LENGTH + int.from_bytes(data[:LENGTH], "big"):
-        data += own.recv(PIECE)
-    return answer_of(data[LENGTH : LENGTH + int.from_bytes(data[:LENGTH], "big")])
+    return next_answers(own, 1)[0]
 
 
 def asks(place):
@@ -95,6 +107,11 @@ def frames(place):
     with raw(place) as own:
         own.sendall(framed(b"\x63", bytes(MOST_FRAME - 2)))
         yield "the longest frame is answered", first_answer(own)[:2] == (0x63, UNSUPPORTED)
+    with raw(place) as own:
+        # The numbers of what comes unasked, as often as the broker lets one client ask before it is answered, and once more.
+        own.sendall(framed(b"\x37") * 100 + framed(b"\x38") * 100 + framed(body("size", 1)))
+        yield "messages with the numbers of events are answered", [each[:2] for each in next_answers(own, 201)] == (
+            [(55, UNSUPPORTED)] * 100 + [(56, UNSUPPORTED)] * 100 + [(54, BAD_HANDLE)])
     for part in (b"\0", b"\0\0\0", b"\0\0\0\x09", b"\0\0\0\x09\x04", b"\0\x40\0\x21\x32" + bytes(100_000)):
         with raw(place) as own:
             own.sendall(part)
@@ -148,30 +165,37 @@ def crowds(place):
         yield "until one of them leaves", first_answer(apps[-1])[:2] == (54, BAD_HANDLE)
 
 
-class Flood(threading.Thread):
-    """An app that asks as fast as it can. Where it reads no answer, it ends when it is cut off."""
+# What a flood asks for: paints without a canvas, or the dearest call there is, which clears a large canvas, and is taken back.
+CHEAP = framed(body("Fill", 1, 2, 3, 4)) * 1000
 
-    def __init__(self, place, reads):
+
+def dear(stream):
+    """Returns the dearest calls, on a `stream` of the app's."""
+    return (framed(body("Acquire", stream)) + framed(body("Discard"))) * 1000
+
+
+class Flood(threading.Thread):
+    """An app that asks as fast as it can: for `calls`, once it has asked `before`. Where it reads no answer, it ends when it is cut off."""
+
+    def __init__(self, place, reads, calls=CHEAP, before=b""):
         super().__init__(daemon=True)
         self.socket = raw(place)
         self.socket.setblocking(False)
         self.reads = reads
-        self.sent = 0
+        self.calls = calls
+        self.left = before
         self.is_cut_off = False
         self.is_over = False
 
     def run(self):
-        calls = framed(body("Fill", 1, 2, 3, 4)) * 1000
-        left = b""
         while not self.is_over and not self.is_cut_off:
             readable, writable, _ = select.select([self.socket] if self.reads else [], [self.socket], [], 0.1)
             try:
                 if readable:
                     self.is_cut_off = not self.socket.recv(PIECE)
                 if writable:
-                    left = left or calls
-                    count = self.socket.send(left)
-                    left, self.sent = left[count:], self.sent + count
+                    self.left = self.left or self.calls
+                    self.left = self.left[self.socket.send(self.left) :]
             except OSError:
                 self.is_cut_off = True
 
@@ -203,6 +227,14 @@ def floods(place):
     waited = waits(place, 2)
     flood.end()
     yield f"beside a flood a good app is answered in {GENEROUS} s (it was {1000 * waited:.0f} ms at most)", waited < GENEROUS
+    with Client("app", place) as good:
+        # Handles are given in order, so the flood's stream has the next one.
+        stream = good.stream_new(1, 1, "rgba", 2).value + 1
+    flood = Flood(place, True, dear(stream), framed(body("StreamNew", 1024, 1024, "rgba", 2)))
+    flood.start()
+    waited = waits(place, 2)
+    flood.end()
+    yield f"beside a flood of the dearest calls, too (it was {1000 * waited:.0f} ms at most)", waited < GENEROUS
     flood = Flood(place, False)
     flood.start()
     waited = waits(place, 1)
