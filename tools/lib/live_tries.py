@@ -10,9 +10,13 @@ import subprocess
 import sys
 from typing import NamedTuple
 
+from lib.crates import TOP
 from lib.live import APPS, OUTPUT, TELL, WAIT
 from lib.live_hostile import HOSTILE, is_soon
+from lib.live_script import ByHand, Played
 from lib.living import LIVE, SECONDS, NoWay, System, built, core_words, options_of
+from lib.player import Show, declared
+from lib.serving import film_frames
 from lib.wire import NAMED
 
 sys.path.insert(0, str(LIVE))
@@ -29,6 +33,8 @@ TICKS = 60
 SUMS = {"ticks": 10_380_073, "moved": 10_595_871, "killed": 10_285_192, "again": 8_030_612}
 # The window of the waves, and where its bar is gripped and let go.
 WINDOW, GRIP, DROP = (64, 40), (50, 40), (90, 70)
+# Scripts of the examples that are played live.
+SCRIPTS = ("clients", "overlay", "ports")
 # Where Xvfb has the screen of a test, and its sides.
 DISPLAY, ROOT = ":97", "320x240x24"
 
@@ -74,7 +80,7 @@ class Desk:
     """A system with the window manager in Python, the clock and the waves, which is ticked as soon as both apps wait for that."""
 
     def __init__(self, folder, own):
-        self.system = System(folder, own.broker, SIDES, PIPES, is_recorded=True)
+        self.system = System(folder, own.broker, [SIDES], PIPES, is_recorded=True)
         self.counts = self.system.recorded
         self.manager = self.system.start(LIVE / "wm.py")
         self.counts.wait_for(MANAGER, COMMIT, 1)
@@ -186,7 +192,7 @@ def tries_desk(folder, own):
 
 def tries_hostile(folder, own):
     """Runs a system for hostile apps. Yields what is otherwise than it should be."""
-    system = System(fresh(folder, "hostile"), own.broker, SIDES, PIPES, is_recorded=True)
+    system = System(fresh(folder, "hostile"), own.broker, [SIDES], PIPES, is_recorded=True)
     try:
         for cases in HOSTILE:
             for what, holds in cases(system.place):
@@ -202,6 +208,21 @@ def tries_hostile(folder, own):
     if status:
         yield f"hostile: the broker ends with {status}"
     yield from (f"hostile: {line}" for line in replays(system, None))
+
+
+def tries_scripts(folder, own):
+    """Plays some scripts as the window manager. Yields where the last frame of port 1 is another one than in the script's film."""
+    for name in SCRIPTS:
+        text = (TOP / f"examples/{name}.wfs").read_text(encoding="utf-8")
+        ports, pipes = declared([line.partition("#")[0].split() for line in text.split("\n")])
+        with System(fresh(folder, name), own.broker, [modes[0] for modes in ports], pipes) as system:
+            with Client("wm", system.place) as client, Output(system.place) as output:
+                ticks = ByHand(client, output)
+                Played(client, ticks.tick, lambda *_: None).play(text)
+        came = [frame for frame in film_frames(bytes(ticks.frames)) if frame[0] == 1][-1]
+        wanted = [frame for frame in Show(text).frames if frame.port == 1][-1]
+        if came[2:] != (wanted.width, wanted.height, wanted.pixels):
+            yield f"examples/{name}.wfs: played live the last frame is another one"
 
 
 # A window of X11.
@@ -265,7 +286,7 @@ def picture_of(around):
 
 def view(folder, own, around):
     """Shows a still picture in a window, and moves the pointer. Yields what is wrong."""
-    with System(folder, own.broker, SIDES, PIPES) as system:
+    with System(folder, own.broker, [SIDES], PIPES) as system:
         client, wanted = still(system.place)
         shown = subprocess.Popen([own.view, system.place, "20"], env=around, stdout=subprocess.DEVNULL)
         system.parts.append(shown)

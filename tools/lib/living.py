@@ -82,12 +82,13 @@ class Recorded:
 
 
 class System:
-    """A broker with its core in a `folder`, with what was recorded, and the other parts that were started. `broker` is its program."""
+    """A broker with its core in a `folder`, with what was recorded, and the other parts that were started. `broker` is its program, and the
+    core has these `ports`, which are sides, and `pipes`."""
 
-    def __init__(self, folder, broker, port, pipes=1, core=None, is_recorded=False):
+    def __init__(self, folder, broker, ports, pipes=1, core=None, is_recorded=False):
         self.folder = folder
         self.place = folder / "wf"
-        self.options = options_of([port], pipes, FRAMES)
+        self.options = options_of(ports, pipes, FRAMES)
         words = [*(core or core_words()), *self.options]
         self.recorded = Recorded(folder) if is_recorded else None
         if self.recorded:
