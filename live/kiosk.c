@@ -11,12 +11,13 @@
 #include <stdio.h>
 #include <stdlib.h>
 
-enum { PORT = 1, PIPE = 1, APPS = 7, POINTER = 12, EVENTS = 64 };
+enum { PORT = 1, PIPE = 1, APPS = 7, POINTER = 12 };
 
 /* An app that is shown: its number, its element, its source, and where it stands. */
 typedef struct shown { uint8_t app; uint32_t element, source; int32_t x, y; } shown;
-/* What came and is not done yet. */
-typedef struct event { bool has_left; uint8_t client; word told; } event;
+/* What came and is not done yet: which apps left, and which streams they asked for after that; where the pointer is, and was pressed last. So
+ * no app can fill it, and nothing but older moves and presses is lost. */
+typedef struct pending { bool has_left[APPS + 1], shows[APPS + 1], is_moved, is_pressed; uint32_t streams[APPS + 1]; word move, press; } pending;
 
 static wf_client client;
 static uint32_t device, context;
@@ -24,8 +25,7 @@ static int32_t width, height;
 static shown apps[APPS];
 static int count;
 static bool has_pointer;
-static event events[EVENTS];
-static int first_event, event_count;
+static pending came;
 
 /* The value of an answer, or the end where it was refused. */
 static uint32_t need(wf_told told, const char *what) {
@@ -37,16 +37,18 @@ static uint32_t need(wf_told told, const char *what) {
     return told.value;
 }
 
-/* Keeps what came. A move takes the place of the one before it, so that there is room for all else. */
+/* Keeps what came. */
 static void hear(void *of, wf_heard what) {
-    event own = {.has_left = what.number == WF_HEARD_LEFT, .client = (uint8_t)what.client};
+    word told;
     (void)of;
-    if (!own.has_left && !get_word(what.bytes, what.count, &own.told)) return;
-    event *last = &events[(first_event + event_count + EVENTS - 1) % EVENTS];
-    bool is_move = own.told.letter == MOVE && event_count > 0 && last->told.letter == MOVE;
-    if (!is_move && event_count == EVENTS) return;
-    if (is_move) *last = own;
-    else events[(first_event + event_count++) % EVENTS] = own;
+    bool is_app = what.client >= 1 && what.client <= APPS;
+    if (what.number == WF_HEARD_LEFT) {
+        if (is_app) came.has_left[what.client] = true, came.shows[what.client] = false;
+    } else if (get_word(what.bytes, what.count, &told)) {
+        if (is_app && told.letter == SHOW) came.shows[what.client] = true, came.streams[what.client] = (uint32_t)told.first;
+        if (what.client == WF_OUTPUT && told.letter == MOVE) came.is_moved = true, came.move = told;
+        if (what.client == WF_OUTPUT && told.letter == PRESS) came.is_pressed = true, came.press = told;
+    }
 }
 
 static void set(uint32_t element, enum wf_element attribute, int64_t a, int64_t b, int64_t c, int64_t d) {
@@ -122,21 +124,34 @@ static void open_screen(void) {
     need(wf_activate(&client, device, context), "activation");
 }
 
-/* Does what came. */
-static void done(event own) {
-    uint8_t press[WORD];
-    if (own.has_left) {
-        forget(own.client);
-        commit();
-    } else if (own.client >= 1 && own.client <= APPS && own.told.letter == SHOW) {
-        show(own.client, (uint32_t)own.told.first);
-    } else if (own.client == WF_OUTPUT && own.told.letter == MOVE) {
-        point(own.told.first, own.told.second);
-    } else if (own.client == WF_OUTPUT && own.told.letter == PRESS && count > 0) {
-        const shown *top = &apps[count - 1];
-        put_word(press, (word){PRESS, own.told.first - top->x, own.told.second - top->y, own.told.third});
-        wf_tell(&client, top->app, press, sizeof press);
+/* Tells the app that is shown of a press. */
+static void press(word at) {
+    uint8_t told[WORD];
+    if (count == 0) return;
+    const shown *top = &apps[count - 1];
+    put_word(told, (word){PRESS, at.first - top->x, at.second - top->y, at.third});
+    wf_tell(&client, top->app, told, sizeof told);
+}
+
+/* Whether something came meanwhile. */
+static bool is_pending(void) {
+    static const pending none; /* whose bytes are all zero, as those of `came` were made */
+    return memcmp(&came, &none, sizeof none) != 0;
+}
+
+/* Does what came up to now. */
+static void do_pending(void) {
+    pending now = came;
+    memset(&came, 0, sizeof came);
+    for (uint8_t app = 1; app <= APPS; app++) {
+        if (now.has_left[app]) {
+            forget(app);
+            commit();
+        }
+        if (now.shows[app]) show(app, now.streams[app]);
     }
+    if (now.is_moved) point(now.move.first, now.move.second);
+    if (now.is_pressed) press(now.press);
 }
 
 int main(int argc, char **argv) {
@@ -151,11 +166,7 @@ int main(int argc, char **argv) {
     put_word(again, (word){.letter = AGAIN});
     for (uint8_t app = 1; app <= APPS; app++) wf_tell(&client, app, again, sizeof again);
     for (;;) {
-        if (event_count == 0 && wf_listen(&client)) return 0;
-        if (event_count == 0) continue;
-        event own = events[first_event];
-        first_event = (first_event + 1) % EVENTS;
-        event_count--;
-        done(own);
+        do_pending(); /* before it waits, since answers bring what others tell too */
+        if (!is_pending() && wf_listen(&client)) return 0;
     }
 }

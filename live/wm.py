@@ -10,12 +10,14 @@ raises it. It takes the sides of port 1 from the core, and connects to `wm` in t
 import sys
 from dataclasses import dataclass, field
 
-from wfclient import OK, OUTPUT, Client
+from wfclient import OK, OUTPUT, Client, Refused
 from words import AGAIN, CLOSE, KEY, MOVE, PRESS, RELEASE, SHOW, word, word_of
 
 PORT, PIPE, APPS = 1, 1, range(1, 8)
 BAR, PANEL, MARK, GAP, POINTER = 14, 20, 10, 4, 12
 BY_ALPHA = 2
+# How many windows there are, and of one app, and how many events are done before what they ask for is shown. No app keeps all to itself.
+MOST_WINDOWS, MOST_OF_ONE, AT_ONCE = 12, 3, 256
 COLOURS = ((200, 90, 60), (70, 150, 210), (110, 180, 90), (210, 170, 60), (160, 100, 190), (80, 180, 170), (210, 120, 150))
 
 
@@ -81,11 +83,11 @@ class Manager:
     # Streams and layers.
 
     def layer(self, stream, w, h, transparency="none"):
-        """Makes a layer of a stream of these sides. Returns it, or None where the stream is not there."""
-        source = self.client.source_new(self.device, self.context, stream)
-        if source.code != OK:
+        """Makes a layer of a stream of these sides. Returns it, or None where the stream is not there, or there is no room."""
+        source, element = self.client.source_new(self.device, self.context, stream), self.client.element_new(self.device, self.context)
+        if source.code != OK or element.code != OK:
             return None
-        layer = Layer(self.client.element_new(self.device, self.context).value, source.value, w, h)
+        layer = Layer(element.value, source.value, w, h)
         self.set(layer, "source", layer.source)
         self.set(layer, "srcrect", [0, 0, w, h])
         self.set(layer, "transparency", transparency)
@@ -176,20 +178,27 @@ class Manager:
     # Windows.
 
     def open(self, app, stream):
-        """Shows a stream of an app in a window. What the app says of its sides is not believed: the core knows them."""
-        if any(window.stream == stream for window in self.windows):
-            return
+        """Shows a stream of an app in a window, unless there are too many. What the app says of its sides is not believed: the core knows
+        them."""
+        of_app = sum(window.client == app for window in self.windows)
+        is_shown = any(window.stream == stream for window in self.windows)
         size = self.client.size(stream)
-        w, h = (size.value >> 16, size.value & 0xFFFF) if size.code == OK else (0, 0)
-        shown = self.layer(stream, w, h) if w else None
-        if shown is None:
+        if is_shown or of_app >= MOST_OF_ONE or len(self.windows) >= MOST_WINDOWS or size.code != OK:
             return
-        bar_stream = self.client.stream_new(w, BAR, "rgbx", 2).value
+        w, h = size.value >> 16, size.value & 0xFFFF
+        # Where the apps have taken all streams there is no bar, and then no window.
+        bar_stream = self.client.stream_new(w, BAR, "rgbx", 2)
+        if bar_stream.code != OK:
+            return
+        bar, shown = self.layer(bar_stream.value, w, BAR), self.layer(stream, w, h)
+        if bar is None or shown is None:
+            self.forget(bar_stream.value, *filter(None, (bar, shown)))
+            return
         self.client.acquire(bar_stream)
         self.client.fill(*(channel * 2 // 3 for channel in COLOURS[app - 1]), 255)
         self.client.rectangle(w - BAR + 3, 3, BAR - 6, BAR - 6, 240, 240, 240, 255)
         self.client.post()
-        window = Window(app, stream, shown, self.layer(bar_stream, w, BAR), bar_stream)
+        window = Window(app, stream, shown, bar, bar_stream.value)
         self.move(window, 12 + 30 * len(self.windows), 10 + BAR + 22 * len(self.windows))
         self.windows.append(window)
         self.restack()
@@ -202,10 +211,14 @@ class Manager:
     def close(self, window):
         """Takes a window away."""
         self.windows.remove(window)
-        self.drop(window.shown)
-        self.drop(window.bar)
-        self.client.stream_destroy(window.bar_stream)
+        self.forget(window.bar_stream, window.shown, window.bar)
         self.grip = None if self.grip and self.grip[0] is window else self.grip
+
+    def forget(self, bar_stream, *layers):
+        """Lets go of a window's layers and of the stream of its bar."""
+        for layer in layers:
+            self.drop(layer)
+        self.client.stream_destroy(bar_stream)
 
     def at(self, x, y):
         """Returns the highest window at a place, or None."""
@@ -262,7 +275,7 @@ class Manager:
         """Does what is told, until the broker is gone. Of moves that came together only the last counts."""
         while True:
             events = [self.client.event()]
-            while (more := self.client.event(wait=False)) is not None:
+            while len(events) < AT_ONCE and (more := self.client.event(wait=False)) is not None:
                 events.append(more)
             told = [(event, word_of(event.data)) for event in events]
             is_move = [own is not None and own.letter == MOVE for _, own in told]
@@ -280,6 +293,8 @@ def main():
     """Connects, and runs."""
     try:
         Manager(Client("wm")).run()
+    except Refused as fault:
+        sys.exit(f"wm: {fault}")
     except (EOFError, ConnectionError, KeyboardInterrupt):
         sys.exit(0)
 

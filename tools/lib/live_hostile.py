@@ -8,12 +8,13 @@ import threading
 import time
 
 from lib.film import CODES
-from lib.live import LENGTH, MOST_FRAME, NO_CALL, answer_of, body, framed
+from lib.live import LENGTH, MANAGER, MOST_FRAME, MOST_TOLD, NO_CALL, answer_of, body, framed
 from lib.living import LIVE
 
 sys.path.insert(0, str(LIVE))
 
 from wfclient import Client  # noqa: E402
+from words import SHOW, word  # noqa: E402
 
 PIECE = 1 << 18
 # How long an answer of a good client may take beside hostile ones, and how long it takes at most until one is cut off.
@@ -174,6 +175,25 @@ def dear(stream):
     return (framed(body("Acquire", stream)) + framed(body("Discard"))) * 1000
 
 
+def showings(place):
+    """Yields what comes of apps that ask the window manager for what is not theirs, for too much, or for nothing, in the same way. What they
+    leave is looked at by who knows the window manager."""
+    with Client("app", place) as good, Client("app", place) as evil:
+        foreign = good.stream_new(8, 8, "rgbx", 2).value
+        mask = evil.stream_new(8, 8, "a8", 2).value
+        for stream in (foreign, mask, 0, -1, 999_999, 2**31 - 1):
+            evil.tell(MANAGER, word(SHOW, stream, 5, 2000))
+        for data in (b"", b"w", b"w" * 12, b"w" * 14, b"\xff" * 13, b"x" * MOST_TOLD):
+            evil.tell(MANAGER, data)
+        streams = []
+        while (made := evil.stream_new(1024, 1, "rgbx", 2)).code == OK:
+            streams.append(made.value)
+        for stream in streams * 20:
+            evil.tell(MANAGER, word(SHOW, stream, 1024, 1))
+        evil.size(0).awaited()
+        yield "an app may tell the window manager anything", good.size(foreign).code == OK
+
+
 class Flood(threading.Thread):
     """An app that asks as fast as it can: for `calls`, once it has asked `before`. Where it reads no answer, it ends when it is cut off."""
 
@@ -244,4 +264,4 @@ def floods(place):
     flood.end()
 
 
-HOSTILE = (asks, frames, leaving, crowds, floods)
+HOSTILE = (asks, frames, leaving, showings, crowds, floods)

@@ -11,7 +11,7 @@ import sys
 from typing import NamedTuple
 
 from lib.crates import TOP
-from lib.live import APPS, OUTPUT, TELL, WAIT
+from lib.live import APPS, OUTPUT, SIZE, TELL, WAIT
 from lib.live_hostile import HOSTILE, is_soon
 from lib.live_script import ByHand, Played
 from lib.living import LIVE, SECONDS, NoWay, System, built, core_words, options_of
@@ -22,7 +22,7 @@ from lib.wire import NAMED
 sys.path.insert(0, str(LIVE))
 
 from wfclient import Client, Output  # noqa: E402
-from words import MOVE, PRESS, RELEASE, word  # noqa: E402
+from words import MOVE, PRESS, RELEASE, SHOW, word  # noqa: E402
 
 SIDES, PIPES = (160, 120), 1
 COMMIT = NAMED["Commit"].number
@@ -190,9 +190,30 @@ def tries_desk(folder, own):
     yield from (f"desk: {line}" for line in replays(desk.system, bytes(desk.frames)))
 
 
+def shows(system):
+    """Returns whether a window manager still shows what a good app asks for: it then asks the core for the sides."""
+    system.recorded.read()
+    asked = system.recorded.counts[MANAGER, SIZE]
+    with Client("app", system.place) as good:
+        stream = good.stream_new(8, 8, "rgbx", 2).value
+        good.tell(MANAGER, word(SHOW, stream, 8, 8))
+        good.sync()
+        system.recorded.wait_for(MANAGER, SIZE, asked + 1)
+    return True
+
+
 def tries_hostile(folder, own):
-    """Runs a system for hostile apps. Yields what is otherwise than it should be."""
-    system = System(fresh(folder, "hostile"), own.broker, [SIDES], PIPES, is_recorded=True)
+    """Runs a system for hostile apps, beside each of the window managers. Yields what is otherwise than it should be."""
+    for name in ("wm", "kiosk"):
+        place = fresh(folder, f"hostile-{name}")
+        yield from hostile(place, own, [LIVE / "wm.py"] if name == "wm" else [own.kiosk, place / "wf"])
+
+
+def hostile(folder, own, manager):
+    """Runs a system for hostile apps in a folder, with a window manager. Yields what is otherwise than it should be."""
+    system = System(folder, own.broker, [SIDES], PIPES, is_recorded=True)
+    managing = system.start(*manager)
+    system.recorded.wait_for(MANAGER, COMMIT, 1)
     try:
         for cases in HOSTILE:
             for what, holds in cases(system.place):
@@ -200,6 +221,8 @@ def tries_hostile(folder, own):
                     yield f"hostile: it does not hold that {what}"
                 elif "at most" in what:
                     print(f"hostile: {what}")
+        if managing.poll() is not None or not shows(system):
+            yield f"hostile: the window manager {manager[0].name} shows nothing any more"
         told = system.notes.read_text(encoding="utf-8")
         if "it does not read" not in told or "a length is wrong" not in told:
             yield f"hostile: the broker tells {told}"
