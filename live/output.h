@@ -11,7 +11,7 @@
 #include <sys/socket.h>
 #include <sys/un.h>
 
-enum { FRAME_HEAD = 10, TICK = 51, TELL = 53 };
+enum { OUTPUT = 8, FRAME_HEAD = 10, TICK = 51, TELL = 53 };
 
 /* A frame of a port: its sides, and its pixels in rows from the top, of the bytes R, G, B and A. */
 typedef struct shown { int port, w, h; const uint8_t *pixels; } shown;
@@ -19,7 +19,23 @@ typedef struct shown { int port, w, h; const uint8_t *pixels; } shown;
 /* The output: the socket, what goes and comes there, the frames' pipe, what came of it, and whether the answer to a tick is owed. */
 typedef struct output { int sock, frames; queue to, from, pixels; bool is_owed; } output;
 
-/* Connects in the folder `where`. Returns 0, or -1 with errno. */
+/* Tells itself nothing, and waits until that is answered: from then on it is the output, and what one before it left in the pipe is gone.
+ * Returns 0, or -1 with errno. */
+static inline int become_output(output *own) {
+    add_head(&own->to, 1 + 8, TELL);
+    add(&own->to, (const uint8_t[]){0, 0, 0, 0, 0, 0, 0, OUTPUT}, 8);
+    if (!flush(own->sock, &own->to)) return -1;
+    for (bool is_answered = false; !is_answered;) {
+        if (!fill(own->sock, &own->from)) return errno = ECONNRESET, -1;
+        while (held(&own->from) > LENGTH && held(&own->from) >= LENGTH + length_at(&own->from)) {
+            is_answered = own->from.at[own->from.from + LENGTH] == TELL;
+            take(&own->from, LENGTH + length_at(&own->from));
+        }
+    }
+    return 0;
+}
+
+/* Connects in the folder `where`, and waits until it is the output. Returns 0, or -1 with errno. */
 static inline int open_output(output *own, const char *where) {
     struct sockaddr_un address = {.sun_family = AF_UNIX};
     char path[sizeof address.sun_path + 8];
@@ -27,7 +43,7 @@ static inline int open_output(output *own, const char *where) {
     *own = (output){.sock = socket(AF_UNIX, SOCK_STREAM | SOCK_CLOEXEC, 0)};
     size_t length = (size_t)snprintf(address.sun_path, sizeof address.sun_path, "%s/out", where);
     if (length >= sizeof address.sun_path) return errno = ENAMETOOLONG, -1;
-    if (own->sock < 0 || connect(own->sock, (struct sockaddr *)&address, sizeof address)) return -1;
+    if (own->sock < 0 || connect(own->sock, (struct sockaddr *)&address, sizeof address) || become_output(own)) return -1;
     snprintf(path, sizeof path, "%s/frames", where);
     own->frames = open(path, O_RDONLY | O_NONBLOCK | O_CLOEXEC);
     return own->frames < 0 || fcntl(own->sock, F_SETFL, O_NONBLOCK) ? -1 : 0;

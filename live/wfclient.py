@@ -210,6 +210,9 @@ class Output(Client):
 
     def __init__(self, where=None):
         super().__init__("out", where)
+        # Once it is answered it is the output, and what an output before it left in the pipe is gone.
+        self.tell(OUTPUT).awaited()
+        self.events.clear()
         self.frames = os.open(self.where / "frames", os.O_RDONLY | os.O_NONBLOCK)
 
     def close(self):

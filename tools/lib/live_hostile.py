@@ -10,10 +10,11 @@ import time
 from lib.film import CODES
 from lib.live import LENGTH, MANAGER, MOST_FRAME, MOST_TOLD, NO_CALL, answer_of, body, framed
 from lib.living import LIVE
+from lib.serving import film_frames
 
 sys.path.insert(0, str(LIVE))
 
-from wfclient import Client  # noqa: E402
+from wfclient import Client, Output  # noqa: E402
 from words import SHOW, word  # noqa: E402
 
 PIECE = 1 << 18
@@ -153,6 +154,23 @@ def is_soon(holds):
     return True
 
 
+def outputs(place):
+    """Yields what comes of outputs that leave without their frames, each of which has more bytes than a pipe takes, in the same way."""
+    with Output(place) as first:
+        tick = first.shown()[0]
+    for count in (1, 1, 3):
+        with Output(place) as bad:
+            for _ in range(count):
+                bad.tick()
+            bad.flush()
+            tick += count
+    with Output(place) as good:
+        number, data = good.shown()
+        shown = [(frame[0], frame[1]) for frame in film_frames(data)]
+        yield "an output that leaves inside of a frame holds nobody up", number == tick + 1
+        yield "and the next one gets its own frames alone", shown == [(1, number)]
+
+
 def crowds(place):
     """Yields what comes of more apps than there are numbers, in the same way. No other app may be connected."""
     with contextlib.ExitStack() as all_apps:
@@ -264,4 +282,4 @@ def floods(place):
     flood.end()
 
 
-HOSTILE = (asks, frames, leaving, showings, crowds, floods)
+HOSTILE = (asks, frames, leaving, outputs, showings, crowds, floods)

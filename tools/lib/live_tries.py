@@ -12,7 +12,7 @@ from typing import NamedTuple
 
 from lib.crates import TOP
 from lib.live import APPS, OUTPUT, SIZE, TELL, WAIT
-from lib.live_hostile import HOSTILE, is_soon
+from lib.live_hostile import HOSTILE, Flood, is_soon
 from lib.live_script import ByHand, Played
 from lib.living import LIVE, SECONDS, NoWay, System, built, core_words, options_of
 from lib.player import Show, declared
@@ -25,7 +25,7 @@ from wfclient import Client, Output  # noqa: E402
 from words import MOVE, PRESS, RELEASE, SHOW, word  # noqa: E402
 
 SIDES, PIPES = (160, 120), 1
-COMMIT = NAMED["Commit"].number
+COMMIT, FILL = NAMED["Commit"].number, NAMED["Fill"].number
 MANAGER, CLOCK, WAVES = 0, *list(APPS)[:2]
 TICKS = 60
 # The sum over the bytes of the last frame after so many ticks, after the window of the waves was moved and the pointer with it, once the
@@ -226,8 +226,13 @@ def hostile(folder, own, manager):
         told = system.notes.read_text(encoding="utf-8")
         if "it does not read" not in told or "a length is wrong" not in told:
             yield f"hostile: the broker tells {told}"
+        # The end comes while frames are on their way, and the last that the core reads is whole.
+        flood = Flood(system.place, True)
+        flood.start()
+        is_soon(lambda: system.recorded.read() or system.recorded.counts[1, FILL] > 1000)
     finally:
         status = system.close()
+    flood.end()
     if status:
         yield f"hostile: the broker ends with {status}"
     yield from (f"hostile: {line}" for line in replays(system, None))
