@@ -35,8 +35,8 @@ SUMS = {"ticks": 10_380_073, "moved": 10_595_871, "killed": 10_285_192, "again":
 WINDOW, GRIP, DROP = (64, 40), (50, 40), (90, 70)
 # Scripts of the examples that are played live.
 SCRIPTS = ("clients", "overlay", "ports")
-# Where Xvfb has the screen of a test, and its sides.
-DISPLAY, ROOT = ":97", "320x240x24"
+# The sides of the screen of a test, and how many bits a pixel has.
+ROOT = "320x240x24"
 
 
 class Programs(NamedTuple):
@@ -334,13 +334,11 @@ def tries_view(folder, own):
         print(f"the window of X11: {', '.join(missing) or 'a header'} is not there: passed over")
         return
     for place, words in enumerate(([], ["-extension", "MIT-SHM"])):
-        display = f"{DISPLAY}{place}"
-        server = subprocess.Popen(["Xvfb", display, "-screen", "0", ROOT, *words], stderr=subprocess.DEVNULL)
-        around = os.environ | {"DISPLAY": display}
-        try:
-            if not is_soon(lambda: picture_of(around).returncode == 0):
-                raise NoWay("Xvfb does not start")
-            yield from (f"view{''.join(words[1:])}: {line}" for line in view(fresh(folder, f"view{place}"), own, around))
-        finally:
-            server.terminate()
-            server.wait()
+        # The server takes a display that is free, and tells its number.
+        words = ["Xvfb", "-displayfd", "1", "-screen", "0", ROOT, *words]
+        with subprocess.Popen(words, stdout=subprocess.PIPE, stderr=subprocess.DEVNULL, text=True) as server:
+            try:
+                around = os.environ | {"DISPLAY": f":{server.stdout.readline().strip()}"}
+                yield from (f"view {words[-1]}: {line}" for line in view(fresh(folder, f"view{place}"), own, around))
+            finally:
+                server.terminate()
