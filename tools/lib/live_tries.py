@@ -14,7 +14,7 @@ from lib.crates import TOP
 from lib.live import APPS, OUTPUT, SIZE, TELL, WAIT
 from lib.live_hostile import HOSTILE, Flood, is_soon
 from lib.live_script import ByHand, Played
-from lib.living import LIVE, SECONDS, NoWay, System, built, core_words, options_of
+from lib.living import LIVE, SANITIZED, SECONDS, NoWay, System, built, core_words, options_of
 from lib.player import Show, declared
 from lib.serving import film_frames
 from lib.wire import NAMED
@@ -49,10 +49,11 @@ class Programs(NamedTuple):
 
 
 def programs(folder):
-    """Returns the programs, compiled into a `folder`. That of X11 is none where its headers are missing."""
+    """Returns the programs, compiled into a `folder` for the sanitizers. That of X11 is none where its headers are missing."""
+    own = [built(name, folder, *SANITIZED) for name in ("wfbroker", "waves", "kiosk")]
     with contextlib.suppress(NoWay):
-        return Programs(*(built(name, folder) for name in ("wfbroker", "waves", "kiosk")), built("wfview", folder, "-lX11", "-lXext"))
-    return Programs(*(built(name, folder) for name in ("wfbroker", "waves", "kiosk")), None)
+        return Programs(*own, built("wfview", folder, *SANITIZED, "-lX11", "-lXext"))
+    return Programs(*own, None)
 
 
 def fresh(folder, name):

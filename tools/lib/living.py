@@ -15,6 +15,7 @@ from lib.live import LENGTH
 LIVE = TOP / "live"
 MODEL = TOP / "tools/serve-live"
 WARNINGS = ["-std=c11", "-Wall", "-Wextra", "-Werror"]
+SANITIZED = ["-g", "-fsanitize=address,undefined", "-fno-sanitize-recover=all"]
 SECONDS = 30
 # The descriptor on which the broker gives the core the frames' pipe.
 FRAMES = "/dev/fd/3"
@@ -123,7 +124,7 @@ class System:
         return part
 
     def close(self):
-        """Stops all parts, the broker last. Returns its status."""
+        """Stops all parts, the broker last. Returns its status, or one less than 0 where it had to be killed."""
         for part in self.parts:
             with contextlib.suppress(ProcessLookupError):
                 part.send_signal(signal.SIGCONT)
@@ -131,4 +132,8 @@ class System:
         for part in self.parts:
             part.wait()
         self.broker.terminate()
-        return self.broker.wait(SECONDS)
+        try:
+            return self.broker.wait(SECONDS)
+        except subprocess.TimeoutExpired:
+            self.broker.kill()
+            return self.broker.wait()
