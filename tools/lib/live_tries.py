@@ -10,7 +10,9 @@ import subprocess
 import sys
 from typing import NamedTuple
 
+from lib import png
 from lib.crates import TOP
+from lib.limits import MOST_SIDE
 from lib.live import APPS, OUTPUT, SIZE, TELL, WAIT
 from lib.live_hostile import HOSTILE, Flood, is_soon
 from lib.live_script import ByHand, Played
@@ -252,6 +254,23 @@ def tries_scripts(folder, own):
         wanted = [frame for frame in Show(text).frames if frame.port == 1][-1]
         if came[2:] != (wanted.width, wanted.height, wanted.pixels):
             yield f"examples/{name}.wfs: played live the last frame is another one"
+
+
+def tries_demo(folder, own):
+    """Runs the demonstration without a screen, by each window manager. Yields where its picture is not one."""
+    del own
+    shown = TOP / "docs/pictures/first-mode.png"
+    for words in ([], ["--kiosk"]):
+        path = folder / f"demo{len(words)}.png"
+        words = [LIVE / "demo", "--size", "160x120", "--seconds", "1", "--picture", path, shown, *words]
+        done = subprocess.run(list(map(str, words)), capture_output=True, text=True, timeout=SECONDS, check=False)
+        if done.returncode:
+            yield f"demo: status {done.returncode}: {done.stderr}"
+            continue
+        width, height, pixels = png.read(path.read_bytes(), MOST_SIDE)
+        colours = {pixels[at : at + 4] for at in range(0, len(pixels), 4)}
+        if (width, height) != SIDES or len(colours) < 10:
+            yield f"demo: the picture has {width} by {height} pixels and {len(colours)} colours"
 
 
 # A window of X11.
