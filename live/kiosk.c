@@ -15,9 +15,13 @@ enum { PORT = 1, PIPE = 1, APPS = 7, POINTER = 12 };
 
 /* An app that is shown: its number, its element, its source, and where it stands. */
 typedef struct shown { uint8_t app; uint32_t element, source; int32_t x, y; } shown;
-/* What came and is not done yet: which apps left, and which streams they asked for after that; where the pointer is, and was pressed last. So
- * no app can fill it, and nothing but older moves and presses is lost. */
-typedef struct pending { bool has_left[APPS + 1], shows[APPS + 1], is_moved, is_pressed; uint32_t streams[APPS + 1]; word move, press; } pending;
+/* What came and is not done yet: which apps left, and which streams they asked for after that; where the pointer is, and was pressed last.
+ * So no app can fill it, and nothing but older moves and presses is lost. */
+typedef struct pending {
+    bool has_left[APPS + 1], shows[APPS + 1], is_moved, is_pressed;
+    uint32_t streams[APPS + 1];
+    word move, press;
+} pending;
 
 static wf_client client;
 static uint32_t device, context;

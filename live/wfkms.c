@@ -1,13 +1,14 @@
 /* The output on a card, without a window system: two dumb buffers, and a flip whose event is the next tick.
  *
- *     cc -O2 $(pkg-config --cflags libdrm) -o wfkms wfkms.c && ./wfkms DIR [CARD [FRAMES [PORT]]]
+ *     cc -O2 $(pkg-config --cflags libdrm) -o wfkms wfkms.c && ./wfkms DIR [CARD [FRAMES [PORT [DEVICE ..]]]]
  *
  * DIR has the sockets of the broker, CARD is /dev/dri/card0, FRAMES and PORT are as of wfview. It takes the first output with a screen, in
  * its best mode, and shows a frame in the middle. It needs the kernel's headers of DRM and no library, and must be the only one that has
- * the card. With a DIR of `-` it shows a pattern of its own, with no broker. Pointer and keys are not read.
+ * the card. With a DIR of `-` it shows a pattern of its own, with no broker. DEVICEs are those of pointer, panel and keys, as
+ * /dev/input/event0; a key has the number that Linux gives it.
  */
 #define _GNU_SOURCE
-#include "output.h"
+#include "events.h"
 
 #include <drm.h>
 #include <drm_mode.h>
@@ -25,6 +26,8 @@ static uint32_t crtc, connector;
 static struct drm_mode_modeinfo mode;
 static buffer buffers[2];
 static output own;
+static events inputs;
+static int shown_w, shown_h;
 
 static void die(const char *what) {
     fprintf(stderr, "wfkms: %s: %s\n", what, strerror(errno));
@@ -117,6 +120,7 @@ static void draw_pattern(const buffer *b, long number) {
 /* Ticks, and draws the frame of a port, if one came. False where the broker is gone. */
 static bool draw_tick(const buffer *b, int port, bool *is_drawn) {
     *is_drawn = false;
+    take_inputs(&inputs, shown_w, shown_h, &own);
     tick(&own);
     while (own.is_owed) {
         struct pollfd w[] = {{own.sock, (short)(POLLIN | (held(&own.to) ? POLLOUT : 0)), 0}, {own.frames, POLLIN, 0}};
@@ -124,7 +128,12 @@ static bool draw_tick(const buffer *b, int port, bool *is_drawn) {
         if (!serve(&own, w[0].revents, w[1].revents)) return false;
     }
     for (shown frame; get_frame(&own, &frame); drop_frame(&own, &frame))
-        if (frame.port == port) draw(b, &frame), *is_drawn = true;
+        if (frame.port == port) {
+            draw(b, &frame);
+            *is_drawn = true;
+            shown_w = frame.w;
+            shown_h = frame.h;
+        }
     return true;
 }
 
@@ -138,7 +147,7 @@ static void flip(const buffer *b) {
 }
 
 int main(int argc, char **argv) {
-    if (argc < 2) return fprintf(stderr, "usage: wfkms DIR [CARD [FRAMES [PORT]]]\n"), 2;
+    if (argc < 2) return fprintf(stderr, "usage: wfkms DIR [CARD [FRAMES [PORT [DEVICE ..]]]]\n"), 2;
     const char *name = argc > 2 ? argv[2] : "/dev/dri/card0";
     long most = argc > 3 ? atol(argv[3]) : 0, count = 0;
     int port = argc > 4 ? atoi(argv[4]) : 1;
@@ -151,6 +160,7 @@ int main(int argc, char **argv) {
     ask(DRM_IOCTL_MODE_SETCRTC, &set, "the mode");
     fprintf(stderr, "wfkms: connector %u, mode %s, %u a second\n", connector, mode.name, mode.vrefresh);
     if (!is_pattern && open_output(&own, argv[1])) die(argv[1]);
+    if (argc > 5 && open_events(&inputs, argv + 5, argc - 5)) die("a device");
     double begun = seconds();
     bool is_drawn = true;
     for (int front = 0; most == 0 || count < most; count++) {
