@@ -354,8 +354,9 @@ def tries_view(folder, own):
         print(f"the window of X11: {', '.join(missing) or 'a header'} is not there: passed over")
         return
     for place, words in enumerate(([], ["-extension", "MIT-SHM"])):
-        # The server takes a display that is free, and tells its number.
-        words = ["Xvfb", "-displayfd", "1", "-screen", "0", ROOT, *words]
+        # The server takes a display that is free, and tells its number. Without -noreset it begins anew whenever its last client leaves,
+        # which would be `xwd` where that is faster than the window.
+        words = ["Xvfb", "-displayfd", "1", "-noreset", "-screen", "0", ROOT, *words]
         with subprocess.Popen(words, stdout=subprocess.PIPE, stderr=subprocess.DEVNULL, text=True) as server:
             try:
                 around = os.environ | {"DISPLAY": f":{server.stdout.readline().strip()}"}
