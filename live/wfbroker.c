@@ -210,12 +210,14 @@ static const char *path_of(const char *name) {
     return path;
 }
 
+/* Opens a door. It gets its name when it takes clients, so that who waits for the name can connect. */
 static void open_door(door *d) {
     struct sockaddr_un address = {.sun_family = AF_UNIX};
-    strcpy(address.sun_path, path_of(d->name));
+    strcpy(address.sun_path, path_of("opening"));
     unlink(address.sun_path);
     d->fd = socket(AF_UNIX, SOCK_STREAM | SOCK_NONBLOCK | SOCK_CLOEXEC, 0);
     if (d->fd < 0 || bind(d->fd, (struct sockaddr *)&address, sizeof address) || listen(d->fd, CLIENTS)) die(address.sun_path);
+    if (rename(address.sun_path, path_of(d->name))) die(d->name);
 }
 
 /* Makes the folder with all that stands in it. One broker alone may have it, by a lock that ends with the process. */

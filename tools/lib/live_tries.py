@@ -256,21 +256,29 @@ def tries_scripts(folder, own):
             yield f"examples/{name}.wfs: played live the last frame is another one"
 
 
+def demo_of(path, seconds, more):
+    """Runs the demonstration for so many seconds, with `more` words. Returns what is wrong with its picture, or nothing."""
+    shown = TOP / "docs/pictures/first-mode.png"
+    words = [LIVE / "demo", "--size", "160x120", "--seconds", seconds, "--picture", path, shown, *more]
+    done = subprocess.run(list(map(str, words)), capture_output=True, text=True, timeout=2 * SECONDS, check=False)
+    if done.returncode:
+        return f"status {done.returncode}: {done.stderr}"
+    width, height, pixels = png.read(path.read_bytes(), MOST_SIDE)
+    colours = {pixels[at : at + 4] for at in range(0, len(pixels), 4)}
+    return "" if (width, height) == SIDES and len(colours) >= 10 else f"the picture has {width} by {height} pixels, {len(colours)} colours"
+
+
 def tries_demo(folder, own):
     """Runs the demonstration without a screen, by each window manager. Yields where its picture is not one."""
     del own
-    shown = TOP / "docs/pictures/first-mode.png"
     for words in ([], ["--kiosk"]):
-        path = folder / f"demo{len(words)}.png"
-        words = [LIVE / "demo", "--size", "160x120", "--seconds", "1", "--picture", path, shown, *words]
-        done = subprocess.run(list(map(str, words)), capture_output=True, text=True, timeout=SECONDS, check=False)
-        if done.returncode:
-            yield f"demo: status {done.returncode}: {done.stderr}"
-            continue
-        width, height, pixels = png.read(path.read_bytes(), MOST_SIDE)
-        colours = {pixels[at : at + 4] for at in range(0, len(pixels), 4)}
-        if (width, height) != SIDES or len(colours) < 10:
-            yield f"demo: the picture has {width} by {height} pixels and {len(colours)} colours"
+        # On a machine that has much to do the apps need more time to show something.
+        for seconds in (1, 5, 15):
+            wrong = demo_of(folder / "demo.png", seconds, words)
+            if not wrong:
+                break
+        else:
+            yield f"demo {' '.join(words)}: {wrong}"
 
 
 # A window of X11.
