@@ -1,8 +1,8 @@
 -- What a message leaves, what is answered to it, and what is shown.
 use Rattle.std.specs.Prelude.{◌≡◌, ℕ, ◌+◌, ◌==◌, ◌&&◌, ◌||◌, not, Bool, true, false, nat_le, List, [], ◌∷◌, ◌++◌, length, drop, find, set}
+use Rattle.std.specs.Prelude.{◌*◌, ◌%◌, ◌^◌, nat_lt}
 use Rattle.std.specs.Prelude.{get_or, Option, Some, None, if◌then◌else◌}
 use Rattle.std.specs.Int.{cast_unsigned, w64}
-use Rattle.byteorder.specs.Endian.{big_bytes}
 use Rattle.wf_calls.specs.declared.call.Call.TheVariants as call
 use Rattle.wf_calls.specs.declared.code.Code.{Code}
 use Rattle.wf_calls.specs.declared.code.Code.TheVariants as code
@@ -52,16 +52,21 @@ abbrev pub PutsIf : Bool → ℕ → List ℕ → Served → Served → Told →
 PutsIf false client body old new t = IsRefused code.IllegalArgument old new t
 PutsIf true client body old new t = Puts client (rectangle_in body) (drop 32 body) old new t
 
--- the width and the height of a stream, eight bytes each
-abbrev pub size_bytes : Owned → List ℕ
-size_bytes o = big_bytes 8 (cast_unsigned w64 o.width) ++ big_bytes 8 (cast_unsigned w64 o.height)
+-- the width of a stream times 65536, and its height
+abbrev pub size_told : Owned → Told
+size_told o =
+    record { code = 0; value = cast_unsigned w64 o.width % 65536 * 65536 + cast_unsigned w64 o.height % 65536 }
+
+-- a body that is the handle of a stream
+abbrev pub is_handle : List ℕ → Bool
+is_handle body = length body == 8 && nat_lt (word_at body 0) (2 ^ 32)
 
 abbrev pub sized : ℕ → List ℕ → Served → List ℕ
-sized client body v = if length body == 8 then of_stream (word_at body 0) else one client SIZE (refused_by code.IllegalArgument)
+sized client body v = if is_handle body then of_stream (word_at body 0) else one client SIZE (refused_by code.IllegalArgument)
   where
     of_owned : Option Owned → List ℕ
     of_owned None = one client SIZE (refused_by code.BadHandle)
-    of_owned (Some o) = answer_bytes (answer_to client SIZE done (size_bytes o))
+    of_owned (Some o) = one client SIZE (size_told o)
 
     of_stream : ℕ → List ℕ
     of_stream stream = of_owned (find (λ o. (o.stream == stream) && ((client == MANAGER) || (o.client == client))) v.owned)

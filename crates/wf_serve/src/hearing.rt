@@ -8,27 +8,8 @@ ghost use Rattle.wf_model.specs.Step.{step};
 ghost use Rattle.wf_serve.specs.AnswerBytes.{answer_bytes, answer_to};
 ghost use Rattle.wf_serve.specs.Bodies.{message_in, word_at};
 ghost use Rattle.wf_serve.specs.Drawing.{Puts};
-ghost use Rattle.wf_serve.specs.Heard.{
-  Asks,
-  HasLeft,
-  Hears,
-  HearsKind,
-  Leaves,
-  PutsIf,
-  TicksIf,
-  destroyed,
-  destroyed_one,
-  done,
-  one,
-  rectangle_in,
-  size_bytes,
-  sized,
-  may_tell,
-  tells,
-  told_by,
-  told_to,
-  waited,
-};
+ghost use Rattle.wf_serve.specs.Heard.{Asks, HasLeft, Hears, HearsKind, Leaves, PutsIf, TicksIf, destroyed, destroyed_one, done};
+ghost use Rattle.wf_serve.specs.Heard.{is_handle, may_tell, one, rectangle_in, size_told, sized, tells, told_by, told_to, waited};
 ghost use Rattle.wf_io.specs.Bytes.{Puts as PlainPuts};
 ghost use Rattle.wf_serve.specs.Putting.{PutsFront, Writes};
 ghost use Rattle.wf_guard.specs.Serving.{Served};
@@ -41,7 +22,6 @@ use crate::core::Core;
 use crate::kind::{Kind, LEFT, SIZE, TELL, TICK, TOLD, WAIT, kind_of};
 use crate::pixels::Rectangle;
 use crate::tick::{play, wake_all};
-use byteorder::{BigEndian, ByteOrder};
 use wf_calls::{Code, Request};
 use wf_guard::{CLIENTS, MANAGER, OUTPUT, Owned};
 use wf_host::Told;
@@ -64,14 +44,23 @@ fn rectangle_in(body: &[u8]) -> Rectangle
     }
 }
 
-/// Makes the bytes of the size of a stream.
-fn size_of(owned: &Owned) -> [u8; 16]
-    ensures { result ≡ size_bytes owned.now }
+/// Tells the size of a stream: the width times 65536, and the height.
+fn size_told(owned: &Owned) -> Told
+    ensures { result ≡ size_told owned.now }
 {
-    let mut bytes = [0; 16];
-    BigEndian::write_u64(&mut bytes, owned.width.cast_unsigned());
-    BigEndian::write_u64(&mut bytes[8..], owned.height.cast_unsigned());
-    bytes
+    let width = owned.width.cast_unsigned() % 65_536;
+    let height = owned.height.cast_unsigned() % 65_536;
+    Told {
+        code: 0,
+        value: (width * 65_536 + height) as u32,
+    }
+}
+
+/// Tells whether a body is the handle of a stream.
+fn is_handle(body: &[u8]) -> bool
+    ensures { result ≡ is_handle body.now }
+{
+    body.len() == 8 && word_at(body, 0) < 4_294_967_296
 }
 
 /// Puts one answer, to `client`, who sent the message of `number`.
@@ -198,11 +187,11 @@ impl Core {
         requires { answers.old ≡ [] }
         ensures { answers.new ≡ sized client body.now self.now }
     {
-        if body.len() != 8 {
+        if !is_handle(body) {
             return put_one(answers, client, SIZE, Told::refused(Code::IllegalArgument));
         }
         match self.owned_by(client, word_at(body, 0)) {
-            Some(owned) => answers.put(client, SIZE, Told::done(), &size_of(owned)),
+            Some(owned) => put_one(answers, client, SIZE, size_told(owned)),
             None => put_one(answers, client, SIZE, Told::refused(Code::BadHandle)),
         }
     }

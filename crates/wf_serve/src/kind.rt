@@ -39,6 +39,7 @@ pub enum Kind {
 
 /// The last message about a canvas and a stream that an app may send, and the first paint.
 const LAST_OF_STREAMS: u8 = 6;
+
 const FIRST_PAINT: u8 = 46;
 
 /// Tells whether an app may send a message of `number`: of streams and canvases, paints, and those that are no calls.

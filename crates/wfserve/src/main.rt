@@ -5,6 +5,9 @@
 mod ends;
 mod words;
 
+ghost use Rattle.std.specs.Prelude.{IsTrue};
+ghost use Rattle.wf_calls.specs.PortRules.{may_declare};
+
 use ends::End;
 use std::alloc::Global;
 use std::fs::File;
@@ -15,9 +18,6 @@ use std::{env, io};
 use wf_io::{Sink, Source, StdSink, StdSource};
 use wf_serve::serve;
 use words::{Asked, asked_by};
-
-ghost use Rattle.std.specs.Prelude.{IsTrue};
-ghost use Rattle.wf_calls.specs.PortRules.{may_declare};
 
 /// How many bytes of standard input are read at once.
 const BLOCK: usize = 65_536;
