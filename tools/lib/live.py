@@ -13,6 +13,10 @@ CLIENTS = (MANAGER, *APPS, OUTPUT)
 GONE, PUT, TICK, WAIT, TELL, SIZE, TOLD, LEFT = 0, 50, 51, 52, 53, 54, 55, 56
 # The calls that apps may make, beside the paints.
 OF_APPS = ("StreamNew", "StreamQueue", "StreamDestroy", "Acquire", "Post", "Discard", "Fill", "Rectangle", "Checker", "Ramp")
+# Frames begin by ticks alone.
+BEGINS = ("BeginContext", "BeginPort")
+# How many live streams the window manager and an app may have.
+MANAGER_STREAMS, APP_STREAMS = 32, 4
 # The code of an answer to a message that made no call, since a write buffer is held or is not.
 NO_CALL, NO_CALL_NAME = 255, "NoCall"
 # The least and the most that the length of a frame may be, and the most bytes that are told.

@@ -11,6 +11,7 @@ from collections import Counter
 
 from lib.crates import TOP
 from lib.live import LENGTH
+from lib.program import SERVE
 
 LIVE = TOP / "live"
 MODEL = TOP / "tools/serve-live"
@@ -43,13 +44,13 @@ def built(name, folder, *flags):
 
 
 def core_words():
-    """Returns the command of the core: the program that WFSERVE names, or the model."""
-    return [os.environ.get("WFSERVE") or str(MODEL)]
+    """Returns the command of the core: the program that WFSERVE names, or that of this checkout where it is built, or the model."""
+    return [str(SERVE if SERVE.exists() else MODEL)]
 
 
 def options_of(ports, pipes, frames):
     """Returns the words of a core with these `ports`, which are sides, and `pipes`, whose frames go to a file."""
-    return [*(word for w, h in ports for word in ("--port", f"{w}x{h}")), "--pipes", str(pipes), "--frames", str(frames)]
+    return ["--port", ",".join(f"{w}x{h}" for w, h in ports), "--pipes", str(pipes), "--frames", str(frames)]
 
 
 class Recorded:

@@ -10,6 +10,7 @@ TOP = Path(__file__).resolve().parent.parent.parent
 PROGRAM = Path(os.environ.get("WFPLAY") or TOP / "crates/wfplay/out/wfplay")
 CASES = Path(os.environ.get("WFCASES") or TOP / "crates/cases_machine/out/cases_machine")
 SESSIONS = Path(os.environ.get("WFWIRE") or TOP / "crates/cases_wire/out/cases_wire")
+SERVE = Path(os.environ.get("WFSERVE") or TOP / "crates/wfserve/out/wfserve")
 SECONDS = 120
 
 

@@ -7,12 +7,15 @@ import struct
 
 from lib.film import CODES
 from lib.live import (
+    APP_STREAMS,
     APPS,
+    BEGINS,
     GONE,
     LEAST_FRAME,
     LEFT,
     LENGTH,
     MANAGER,
+    MANAGER_STREAMS,
     MOST_FRAME,
     MOST_TOLD,
     NO_CALL,
@@ -34,7 +37,7 @@ from lib.player import PAINTED
 from lib.session import Session
 from lib.wire import ARGUMENT, MESSAGES, Reader
 
-OK, ILLEGAL, UNSUPPORTED, BAD_HANDLE = (CODES.index(name) for name in ("Ok", "IllegalArgument", "Unsupported", "BadHandle"))
+OK, ILLEGAL, UNSUPPORTED, BAD_HANDLE, LIMIT = map(CODES.index, ("Ok", "IllegalArgument", "Unsupported", "BadHandle", "Limit"))
 # The calls that name a stream, which an app must have made, and the one that makes it.
 NAMES_STREAM, MAKES_STREAM = ("StreamDestroy", "Acquire"), ("StreamNew", "StreamQueue")
 # How many pictures are kept, so that a scene that stays is not painted again.
@@ -117,10 +120,16 @@ class Live:
     def call(self, client, number, numbers, data):
         """Makes a call, or a paint, with the canvas that the client holds."""
         name = MESSAGES[number].name
+        need(name not in BEGINS, UNSUPPORTED)
+        if name in MAKES_STREAM:
+            share = MANAGER_STREAMS if client == MANAGER else APP_STREAMS
+            need(sum(maker == client for maker in self.makers.values()) < share, LIMIT)
         if name in NAMES_STREAM:
             self.need_maker(client, numbers[0])
         message = Reader(io.BytesIO(bytes([number]) + data)).message()
         answer = b"".join(self.hands[client].answer(message))
+        if name == "StreamDestroy" and answer[0] == OK:
+            self.makers.pop(numbers[0], None)
         if name in MAKES_STREAM and answer[0] == OK:
             self.makers[int.from_bytes(answer[1:5], "big")] = client
         return bytes([number]) + answer
