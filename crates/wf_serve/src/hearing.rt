@@ -18,8 +18,8 @@ ghost use Rattle.wf_serve.specs.Ticks.{next_tick, ticked, woken};
 
 use crate::answers::Answers;
 use crate::body::{message_in, word_at};
-use crate::core::Core;
 use crate::kind::{Kind, LEFT, SIZE, TELL, TICK, TOLD, WAIT, kind_of};
+use crate::live::Core;
 use crate::pixels::Rectangle;
 use crate::tick::{play, wake_all};
 use wf_calls::{Code, Request};

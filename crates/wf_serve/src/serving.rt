@@ -10,8 +10,8 @@ ghost use Rattle.wf_serve.specs.Putting.{PutsFront, Writes};
 ghost use Rattle.wf_serve.specs.Runs.{HearsContent, IsOfSink, RunsTo, ServesNext, stop_of};
 
 use crate::answers::Answers;
-use crate::core::Core;
 use crate::input::{MOST_FRAME, Next, next_frame};
+use crate::live::Core;
 use std::alloc::Global;
 use wf_calls::Ports;
 use wf_io::{Sink, Source, write_all};

@@ -4,7 +4,7 @@ use Rattle.std.specs.Prelude.{option_map}
 use Rattle.wf_serve.specs.Heard.{one}
 use Rattle.wf_serve.specs.declared.kind.TheConstants.{SIZE}
 use Rattle.wf_serve.proofs.Sizes.{sized_so}
-use Rattle.wf_serve.proofs.core.Core.size.Goals as goal
+use Rattle.wf_serve.proofs.live.Core.size.Goals as goal
 
 pub returns-in-Some : goal.returns-in-Some
 returns-in-Some c =

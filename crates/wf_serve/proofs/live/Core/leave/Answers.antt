@@ -2,7 +2,7 @@ use Rattle.std.proofs.Common.{◌≡◌, ◌∙◌, false, ap, set, subst}
 use Rattle.wf_guard.specs.Policy.{left_by}
 use Rattle.wf_guard.specs.Serving.{Served}
 use Rattle.wf_serve.specs.Heard.{destroyed}
-use Rattle.wf_serve.proofs.core.Core.leave.Goals as goal
+use Rattle.wf_serve.proofs.live.Core.leave.Goals as goal
 
 pub returns : goal.returns
 returns c =

@@ -4,8 +4,8 @@ use Rattle.wf_calls.specs.Replies.{bare}
 use Rattle.wf_guard.specs.Policy.{refusal_of}
 use Rattle.wf_guard.specs.Serving.{Served, Serves, owned_by, plain}
 use Rattle.wf_serve.proofs.Carried.{asked_as, owned_ok, owned_refused}
-use Rattle.wf_serve.proofs.core.Core.carry.Goals as goal
-use Rattle.wf_serve.proofs.core.Core.carry.Goals.{then-is_ok, else-is_ok}
+use Rattle.wf_serve.proofs.live.Core.carry.Goals as goal
+use Rattle.wf_serve.proofs.live.Core.carry.Goals.{then-is_ok, else-is_ok}
 
 pub returns : goal.returns
 returns c =

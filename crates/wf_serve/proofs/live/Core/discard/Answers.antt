@@ -2,7 +2,7 @@ use Rattle.std.proofs.Common.{◌∙◌, sym, subst}
 use Rattle.wf_calls.specs.declared.call.Call.TheVariants as call
 use Rattle.wf_guard.specs.Serving.{Served, Serves, discard}
 use Rattle.wf_serve.proofs.Carried.{given_as}
-use Rattle.wf_serve.proofs.core.Core.discard.Goals as goal
+use Rattle.wf_serve.proofs.live.Core.discard.Goals as goal
 
 pub returns-in-Some : goal.returns-in-Some
 returns-in-Some c =

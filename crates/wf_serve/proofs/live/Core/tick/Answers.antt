@@ -1,6 +1,6 @@
 use Rattle.std.proofs.Common.{◌∙◌, sym}
 use Rattle.wf_serve.proofs.Hearings.{tick_cut, tick_heard}
-use Rattle.wf_serve.proofs.core.Core.tick.Goals as goal
+use Rattle.wf_serve.proofs.live.Core.tick.Goals as goal
 
 pub returns-then-is_empty-clause-heard : goal.returns-then-is_empty-clause-heard
 returns-then-is_empty-clause-heard g c =
