@@ -14,7 +14,8 @@ abbrev pub may_send : ℕ → ℕ → Bool
 may_send client number =
     if client == BROKER then number == GONE
     else if client == OUTPUT then (number == TICK) || (number == TELL)
-    else nat_lt client OUTPUT && (not (number == GONE) && (not (number == TICK) && (nat_le number SIZE && ((client == MANAGER) || is_of_apps number))))
+    else nat_lt client OUTPUT
+    && (not (number == GONE) && (not (number == TICK) && (nat_le number SIZE && ((client == MANAGER) || is_of_apps number))))
 
 abbrev pub kind_in : ℕ → Kind
 kind_in number =
