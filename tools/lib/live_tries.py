@@ -13,17 +13,17 @@ from typing import NamedTuple
 from lib import png
 from lib.crates import TOP
 from lib.limits import MOST_SIDE
-from lib.live import APPS, OUTPUT, SIZE, TELL, WAIT
+from lib.live import APPS, OUTPUT, SIZE, TELL, WAIT, body
 from lib.live_hostile import HOSTILE, Flood, is_soon
 from lib.live_script import ByHand, Played
 from lib.living import LIVE, SANITIZED, SECONDS, NoWay, System, built, core_words, options_of
 from lib.player import Show, declared
-from lib.serving import film_frames
+from lib.serving import Live, film_frames
 from lib.wire import NAMED
 
 sys.path.insert(0, str(LIVE))
 
-from wfclient import Client, Output  # noqa: E402
+from wfclient import Client, Output, given  # noqa: E402
 from words import MOVE, PRESS, RELEASE, SHOW, word  # noqa: E402
 
 SIDES, PIPES = (160, 120), 1
@@ -36,7 +36,7 @@ SUMS = {"ticks": 10_380_073, "moved": 10_595_871, "killed": 10_285_192, "again":
 # The window of the waves, and where its bar is gripped and let go.
 WINDOW, GRIP, DROP = (64, 40), (50, 40), (90, 70)
 # Scripts of the examples that are played live.
-SCRIPTS = ("clients", "overlay", "ports")
+SCRIPTS = ("clients", "desk", "ports")
 # The sides of the screen of a test, and how many bits a pixel has.
 ROOT = "320x240x24"
 
@@ -298,27 +298,43 @@ def screen_of(data, width, height):
     return bytes(pixels)
 
 
+# A still picture: device 1, context 2, a stream 3 that is painted, an element 4 and its source 5.
+STILL = (
+    ("DeviceNew",),
+    ("ScreenContext", 1, 1),
+    ("StreamNew", *SIDES, "rgbx", 2),
+    ("Acquire", 3),
+    ("Ramp", 250, 40, 10, 255, 10, 60, 240, 255),
+    ("Rectangle", 20, 30, 50, 40, 1, 200, 3, 255),
+    ("Post",),
+    ("ElementNew", 1, 2),
+    ("SourceNew", 1, 2, 3),
+    ("ElementSet", 1, 4, "source", 5),
+    ("ElementSet", 1, 4, "srcrect", [0, 0, *SIDES]),
+    ("ElementSet", 1, 4, "dest", [0, 0, *SIDES]),
+    ("ElementInsert", 1, 4, 0),
+    ("Commit", 1, 2),
+    ("Activate", 1, 2),
+)
+
+
 def still(place):
-    """Returns a window manager that shows a still picture, and what the port shows of it."""
+    """Returns a window manager that shows a still picture."""
     client = Client("wm", place)
-    device = client.device_new()
-    context = client.screen_context(device, 1)
-    stream = client.stream_new(*SIDES, "rgbx", 2)
-    client.acquire(stream)
-    client.ramp(250, 40, 10, 255, 10, 60, 240, 255)
-    client.rectangle(20, 30, 50, 40, 1, 200, 3, 255)
-    client.post()
-    element = client.element_new(device, context)
-    client.element_set(device, element, "source", client.source_new(device, context, stream))
-    client.element_set(device, element, "srcrect", [0, 0, *SIDES])
-    client.element_set(device, element, "dest", [0, 0, *SIDES])
-    client.element_insert(device, element, 0)
-    client.commit(device, context)
-    client.begin_context(device, context)
-    shown = client.begin_port(1)
-    client.activate(device, context)
+    for name, *values in STILL:
+        client.say(name, *values)
     client.sync()
-    return client, shown.data[4:]
+    return client
+
+
+def still_pixels():
+    """Returns the pixels of that picture, by the model."""
+    shown = []
+    live = Live([SIDES], PIPES, lambda *frame: shown.append(frame[-1]))
+    for name, *values in STILL:
+        live.answers(MANAGER, body(name, *map(given, values)))
+    live.answers(OUTPUT, body("tick"))
+    return shown[-1]
 
 
 def warped(display, x, y):
@@ -343,7 +359,7 @@ def picture_of(around):
 def view(folder, own, around):
     """Shows a still picture in a window, and moves the pointer. Yields what is wrong."""
     with System(folder, own.broker, [SIDES], PIPES) as system:
-        client, wanted = still(system.place)
+        client, wanted = still(system.place), still_pixels()
         shown = subprocess.Popen([own.view, system.place, "20"], env=around, stdout=subprocess.DEVNULL)
         system.parts.append(shown)
 
