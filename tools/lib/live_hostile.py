@@ -8,7 +8,7 @@ import threading
 import time
 
 from lib.film import CODES
-from lib.live import LENGTH, MANAGER, MOST_FRAME, MOST_TOLD, NO_CALL, answer_of, body, framed
+from lib.live import APP_STREAMS, LENGTH, MANAGER, MOST_FRAME, MOST_TOLD, NO_CALL, answer_of, body, framed
 from lib.living import LIVE
 from lib.serving import film_frames
 
@@ -22,6 +22,8 @@ PIECE = 1 << 18
 GENEROUS, CUT_OFF = 5, 15
 OK, ILLEGAL, UNSUPPORTED, BAD_HANDLE = (CODES.index(name) for name in ("Ok", "IllegalArgument", "Unsupported", "BadHandle"))
 MOST_APPS = 7
+# So many apps, one after the other, take more streams than there are.
+GREEDY = 20
 
 
 def raw(place):
@@ -135,13 +137,18 @@ def leaving(place):
             own.sendall(framed(body("size", 1)))
             stale += first_answer(own)[:2] != (54, BAD_HANDLE)
     yield "no app gets the answers of one before it", stale == 0
-    with Client("app", place) as good:
-        with Client("app", place) as greedy:
-            count = 0
-            while greedy.stream_new(16, 16, "rgbx", 2).code == OK:
-                count += 1
-            yield "one app can take all streams", 30 < count < 64
-        yield "and they are there again when it leaves", is_soon(lambda: good.stream_new(16, 16, "rgbx", 2).code == OK)
+    taken = [streams_taken(place) for _ in range(GREEDY)]
+    yield f"each of {GREEDY} apps in turn can take its share of streams, and no more", taken == [APP_STREAMS] * GREEDY
+
+
+def streams_taken(place):
+    """Returns how many streams an app can take that asks for ever more, and beside which a good one still gets its own."""
+    count = 0
+    with Client("app", place) as greedy, Client("app", place) as good:
+        while greedy.stream_new(16, 16, "rgbx", 2).code == OK:
+            count += 1
+        stream = good.stream_new(16, 16, "rgbx", 2)
+        return count if stream.code == OK and good.size(stream.value).code == OK else None
 
 
 def is_soon(holds):

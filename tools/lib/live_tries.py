@@ -246,7 +246,7 @@ def tries_scripts(folder, own):
     for name in SCRIPTS:
         text = (TOP / f"examples/{name}.wfs").read_text(encoding="utf-8")
         ports, pipes = declared([line.partition("#")[0].split() for line in text.split("\n")])
-        with System(fresh(folder, name), own.broker, [modes[0] for modes in ports], pipes) as system:
+        with System(fresh(folder, f"script-{name}"), own.broker, [modes[0] for modes in ports], pipes) as system:
             with Client("wm", system.place) as client, Output(system.place) as output:
                 ticks = ByHand(client, output)
                 Played(client, ticks.tick, lambda *_: None).play(text)

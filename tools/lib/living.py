@@ -12,6 +12,7 @@ from collections import Counter
 from lib.crates import TOP
 from lib.live import LENGTH
 from lib.program import SERVE
+from lib.tool import Refused
 
 LIVE = TOP / "live"
 MODEL = TOP / "tools/serve-live"
@@ -45,6 +46,8 @@ def built(name, folder, *flags):
 
 def core_words():
     """Returns the command of the core: the program that WFSERVE names, or that of this checkout where it is built, or the model."""
+    if os.environ.get("WFSERVE") and not SERVE.is_file():
+        raise Refused(f"the variable WFSERVE names no program: {SERVE}")
     return [str(SERVE if SERVE.exists() else MODEL)]
 
 
