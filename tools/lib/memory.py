@@ -38,12 +38,13 @@ class Memory:
         self.library = self.folder / "refusing.so"
         subprocess.run([compiler(), "-O2", "-shared", "-fPIC", "-o", str(self.library), str(SOURCE)], check=True)
 
-    def run(self, words, data=b"", refuse=0):
-        """Runs the program by these words, on these bytes or on an open file, with one call for memory refused, 0 for none."""
+    def run(self, words, data=b"", refuse=0, program=PROGRAM):
+        """Runs the program by these words, on these bytes or on an open file, with one call for memory refused, 0 for none. `program` is
+        another one."""
         told = self.folder / "told"
         told.unlink(missing_ok=True)
         around = os.environ | {"LD_PRELOAD": str(self.library), "WF_REFUSE": str(refuse), "WF_TOLD": str(told)}
         given = {"input": data} if isinstance(data, bytes) else {"stdin": data}
-        ran = subprocess.run([str(PROGRAM), *words], **given, capture_output=True, timeout=SECONDS, env=around, check=False)
+        ran = subprocess.run([str(program), *words], **given, capture_output=True, timeout=SECONDS, env=around, check=False)
         numbers = map(int, told.read_text(encoding="ascii").split()) if told.exists() else (0, 0, 0)
         return Run(ran.returncode, ran.stdout, ran.stderr.decode("utf-8", "replace"), *numbers)
