@@ -46,3 +46,11 @@ module _ (a : ℕ) (app : (a == 0) ≡ false) (owned : List Owned) where
 
   pub acquires_own : (stream : ℕ) → refusal_of a (request.Acquire stream) owned ≡ None → owns a stream owned ≡ true
   acquires_own stream none = of_own (owns a stream owned) (rw app at none)
+
+-- what is let through begins no frame
+pub begins_none : (client : ℕ) (owned : List Owned) (r : Request) → refusal_of client r owned ≡ None → is_begin (call_of r) ≡ false
+begins_none client owned r none = by_test (is_begin (call_of r)) refl
+  where
+    by_test : (b : Bool) → is_begin (call_of r) ≡ b → b ≡ false
+    by_test false is = refl
+    by_test true is = absurd (let no : Some code.Unsupported ≡ None = sym (rw is refl) ∙ none in cc)

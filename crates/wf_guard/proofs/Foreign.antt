@@ -1,5 +1,5 @@
 -- A stream that an app does not own stays as it was.
-use Rattle.std.proofs.Common.{◌≡◌, ◌∙◌, ℕ, Bool, true, false, cond, not, ◌==◌, ◌&&◌, List, [], ◌∷◌, Option, Some, None, refl, sym, ap}
+use Rattle.std.proofs.Common.{◌≡◌, ◌∙◌, ℕ, Bool, true, false, cond, ◌==◌, Option, Some, None, refl, sym, ap}
 use Rattle.std.proofs.Common.{subst}
 use Rattle.std.proofs.lemmas.Bool.{eqb-true}
 use Rattle.wf_stream.specs.Streams.{KeptStream, has_number, stream_at, stream_of}
@@ -7,33 +7,22 @@ use Rattle.wf_calls.specs.declared.code.Code.{Code}
 use Rattle.wf_calls.specs.Requests.{call_of}
 use Rattle.wf_calls.specs.declared.request.Request.{Request}
 use Rattle.wf_calls.specs.declared.request.Request.TheVariants as request
+use Rattle.wf_calls.specs.declared.call.Call.{Call}
+use Rattle.wf_calls.specs.declared.call.Call.TheVariants as call
+use Rattle.wf_image.specs.Bitmap.{Bitmap}
+use Rattle.wf_image.specs.declared.canvas.Canvas.{Canvas}
+use Rattle.wf_host.specs.Held.{canvas_of}
 use Rattle.wf_host.specs.Made.{not_made}
 use Rattle.wf_host.specs.declared.told.Told.{Told}
 use Rattle.wf_model.specs.Step.{step}
-use Rattle.wf_guard.specs.Apps.{is_found, names_stream}
+use Rattle.wf_guard.specs.Apps.{is_found, is_of_apps, names_stream}
 use Rattle.wf_guard.specs.Policy.{owns, refusal_of}
 use Rattle.wf_guard.specs.Requests.{is_for_apps}
-use Rattle.wf_guard.specs.Serving.{Served, allowed, lacks_place, made, plain, served}
+use Rattle.wf_guard.specs.Serving.{Asked, Served, allowed, discard, draw, drawn, given, lacks_place, made, plain, post, served, with_held}
 use Rattle.wf_guard.proofs.ForApps.{acquires_own, destroys_own, kinds_let_through, let_through}
-use Rattle.wf_guard.proofs.Numbered.{AreApart}
+use Rattle.wf_guard.proofs.Numbered.{AreApart, found_handle}
+use Rattle.wf_guard.proofs.OwnCanvases.{HoldsOwn, own_stream}
 use Rattle.wf_guard.proofs.Rest.{leaves_rest}
-
--- the stream of a handle has it
-found_handle : (handle : ℕ) (ss : List KeptStream) (t : KeptStream) → stream_of handle ss ≡ Some t → t.handle ≡ handle
-found_handle handle [] t is = absurd cc
-found_handle handle (s ∷ ss) t is =
-    by_test ((s.handle == handle) && not (handle == 0)) refl (found_handle handle ss t) is
-  where
-    first : (b : Bool) → (b && not (handle == 0)) ≡ true → b ≡ true
-    first true both = refl
-    first false both = absurd cc
-
-    by_test : (b : Bool) → ((s.handle == handle) && not (handle == 0)) ≡ b → (stream_of handle ss ≡ Some t → t.handle ≡ handle)
-        → cond b (Some s) (stream_of handle ss) ≡ Some t → t.handle ≡ handle
-    by_test true both rest is =
-        let same : s ≡ t = cc in
-        ap (λ (x : KeptStream). x.handle) (sym same) ∙ eqb-true s.handle handle (first (s.handle == handle) both)
-    by_test false none rest is = rest is
 
 module _ (v : Served) (a : ℕ) (app : (a == 0) ≡ false) (n : ℕ) (s : KeptStream) (found : stream_at n v.machine.streams ≡ Some s)
     (apart : AreApart v.machine.streams) (foreign : owns a s.handle v.owned ≡ false) where
@@ -74,13 +63,13 @@ module _ (v : Served) (a : ℕ) (app : (a == 0) ≡ false) (n : ℕ) (s : KeptSt
       own_is_elsewhere stream (acquires_own a app v.owned stream none) (stream_of stream v.machine.streams) refl
   names_another _ none may = absurd cc
 
-  module _ (live : (s.handle == 0) ≡ false) (r : Request) (m : Bool) where
+  module _ (live : (s.handle == 0) ≡ false) (own : HoldsOwn a v) (m : Bool) where
     abbrev Stays : Served → Type 0
     Stays w = stream_at n w.machine.streams ≡ Some s
 
-    allows : (why : Option Code) → refusal_of a r v.owned ≡ why → Stays (allowed a r m v why).0
-    allows (Some why) is = found
-    allows None is = of_place (lacks_place a r v.held)
+    allows : (r : Request) (why : Option Code) → refusal_of a r v.owned ≡ why → Stays (allowed a r m v why).0
+    allows r (Some why) is = found
+    allows r None is = of_place (lacks_place a r v.held)
       where
         of_place : (b : Bool) → Stays (cond {A = Served × Told} b (v, not_made) (made a r v (step v.machine a (call_of r) m))).0
         of_place true = found
@@ -88,5 +77,31 @@ module _ (v : Served) (a : ℕ) (app : (a == 0) ≡ false) (n : ℕ) (s : KeptSt
             (leaves_rest v.machine a (call_of r) m (kinds_let_through a app v.owned r is)).streams n s found live
             (names_another r is (let_through a app v.owned r is))
 
-    pub stays_as_it_was : Stays (served a (plain r) m v).0
-    stays_as_it_was = allows (refusal_of a r v.owned) refl
+    -- what the app holds is of another stream
+    holds_another : (canvas : Canvas) → canvas_of a v.held ≡ Some canvas → (s.number == canvas.stream) ≡ false
+    holds_another canvas holds = by_test (s.number == canvas.stream) refl
+      where
+        by_test : (b : Bool) → (s.number == canvas.stream) ≡ b → b ≡ false
+        by_test false other = refl
+        by_test true same =
+            let at : stream_at canvas.stream v.machine.streams ≡ Some s =
+            subst (λ k. stream_at k v.machine.streams ≡ Some s) (sym (has_number n v.machine.streams s found)
+            ∙ eqb-true s.number canvas.stream same) found in
+            absurd (let no : true ≡ false = sym (own_stream a v own canvas s holds at live) ∙ foreign in cc)
+
+    gives : (c : Canvas → Call) → ((canvas : Canvas) → is_of_apps (c canvas) ≡ true)
+        → ((canvas : Canvas) → names_stream (c canvas) v.machine s ≡ (s.number == canvas.stream)) → (o : Option Canvas)
+        → canvas_of a v.held ≡ o → Stays (with_held (given a c m v) v o).0
+    gives c may names None is = found
+    gives c may names (Some canvas) is =
+        (leaves_rest v.machine a (c canvas) m (may canvas)).streams n s found live (names canvas ∙ holds_another canvas is)
+
+    paints : (paint : Bitmap → Bitmap) (o : Option Canvas) → Stays (with_held (drawn a paint v) v o).0
+    paints paint None = found
+    paints paint (Some canvas) = found
+
+    pub stays_as_it_was : (x : Asked) → Stays (served a x m v).0
+    stays_as_it_was (plain r) = allows r (refusal_of a r v.owned) refl
+    stays_as_it_was post = gives call.Post (λ canvas. refl) (λ canvas. refl) (canvas_of a v.held) refl
+    stays_as_it_was discard = gives call.Discard (λ canvas. refl) (λ canvas. refl) (canvas_of a v.held) refl
+    stays_as_it_was (draw paint) = paints paint (canvas_of a v.held)

@@ -1,6 +1,8 @@
 -- The numbers of streams rise in every state that requests lead to, so no number stands twice.
 use Rattle.std.proofs.Common.{◌≡◌, ℕ, ◌+◌, ◌<◌, Bool, true, false, cond, not, ◌==◌, ◌&&◌, List, [], ◌∷◌}
 use Rattle.std.proofs.Common.{map, length, Option, Some, None, refl, sym, subst, arith}
+use Rattle.std.proofs.Common.{◌∙◌, ap}
+use Rattle.std.proofs.lemmas.Bool.{eqb-true}
 use Rattle.std.specs.List.{range_with_len, zip}
 use Rattle.wf_words.specs.Keyed.{is_in}
 use Rattle.wf_words.specs.Rising.{RisesTo, found_above, rises_to, rises_to_change, rises_to_filter, rises_to_more}
@@ -31,7 +33,10 @@ use Rattle.wf_model.specs.Picture.{Images}
 use Rattle.wf_model.specs.Registers.{offered}
 use Rattle.wf_model.specs.State.{State, screen}
 use Rattle.wf_model.specs.Step.{act, step}
-use Rattle.wf_guard.specs.LiveStreams.{Turn, after_turns, opened}
+use Rattle.wf_guard.specs.declared.form.Form.{Form}
+use Rattle.wf_guard.specs.LiveStreams.{Turn, after_turn, after_turns, framed, is_of_frames, opened}
+use Rattle.wf_guard.specs.LiveStreams.Turn.{asks, frames}
+use Rattle.wf_guard.specs.declared.clients.TheConstants.{OUTPUT}
 use Rattle.wf_guard.specs.Policy.{refusal_of}
 use Rattle.wf_guard.specs.Serving.{Asked, Served, allowed, discard, draw, drawn, given, lacks_place, made, plain, post, served, with_held}
 
@@ -39,16 +44,33 @@ use Rattle.wf_guard.specs.Serving.{Asked, Served, allowed, discard, draw, drawn,
 abbrev pub AreApart : List KeptStream → Type 0
 AreApart ss = (handle : ℕ) (t : KeptStream) → stream_of handle ss ≡ Some t → stream_at t.number ss ≡ Some t
 
-abbrev number : KeptStream → ℕ
+abbrev pub number : KeptStream → ℕ
 number s = s.number
 
-abbrev NumbersRise : State → Type 0
+abbrev pub NumbersRise : State → Type 0
 NumbersRise h = RisesTo number 0 h.streams h.numbered
 
-rise_apart : (h : State) → NumbersRise h → AreApart h.streams
+pub rise_apart : (h : State) → NumbersRise h → AreApart h.streams
 rise_apart h rise handle t found =
     (found_above number (λ s. (s.handle == handle) && not (handle == 0)) 0 h.streams t (rises_to number 0 h.numbered h.streams rise)
     found).1
+
+-- the stream of a handle has it
+pub found_handle : (handle : ℕ) (ss : List KeptStream) (t : KeptStream) → stream_of handle ss ≡ Some t → t.handle ≡ handle
+found_handle handle [] t is = absurd cc
+found_handle handle (s ∷ ss) t is =
+    by_test ((s.handle == handle) && not (handle == 0)) refl (found_handle handle ss t) is
+  where
+    first : (b : Bool) → (b && not (handle == 0)) ≡ true → b ≡ true
+    first true both = refl
+    first false both = absurd cc
+
+    by_test : (b : Bool) → ((s.handle == handle) && not (handle == 0)) ≡ b → (stream_of handle ss ≡ Some t → t.handle ≡ handle)
+        → cond b (Some s) (stream_of handle ss) ≡ Some t → t.handle ≡ handle
+    by_test true both rest is =
+        let same : s ≡ t = cc in
+        ap (λ (x : KeptStream). x.handle) (sym same) ∙ eqb-true s.handle handle (first (s.handle == handle) both)
+    by_test false none rest is = rest is
 
 -- lists of streams
 
@@ -166,9 +188,20 @@ module _ (v : Served) (rise : NumbersRise v.machine) where
   serves client discard m = gives client call.Discard m (canvas_of client v.held)
   serves client (draw paint) m = paints client paint (canvas_of client v.held)
 
-runs_rise : (rs : List Turn) (v : Served) → NumbersRise v.machine → NumbersRise (after_turns v rs).machine
+frames_rise : (v : Served) → NumbersRise v.machine → (c : Call) → NumbersRise (framed c v).machine
+frames_rise v rise c = of_test (is_of_frames c)
+  where
+    of_test : (b : Bool) → NumbersRise (cond b (record v { machine = (step v.machine OUTPUT c false).0 }) v).machine
+    of_test true = step_rises v.machine OUTPUT c false rise
+    of_test false = rise
+
+pub turn_rises : (r : Turn) (v : Served) → NumbersRise v.machine → NumbersRise (after_turn r v).machine
+turn_rises (asks client x m) v rise = serves v rise client x m
+turn_rises (frames c) v rise = frames_rise v rise c
+
+pub runs_rise : (rs : List Turn) (v : Served) → NumbersRise v.machine → NumbersRise (after_turns v rs).machine
 runs_rise [] v rise = rise
-runs_rise (r ∷ rs) v rise = runs_rise rs (served r.0 r.1 r.2 v).0 (serves v rise r.0 r.1 r.2)
+runs_rise (r ∷ rs) v rise = runs_rise rs (after_turn r v) (turn_rises r v rise)
 
 -- screens are numbered first
 screens_rise : (low : ℕ) (ms : List Modes)
@@ -180,8 +213,11 @@ screens_rise low (m ∷ ms) =
       subst (RisesTo number (low + 1) (map screen (zip (range_with_len (low + 1 + 1) (length ms)) ms))) same (screens_rise (low + 1) ms),
     )
 
-pub always_apart : (ports : Ports) (rs : List Turn) → AreApart (after_turns (opened ports) rs).machine.streams
-always_apart ports rs =
+pub open_rising : (form : Form) (ports : Ports) → NumbersRise (opened form ports).machine
+open_rising form ports =
     let count : 0 + length ports.modes.items ≡ length ports.modes.items = omega arith in
-    rise_apart (after_turns (opened ports) rs).machine
-    (runs_rise rs (opened ports) (subst (RisesTo number 0 (opened ports).machine.streams) count (screens_rise 0 ports.modes.items)))
+    subst (RisesTo number 0 (opened form ports).machine.streams) count (screens_rise 0 ports.modes.items)
+
+pub always_apart : (form : Form) (ports : Ports) (rs : List Turn) → AreApart (after_turns (opened form ports) rs).machine.streams
+always_apart form ports rs =
+    rise_apart (after_turns (opened form ports) rs).machine (runs_rise rs (opened form ports) (open_rising form ports))

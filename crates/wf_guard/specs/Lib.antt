@@ -4,5 +4,7 @@
 pub mod Requests
 pub mod Policy
 pub mod Apps
+pub mod Screens
 pub mod Serving
 pub mod LiveStreams
+pub mod Alike

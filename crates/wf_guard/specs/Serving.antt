@@ -19,16 +19,20 @@ use Rattle.wf_model.specs.Step.{step}
 use Rattle.wf_stream.specs.declared.TheConstants.{MOST_STREAMS}
 use Rattle.wf_wire.specs.Asked.{is_acquire}
 use Rattle.wf_guard.specs.Policy.{owned_after, refusal_of}
+use Rattle.wf_guard.specs.declared.form.Form.{Form}
 use Rattle.wf_guard.specs.declared.owners.Owned.{Owned}
+use Rattle.wf_guard.specs.declared.screen.Screen.{Screen}
 
 -- the machine, the makers of its live streams, the write buffers that clients hold by their numbers, whether each client waits for the
--- next tick, and how many ticks there were
+-- next tick, how many ticks there were, how pictures are put, and what each port shows
 pub record Served : Type 0 where
   pub machine : State
   pub owned : List Owned
   pub held : List Held
   pub waiting : List Bool
   pub ticks : ℕ
+  pub form : Form
+  pub shown : List Screen
 
 -- what a client asks for: what a request says, or something of the write buffer that it holds
 pub data Asked : Type 0 where

@@ -1,25 +1,29 @@
 //! Who made which live stream, and what that lets a client ask for.
 
-ghost use Rattle.std.specs.Prelude.{◌≡◌, ◌≤◌, [], IfOk, None, Some, if◌then◌else◌, length, vec_capacity};
+ghost use Rattle.std.specs.Prelude.{◌≡◌, ◌+◌, ◌≤◌, ◌||◌, [], IfOk, None, Some, if◌then◌else◌, length, nat_le, nat_lt, vec_capacity};
 ghost use Rattle.wf_calls.specs.Parts.{is_begin};
 ghost use Rattle.wf_calls.specs.Requests.{call_of};
-ghost use Rattle.wf_guard.specs.Policy.{forgotten, lacks_share, left_by, may_name, owned_after, owns, refusal_of, share};
-ghost use Rattle.wf_guard.specs.Requests.{is_for_apps, makes_stream, named_stream};
+ghost use Rattle.wf_guard.specs.Policy.{forgotten, lacks_share, left_by, may_name, owned_after, owned_bytes, owned_streams, owns};
+ghost use Rattle.wf_guard.specs.Policy.{refusal_of, share, share_bytes};
+ghost use Rattle.wf_guard.specs.Requests.{asked_bytes, is_for_apps, makes_stream, named_stream};
+ghost use Rattle.wf_stream.specs.declared.TheConstants.{MOST_STREAMS};
 
-use crate::clients::{APP_STREAMS, MANAGER, MANAGER_STREAMS};
+use crate::bytes::asked_bytes;
+use crate::clients::{APP_BYTES, APP_STREAMS, MANAGER, MANAGER_BYTES, MANAGER_STREAMS};
 use std::alloc::Global;
 use std::marker::Model;
 use wf_calls::{Code, Request};
 use wf_stream::MOST_STREAMS;
 use wf_words::NoMemory;
 
-/// A live stream, by its handle, with the client that made it and the size that this one asked for.
+/// A live stream, by its handle, with the client that made it, and the size and the bytes of all buffers that this one asked for.
 #[derive(Drop)]
 pub struct Owned {
     pub stream: u32,
     pub client: u8,
     pub width: i64,
     pub height: i64,
+    pub bytes: u64,
 }
 
 /// The live streams with their makers, in the order in which they were made.
@@ -49,6 +53,33 @@ fn share(client: u8) -> usize
     } else {
         APP_STREAMS
     }
+}
+
+/// Returns how many bytes the buffers of the live streams of `client` may take.
+fn share_bytes(client: u8) -> u64
+    ensures { result ≡ share_bytes client }
+{
+    if client == MANAGER {
+        MANAGER_BYTES
+    } else {
+        APP_BYTES
+    }
+}
+
+/// Tells whether the buffers of the live streams of `client` in `list` take more than `most` bytes.
+fn takes_more(list: &[Owned], client: u8, most: u64) -> bool
+    ensures { result ≡ nat_lt most (owned_bytes client list.now) }
+{
+    let mut left = most;
+    for one in list {
+        if one.client == client {
+            if one.bytes > left {
+                return true;
+            }
+            left -= one.bytes;
+        }
+    }
+    false
 }
 
 /// Tells whether a `request` is of the kinds that an app may ask for.
@@ -136,8 +167,8 @@ impl Owners {
     }
 
     /// Tells whether `client` has as many live streams as it may, or all clients together as many as there may be.
-    fn lacks_share(&self, client: u8) -> bool
-        ensures { result ≡ lacks_share client self.now }
+    fn lacks_streams(&self, client: u8) -> bool
+        ensures { result ≡ (nat_le MOST_STREAMS (length self.now) || nat_le (share client) (owned_streams client self.now)) }
     {
         if self.list.len() >= MOST_STREAMS as usize {
             return true;
@@ -145,11 +176,26 @@ impl Owners {
         self.list.iter().filter(|one| one.client == client).count() >= share(client)
     }
 
-    /// Tells why a `request` for a new stream by `client` is refused, if it is.
-    fn share_refusal(&self, client: u8) -> Option<Code>
-        ensures { result ≡ (if lacks_share client self.now then Some Code.Limit else None) }
+    /// Tells whether the live streams of `client` and `bytes` more take more bytes than it may have.
+    fn lacks_bytes(&self, client: u8, bytes: u64) -> bool
+        ensures { result ≡ nat_lt (share_bytes client) (owned_bytes client self.now + bytes) }
     {
-        if self.lacks_share(client) {
+        let most = share_bytes(client);
+        bytes > most || takes_more(&self.list, client, most - bytes)
+    }
+
+    /// Tells whether a new stream of these `bytes` would pass the share of `client`, or what there may be for all.
+    fn lacks_share(&self, client: u8, bytes: u64) -> bool
+        ensures { result ≡ lacks_share client bytes self.now }
+    {
+        self.lacks_streams(client) || self.lacks_bytes(client, bytes)
+    }
+
+    /// Tells why a `request` for a new stream by `client` is refused, if it is.
+    fn share_refusal(&self, client: u8, request: &Request) -> Option<Code>
+        ensures { result ≡ (if lacks_share client (asked_bytes request.now) self.now then Some Code.Limit else None) }
+    {
+        if self.lacks_share(client, asked_bytes(request)) {
             Some(Code::Limit)
         } else {
             None
@@ -164,7 +210,7 @@ impl Owners {
             return Some(Code::Unsupported);
         }
         if makes_stream(request) {
-            return self.share_refusal(client);
+            return self.share_refusal(client, request);
         }
         match named_stream(request) {
             Some(stream) => {
@@ -192,6 +238,7 @@ impl Owners {
                         client,
                         width: *width,
                         height: *height,
+                        bytes: asked_bytes(request),
                     });
                 }
             Request::StreamDestroy { stream } => self.forget(*stream),

@@ -8,21 +8,20 @@ use Rattle.wf_calls.specs.declared.call.Call.TheVariants as call
 use Rattle.wf_calls.specs.declared.call.Job.{Job}
 use Rattle.wf_calls.specs.declared.reply.Answer.{Answer}
 use Rattle.wf_calls.specs.declared.reply.Reply.{Reply}
-use Rattle.wf_guard.specs.declared.clients.TheConstants.{OUTPUT}
 use Rattle.wf_machine.specs.Object.{IsStep, after}
 use Rattle.wf_model.specs.State.{State}
 use Rattle.wf_model.specs.Step.{step, unmarked_step}
 use Rattle.wf_serve.specs.Ticks.{ended}
 use Rattle.wf_serve.proofs.Replies.{left_unmarked}
 
-pub ended_so : (h left : State) (o : Option Job) (a : Answer) (back : Option Job) → is_some o ≡ true
-    → IfSome o (λ j. IsStep h OUTPUT (call.End j) left (with_job a back)) → left ≡ ended o h
-ended_so h left None a back some steps = absurd cc
-ended_so h left (Some job) a back some steps = left_unmarked h left OUTPUT (call.End job) (with_job a back) refl steps
+pub ended_so : (client : ℕ) (h left : State) (o : Option Job) (a : Answer) (back : Option Job) → is_some o ≡ true
+    → IfSome o (λ j. IsStep h client (call.End j) left (with_job a back)) → left ≡ ended client o h
+ended_so client h left None a back some steps = absurd cc
+ended_so client h left (Some job) a back some steps = left_unmarked h left client (call.End job) (with_job a back) refl steps
 
-pub none_ended : (h : State) (o : Option Job) → is_some o ≡ false → h ≡ ended o h
-none_ended h None none = refl
-none_ended h (Some job) none = absurd cc
+pub none_ended : (client : ℕ) (h : State) (o : Option Job) → is_some o ≡ false → h ≡ ended client o h
+none_ended client h None none = refl
+none_ended client h (Some job) none = absurd cc
 
 pub destroyed_so : (h left : State) (client stream : ℕ) (o : Option Answer)
     → IfNone o (IsTrue (carries (part_of (call.StreamDestroy stream))) × (left ≡ h))

@@ -3,7 +3,8 @@ use Rattle.std.proofs.Common.{◌≡◌, ℕ, ◌==◌, true, List, ◌∷◌, l
 use Rattle.std.specs.Prelude.{OnErr, OnOk, Result, Ok, Err}
 use Rattle.wf_guard.specs.Serving.{Served}
 use Rattle.wf_io.specs.Bytes.{Puts}
-use Rattle.wf_serve.specs.Heard.{Hears, TicksIf}
+use Rattle.wf_serve.specs.Heard.{Hears}
+use Rattle.wf_serve.specs.Steps.{TicksIf}
 use Rattle.wf_serve.specs.Putting.{PutsFront, Writes}
 use Rattle.wf_serve.specs.Runs.{HearsContent}
 use Rattle.wf_serve.specs.Ticks.{ticked}

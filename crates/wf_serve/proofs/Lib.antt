@@ -9,3 +9,13 @@ mod Sizes
 mod Frames
 mod Hearings
 mod Running
+pub mod Forgotten
+pub mod Room
+pub mod Elements
+pub mod HeardSo
+pub mod Again
+pub mod Banded
+pub mod Pasting
+pub mod Turned
+pub mod Ends
+pub mod Shown

@@ -5,11 +5,13 @@ use Rattle.wf_io.specs.Bytes.{Puts, PutsPart}
 use Rattle.std.specs.Prelude.{IfErr, OnOk, Result, Ok, Err}
 use Rattle.wf_io.specs.declared.writing.WriteStop.{WriteStop}
 use Rattle.wf_io.specs.Parts.{puts_both}
-use Rattle.std.specs.Prelude.{pos}
-use Rattle.wf_calls.specs.declared.call.Call.TheVariants as call
+use Rattle.std.specs.Prelude.{get_or}
+use Rattle.wf_guard.specs.declared.form.Form.{Form}
+use Rattle.wf_guard.specs.declared.screen.Screen.{Screen}
 use Rattle.wf_model.specs.State.{State}
+use Rattle.wf_serve.specs.Pictures.{shown_bytes}
 use Rattle.wf_serve.specs.Putting.{PutsFront, Writes}
-use Rattle.wf_serve.specs.Ticks.{framed, shown, shown_bytes}
+use Rattle.wf_serve.specs.Ticks.{no_screen, of_port, shown}
 
 module _ {K : Type 0} (took : K → List ℕ → Type 0) where
   pub nothing_put : (a : K) → Puts took a a []
@@ -54,21 +56,26 @@ module _ {K : Type 0} (took : K → List ℕ → Type 0) where
   writes_after a b c xs ys (Err stop) first rest = then_front a b c xs ys first rest
 
   -- what the first ports put is a front of what more of them put
-  pub shown_front : (a b : K) (tick n more : ℕ) (h : State) → PutsFront took a b (shown tick n h).1
-      → PutsFront took a b (shown tick (n + more) h).1
-  shown_front a b tick n zero h cut =
-      let same : n ≡ n + 0 = omega arith in subst (λ k. PutsFront took a b (shown tick k h).1) same cut
-  shown_front a b tick n (suc more) h cut =
+  pub shown_front : (a b : K) (f : Form) (tick n more : ℕ) (h : State) (screens : List Screen)
+      → PutsFront took a b (shown f tick n h screens).put → PutsFront took a b (shown f tick (n + more) h screens).put
+  shown_front a b f tick n zero h screens cut =
+      let same : n ≡ n + 0 = omega arith in subst (λ k. PutsFront took a b (shown f tick k h screens).put) same cut
+  shown_front a b f tick n (suc more) h screens cut =
       let same : suc (n + more) ≡ n + suc more = omega arith in
-      subst (λ k. PutsFront took a b (shown tick k h).1) same
-      (first_front a b (shown tick (n + more) h).1 _ (shown_front a b tick n more h cut))
+      subst (λ k. PutsFront took a b (shown f tick k h screens).put) same
+      (first_front a b (shown f tick (n + more) h screens).put _ (shown_front a b f tick n more h screens cut))
 
-  pub shows_cut : (a b c : K) (tick n count : ℕ) (h now : State) → n < count → now ≡ (shown tick n h).0 → Puts took a b (shown tick n h).1
-      → PutsFront took b c (shown_bytes tick (n + 1) (framed (call.BeginPort (pos (n + 1))) now).frame)
-      → PutsFront took a c (shown tick count h).1
-  shows_cut a b c tick n count h now more here put cut =
+  -- and where one more is cut, what was put is a front of what all put
+  pub shows_cut : (a b c : K) (f : Form) (tick n count : ℕ) (h : State) (screens : List Screen) (now : State)
+      (left : List Screen) → n < count → now ≡ (shown f tick n h screens).machine → left ≡ (shown f tick n h screens).screens
+      → Puts took a b (shown f tick n h screens).put
+      → PutsFront took b c (shown_bytes f tick (n + 1) (of_port (n + 1) now).frame (get_or left n no_screen))
+      → PutsFront took a c (shown f tick count h screens).put
+  shows_cut a b c f tick n count h screens now left more here there put cut =
       let all : suc n + (count - suc n) ≡ count = omega (arith, more) in
-      subst (λ k. PutsFront took a c (shown tick k h).1) all
-      (shown_front a c tick (suc n) (count - suc n) h
-      (then_front a b c (shown tick n h).1 _ put
-      (subst (λ s. PutsFront took b c (shown_bytes tick (n + 1) (framed (call.BeginPort (pos (n + 1))) s).frame)) here cut)))
+      subst (λ k. PutsFront took a c (shown f tick k h screens).put) all
+      (shown_front a c f tick (suc n) (count - suc n) h screens
+      (then_front a b c (shown f tick n h screens).put _ put
+      (subst (λ l. PutsFront took b c
+      (shown_bytes f tick (n + 1) (of_port (n + 1) (shown f tick n h screens).machine).frame (get_or l n no_screen))) there
+      (subst (λ s. PutsFront took b c (shown_bytes f tick (n + 1) (of_port (n + 1) s).frame (get_or left n no_screen))) here cut))))

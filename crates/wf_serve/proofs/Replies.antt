@@ -1,7 +1,7 @@
 -- What the machine's step answers is what the machine answered.
 use Rattle.std.proofs.Common.{◌≡◌, ◌∙◌, ℕ, Bool, true, false, Option, Some, None, refl, sym, ap, subst}
 use Rattle.std.specs.Prelude.{option_map}
-use Rattle.wf_calls.specs.Codes.{is_ok_code, is_out_of_memory}
+use Rattle.wf_calls.specs.Codes.{code_number, is_ok_code, is_out_of_memory}
 use Rattle.wf_calls.specs.Creations.{is_creation}
 use Rattle.wf_calls.specs.Parts.{is_begin}
 use Rattle.wf_calls.specs.Replies.{bare, canvas_payload, given_canvas, job_payload, with_canvas, with_job}
@@ -14,6 +14,7 @@ use Rattle.wf_calls.specs.declared.reply.Answer.{Answer}
 use Rattle.wf_calls.specs.declared.reply.Payload.{Payload}
 use Rattle.wf_calls.specs.declared.reply.Payload.TheVariants as payload
 use Rattle.wf_calls.specs.declared.reply.Reply.{Reply}
+use Rattle.wf_host.specs.Made.{told_of}
 use Rattle.wf_image.specs.Bitmap.{Bitmap}
 use Rattle.wf_image.specs.declared.canvas.Canvas.{Canvas}
 use Rattle.wf_machine.specs.Object.{IsAnswer, IsStep, SameImage, SameJob, SamePayload}
@@ -126,8 +127,8 @@ module _ (h left : State) (client : ℕ) (c : Call) where
     pub begun_left : left ≡ (step h client c false).0
     begun_left = left_unmarked (with_job a o) (begins_make_nothing c begins) is
 
-    pub begun_value : a.value ≡ wanted.value
-    begun_value = answers.value
+    pub begun_told : told_of (bare a) ≡ told_of wanted
+    begun_told = λ i. record { code = code_number (answers.code i); value = answers.value i }
 
     begun_picture : option_map painted_job (job_in (is_ok_code a.code) (job_payload o)) ≡ option_map painted_job (begun wanted)
     begun_picture =

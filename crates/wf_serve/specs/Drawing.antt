@@ -25,5 +25,9 @@ put_on client r pixels v canvas =
     let x : Served × Told = drawn client (put r pixels) v canvas in
     if may_put canvas.image r (length pixels) then x else (x.0, refused_by code.IllegalArgument)
 
+-- on the write buffer that its client holds, if it holds one
+abbrev pub put_by : ℕ → Rectangle → List ℕ → Served → Served × Told
+put_by client r pixels v = with_held (put_on client r pixels v) v (canvas_of client v.held)
+
 abbrev pub Puts : ℕ → Rectangle → List ℕ → Served → Served → Told → Type 0
-Puts client r pixels old new t = with_held (put_on client r pixels old) old (canvas_of client old.held) ≡ (new, t)
+Puts client r pixels old new t = put_by client r pixels old ≡ (new, t)

@@ -6,9 +6,13 @@ pub mod AnswerBytes
 pub mod Bodies
 pub mod Pixels
 pub mod Drawing
+pub mod Bands
+pub mod Pictures
 pub mod Ticks
 pub mod Putting
 pub mod Heard
 pub mod Runs
 -- What is kept inside.
 pub mod Reading
+pub mod Steps
+pub mod RoomFor

@@ -1,10 +1,10 @@
 -- The messages of a core's input, and what a run of them leaves, answers and shows.
 use Rattle.std.specs.Prelude.{◌≡◌, ℕ, ◌+◌, ◌&&◌, Bool, true, false, nat_le, List, [], ◌∷◌, ◌++◌, length, Option, Some, None, Result, Ok}
-use Rattle.std.specs.Prelude.{Err}
+use Rattle.std.specs.Prelude.{Err, drop, get_or}
 use Rattle.byteorder.specs.Endian.{big_number}
 use Rattle.wf_guard.specs.Serving.{Served}
 use Rattle.wf_io.specs.Bytes.{Puts}
-use Rattle.wf_serve.specs.Heard.{Hears}
+use Rattle.wf_serve.specs.Heard.{Heard, Hears, heard, quietly}
 use Rattle.wf_serve.specs.Putting.{PutsFront}
 use Rattle.wf_serve.specs.declared.input.TheConstants.{MOST_FRAME}
 use Rattle.wf_serve.specs.declared.serving.ServeStop.{ServeStop}
@@ -45,6 +45,20 @@ Runs v [] w ans fs = (w ≡ v) × (ans ≡ []) × (fs ≡ [])
 Runs v (m ∷ ms) w ans fs =
     (u : Served) × (a : List ℕ) × (b : List ℕ) × (f : List ℕ) × (g : List ℕ) × Hears m.client m.number m.body v u a f × Runs u ms w b g
     × (ans ≡ a ++ b) × (fs ≡ f ++ g)
+
+-- what some messages leave, answer and show, by marks that say to which of them memory is refused; to none where no mark is left
+abbrev pub ran : List Incoming → List Bool → Served → Heard
+ran [] marks v = quietly v []
+ran (m ∷ ms) marks v =
+    let x : Heard = heard m.client m.number m.body (get_or marks 0 false) v in
+    let y : Heard = ran ms (drop 1 marks) x.now in
+    record { now = y.now; answers = x.answers ++ y.answers; frames = x.frames ++ y.frames }
+
+-- the machine, the owners and the write buffers that are held are the same
+pub record ServesSame (v w : Served) : Type 0 where
+  pub machine : v.machine ≡ w.machine
+  pub owned : v.owned ≡ w.owned
+  pub held : v.held ≡ w.held
 
 -- what the source gave, where it tells its bytes: the frames of these messages, and then this is left
 abbrev pub ReadSo : List Incoming → Option (List ℕ) → Option (List ℕ) → Type 0

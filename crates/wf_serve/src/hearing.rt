@@ -1,14 +1,16 @@
 //! Messages, and what the core makes of them.
 
 ghost use Rattle.std.specs.Prelude.{◌≡◌, false, ◌&&◌, ◌||◌, List, ℕ, find, option_map, ◌+◌, ◌*◌, ◌≤◌, ◌<◌, ◌++◌, ◌==◌, [], IfOk, OnOk};
-ghost use Rattle.std.specs.Prelude.{OnErr, drop, length, nat_le, replicate};
+ghost use Rattle.std.specs.Prelude.{◌∷◌, None, OnErr, drop, length, nat_le, replicate};
 ghost use Rattle.wf_calls.specs.declared.call.Call.TheVariants as Call;
 ghost use Rattle.wf_io.specs.Causes.{HasCause};
 ghost use Rattle.wf_model.specs.Step.{step};
 ghost use Rattle.wf_serve.specs.AnswerBytes.{answer_bytes, answer_to};
-ghost use Rattle.wf_serve.specs.Bodies.{message_in, word_at};
+ghost use Rattle.wf_serve.specs.Bodies.{word_at};
 ghost use Rattle.wf_serve.specs.Drawing.{Puts};
-ghost use Rattle.wf_serve.specs.Heard.{Asks, HasLeft, Hears, HearsKind, Leaves, PutsIf, TicksIf, destroyed, destroyed_one, done};
+ghost use Rattle.wf_serve.specs.Heard.{Hears, done, left_shown};
+ghost use Rattle.wf_guard.specs.LiveStreams.{destroyed_by};
+ghost use Rattle.wf_serve.specs.Steps.{HasLeft, HearsKind, Leaves, PutsIf, TicksIf};
 ghost use Rattle.wf_serve.specs.Heard.{is_handle, may_tell, one, rectangle_in, size_told, sized, tells, told_by, told_to, waited};
 ghost use Rattle.wf_io.specs.Bytes.{Puts as PlainPuts};
 ghost use Rattle.wf_serve.specs.Putting.{PutsFront, Writes};
@@ -17,13 +19,15 @@ ghost use Rattle.wf_serve.specs.Kinds.{is_tick};
 ghost use Rattle.wf_serve.specs.Ticks.{next_tick, ticked, woken};
 
 use crate::answers::Answers;
-use crate::body::{message_in, word_at};
+use crate::body::word_at;
 use crate::kind::{Kind, LEFT, SIZE, TELL, TICK, TOLD, WAIT, kind_of};
 use crate::live::Core;
 use crate::pixels::Rectangle;
-use crate::tick::{play, wake_all};
+use crate::screen::forget_all;
+use crate::showing::play;
+use crate::tick::wake_all;
 use wf_calls::{Code, Request};
-use wf_guard::{CLIENTS, MANAGER, OUTPUT, Owned};
+use wf_guard::{CLIENTS, MANAGER, OUTPUT, Owned, Screen};
 use wf_host::Told;
 use wf_io::{Sink, WriteStop};
 use wf_machine::Machine;
@@ -64,7 +68,7 @@ fn is_handle(body: &[u8]) -> bool
 }
 
 /// Puts one answer, to `client`, who sent the message of `number`.
-fn put_one(answers: &mut Answers, client: u8, number: u8, told: Told)
+pub(crate) fn put_one(answers: &mut Answers, client: u8, number: u8, told: Told)
     requires { length answers.old + 11 ≤ 8192 }
     ensures { answers.new ≡ answers.old ++ one client number told }
 {
@@ -80,7 +84,7 @@ fn destroy_stream(machine: &mut Machine, client: u8, stream: u32)
 
 /// Destroys the stream of `one`, if `client` made it.
 fn destroy_one(machine: &mut Machine, client: u8, one: &Owned)
-    ensures { machine.new ≡ destroyed_one client one.now machine.old }
+    ensures { machine.new ≡ destroyed_by client (one.now ∷ []) machine.old }
 {
     if one.client == client {
         destroy_stream(machine, client, one.stream);
@@ -89,10 +93,20 @@ fn destroy_one(machine: &mut Machine, client: u8, one: &Owned)
 
 /// Destroys the streams of `client` among these.
 fn destroy(machine: &mut Machine, client: u8, owned: &[Owned])
-    ensures { machine.new ≡ destroyed client owned.now machine.old }
+    ensures { machine.new ≡ destroyed_by client owned.now machine.old }
 {
     for one in owned {
         destroy_one(machine, client, one);
+    }
+}
+
+/// Lets all `screens` show nothing, where `client` is the output.
+fn leave_screens(screens: &mut Vec<Screen>, client: u8)
+    ensures shown { screens.new.items ≡ left_shown client screens.old.items }
+    ensures count { length screens.new.items ≡ length screens.old.items }
+{
+    if client == OUTPUT {
+        forget_all(screens);
     }
 }
 
@@ -152,16 +166,6 @@ fn tell(client: u8, body: &[u8], answers: &mut Answers)
 }
 
 impl Core {
-    /// Does what a message of a call or of a paint asks for.
-    fn call(&mut self, client: u8, number: u8, body: &[u8]) -> Told
-        ensures { Asks client (message_in number body.now) self.old self.new result }
-    {
-        match message_in(number, body) {
-            Some(message) => self.ask_for(client, &message),
-            None => Told::refused(Code::IllegalArgument),
-        }
-    }
-
     /// Puts the pixels of a body.
     fn put_body(&mut self, client: u8, body: &[u8]) -> Told
         ensures { PutsIf (nat_le 32 (length body.now)) client body.now self.old self.new result }
@@ -221,6 +225,7 @@ impl Core {
         destroy(&mut self.machine, client, self.owners.list());
         self.owners.leave(client);
         self.waiting[usize::from(client)] = false;
+        leave_screens(&mut self.screens, client);
     }
 
     /// Answers the message that says who is gone.
@@ -275,7 +280,14 @@ impl Core {
         ensures cause { HasCause (K.faults frames.old) (K.faults frames.new) result }
     {
         let tick = self.ticks.wrapping_add(1);
-        match play(&mut self.machine, &mut self.place, tick, frames) {
+        match play(
+            &mut self.machine,
+            &mut self.place,
+            &mut self.pictures,
+            &mut self.screens,
+            tick,
+            frames,
+        ) {
             Ok(()) => {
                 self.answer_tick(tick, answers);
                 Ok(())
@@ -322,10 +334,7 @@ impl Core {
     {
         match kind {
             Kind::Refused => put_one(answers, client, number, Told::refused(Code::Unsupported)),
-            Kind::Call => {
-                let told = self.call(client, number, body);
-                put_one(answers, client, number, told);
-            }
+            Kind::Call => self.call(client, number, body, answers),
             Kind::Put => {
                 let told = self.put_body(client, body);
                 put_one(answers, client, number, told);
@@ -336,6 +345,31 @@ impl Core {
             Kind::Gone => self.gone(client, number, body, answers),
             Kind::Tick => {}
         }
+    }
+
+    /// Does what a message asks for, by its kind.
+    fn hear_kind<K: Sink>(
+        &mut self,
+        kind: Kind,
+        client: u8,
+        number: u8,
+        body: &[u8],
+        answers: &mut Answers,
+        frames: &mut K,
+    ) -> Result<(), WriteStop>
+        requires waits { kind ≡ Kind.Wait → client < CLIENTS }
+        requires none { answers.old ≡ [] }
+        ensures heard { OnOk result ((fs : List ℕ) × HearsKind kind client number body.now self.old self.new answers.new fs
+            × PlainPuts K.took frames.old frames.new fs) }
+        ensures cut { OnErr result ((after : Served) × (ans : List ℕ) × (fs : List ℕ)
+            × HearsKind kind client number body.now self.old after ans fs × PutsFront K.took frames.old frames.new fs) }
+        ensures cause { HasCause (K.faults frames.old) (K.faults frames.new) result }
+    {
+        if kind == Kind::Tick {
+            return self.tick(client, body, answers, frames);
+        }
+        self.hear_quietly(kind, client, number, body, answers);
+        Ok(())
     }
 
     /// Does what a message of `client` asks for, by its `number` and its `body`: puts the answers into `answers`, which
@@ -356,10 +390,6 @@ impl Core {
         ensures cause { HasCause (K.faults frames.old) (K.faults frames.new) result }
     {
         let kind = kind_of(client, number);
-        if kind == Kind::Tick {
-            return self.tick(client, body, answers, frames);
-        }
-        self.hear_quietly(kind, client, number, body, answers);
-        Ok(())
+        self.hear_kind(kind, client, number, body, answers, frames)
     }
 }

@@ -11,11 +11,13 @@ ghost use Rattle.wf_serve.specs.Drawing.{Puts, asked_of};
 ghost use Rattle.wf_wire.specs.Asked.{is_acquire};
 ghost use Rattle.wf_wire.specs.Messages.{may_paint};
 
+use crate::pictures::Pictures;
 use crate::pixels::{Rectangle, put_pixels};
+use crate::screen::screens_of;
 use std::alloc::Global;
 use std::marker::Model;
 use wf_calls::{Code, JobPlace, Ports, Request};
-use wf_guard::{CLIENTS, Owners};
+use wf_guard::{CLIENTS, Form, Owners, Screen};
 use wf_host::{Canvases, Told};
 use wf_image::Paint;
 use wf_machine::Machine;
@@ -23,7 +25,7 @@ use wf_wire::Message;
 use wf_words::NoMemory;
 
 /// A machine that serves several clients: who made which live stream, what each client holds, who waits for the next tick, and how many
-/// ticks there were. No call of it but a creation takes memory.
+/// ticks there were, how pictures are put, and what each port shows. No call of it but a creation takes memory.
 #[derive(Drop)]
 pub struct Core {
     pub(crate) machine: Machine,
@@ -31,13 +33,16 @@ pub struct Core {
     pub(crate) canvases: Canvases,
     pub(crate) waiting: [bool; CLIENTS],
     pub(crate) ticks: u32,
+    pub(crate) pictures: Pictures,
+    pub(crate) screens: Vec<Screen>,
     pub(crate) place: JobPlace,
 }
 
 impl Model for Core {
-    ghost use Rattle.std.specs.Prelude.{◌≡◌, None};
+    ghost use Rattle.std.specs.Prelude.{◌≡◌, ◌≤◌, None, length};
     ghost use Rattle.wf_calls.specs.Places.{job_in};
     ghost use Rattle.wf_guard.specs.Serving.{Served};
+    ghost use Rattle.wf_guard.specs.declared.form.TheConstants.{MOST_PORTS};
 
     ghost Value = { Served };
 
@@ -47,16 +52,18 @@ impl Model for Core {
       held = c.canvases;
       waiting = c.waiting;
       ticks = c.ticks;
+      form = c.pictures;
+      shown = c.screens.items;
     } };
 
-    ghost invariant = { λ c. job_in c.place ≡ None };
+    ghost invariant = { λ c. (job_in c.place ≡ None) × (length c.screens.items ≤ MOST_PORTS) };
 }
 
 impl Core {
-    /// Opens a machine with these `ports`, of which nobody has or waits for anything.
-    pub fn open(alloc: Global, ports: &Ports) -> Result<Core, NoMemory>
+    /// Opens a machine with these `ports`, of which nobody has or waits for anything, and which puts pictures in a `form`.
+    pub fn open(alloc: Global, form: Form, ports: &Ports) -> Result<Core, NoMemory>
         requires { IsTrue (may_declare ports.now) }
-        ensures { IfOk result (λ core. core ≡ opened ports.now) }
+        ensures { IfOk result (λ core. core ≡ opened form ports.now) }
     {
         Ok(Core {
             machine: Machine::open(alloc, ports)?,
@@ -64,6 +71,8 @@ impl Core {
             canvases: Canvases::new(alloc)?,
             waiting: [false; CLIENTS],
             ticks: 0,
+            pictures: Pictures::new(alloc, form)?,
+            screens: screens_of(alloc, ports)?,
             place: JobPlace::new(alloc)?,
         })
     }

@@ -14,6 +14,7 @@ use crate::input::{MOST_FRAME, Next, next_frame};
 use crate::live::Core;
 use std::alloc::Global;
 use wf_calls::Ports;
+use wf_guard::Form;
 use wf_io::{Sink, Source, write_all};
 use wf_words::NoMemory;
 
@@ -143,25 +144,26 @@ fn serve_all<I: Source, K: Sink, F: Sink>(
 }
 
 /// Serves the messages of `input` for the clients of a machine with these `ports`, one after another, each before the next is read: puts
-/// the answers into `out` and the pictures of ticks into `frames`.
+/// the answers into `out`, and into `frames` in a `form` the pictures of ticks that are others than their ports showed last.
 ///
 /// A message comes as a frame of bytes: how many follow, in four bytes, the client's number, the message's number, and its body. A call
 /// that is wrong or not allowed is answered, and stops nobody. Takes memory before the first message, and then for creations alone.
 pub fn serve<I: Source, K: Sink, F: Sink>(
     alloc: Global,
+    form: Form,
     ports: &Ports,
     input: &mut I,
     out: &mut K,
     frames: &mut F,
 ) -> Result<Result<(), ServeStop>, NoMemory>
     requires { IsTrue (may_declare ports.now) }
-    ensures runs { IfOk result (λ end. RunsTo K.took F.took (opened ports.now) (I.left input.old) (I.left input.new) out.old out.new
+    ensures runs { IfOk result (λ end. RunsTo K.took F.took (opened form ports.now) (I.left input.old) (I.left input.new) out.old out.new
         frames.old frames.new (stop_of end)) }
     ensures read_fault { IfOk result (λ end. IsErrOf end ServeStop.ReadFault → Rose (I.faults input.old) (I.faults input.new)) }
     ensures answers_fault { IfOk result (λ end. IsErrOf end ServeStop.AnswersFault → Rose (K.faults out.old) (K.faults out.new)) }
     ensures frames_fault { IfOk result (λ end. IsErrOf end ServeStop.FramesFault → Rose (F.faults frames.old) (F.faults frames.new)) }
 {
-    let mut core = Core::open(alloc, ports)?;
+    let mut core = Core::open(alloc, form, ports)?;
     let mut answers = Answers::new(alloc)?;
     let mut buffer = vec![in alloc; 0u8; MOST_FRAME]?;
     Ok(serve_all(&mut core, &mut buffer, &mut answers, input, out, frames))

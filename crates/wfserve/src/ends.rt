@@ -38,7 +38,8 @@ impl End {
         match self {
             End::Done => "",
             End::NoFile => "wfserve: the file for the pictures can't be opened\n",
-            End::Usage => "usage: wfserve --port WxH[,WxH..] [--pipes N] --frames FILE\n",
+            End::Usage =>
+                "usage: wfserve --port WxH[,WxH..] [--pipes N] (--frames FILE [--bands] | --fb FILE [--stride BYTES])\n",
             End::Stopped(ServeStop::ReadFault) => "wfserve: the input failed\n",
             End::Stopped(ServeStop::AnswersFault) => "wfserve: the answers could not be written\n",
             End::Stopped(ServeStop::FramesFault) => "wfserve: the pictures could not be written\n",

@@ -15,6 +15,8 @@ returns c =
       held = c.self.inside.canvases;
       waiting = c.self.inside.waiting;
       ticks = c.self.inside.ticks;
+      form = c.self.inside.pictures;
+      shown = c.self.inside.screens.items;
     } in
     let owned = owned_by c.args.client c.args.request.now (bare c.in-Some.answer) c.self.inside.owners in
     let left : c.if-is_ok.self ≡ record view { machine = c.answer.new.self; owned = owned } =

@@ -12,6 +12,8 @@ returns-in-Some c =
       held = c.self.inside.canvases;
       waiting = c.self.inside.waiting;
       ticks = c.self.inside.ticks;
+      form = c.self.inside.pictures;
+      shown = c.self.inside.screens.items;
     } in
     subst (λ v. Serves c.args.client post v (record view { machine = c.post-back.new.self; held = c.put.new.self }) c.of.result)
     c.self.view_is
