@@ -21,7 +21,7 @@ def last_frame(output, asked):
     """Ticks, and returns the last frame of the port that was asked for, or None where none came."""
     last, due = None, time.monotonic()
     for _ in range(asked.ticks):
-        for frame in film_frames(output.shown()[1]):
+        for frame in film_frames(output.shown()[1], output.last):
             last = frame if frame[0] == asked.port else last
         due += 1 / asked.hz
         time.sleep(max(0, due - time.monotonic()))

@@ -11,13 +11,15 @@
 #include <sys/socket.h>
 #include <sys/un.h>
 
-enum { OUTPUT = 8, FRAME_HEAD = 10, TICK = 51, TELL = 53 };
+enum { OUTPUT = 8, FRAME_HEAD = 10, BAND_HEAD = 14, MOST_PORTS = 4, TICK = 51, TELL = 53 };
 
-/* A frame of a port: its sides, and its pixels in rows from the top, of the bytes R, G, B and A. */
-typedef struct shown { int port, w, h; const uint8_t *pixels; } shown;
+/* A picture of a port: its sides, its pixels in rows from the top, of the bytes R, G, B and A, and the rows that may be others than in the
+ * port's picture before it, `rows` from `first` on. */
+typedef struct shown { int port, w, h, first, rows; uint8_t *pixels; } shown;
 
-/* The output: the socket, what goes and comes there, the frames' pipe, what came of it, and whether the answer to a tick is owed. */
-typedef struct output { int sock, frames; queue to, from, pixels; bool is_owed; } output;
+/* The output: the socket, what goes and comes there, the frames' pipe, what came of it, whether the answer to a tick is owed, and the last
+ * picture of each port, without pixels where there is none. */
+typedef struct output { int sock, frames; queue to, from, pixels; bool is_owed; shown last[MOST_PORTS]; } output;
 
 /* Tells itself nothing, and waits until that is answered: from then on it is the output, and what one before it left in the pipe is gone.
  * Returns 0, or -1 with errno. */
@@ -71,15 +73,36 @@ static inline void take_answers(output *own) {
     }
 }
 
-/* Reads a frame that is whole: false where none is. `drop_frame` takes it out. */
-static inline bool get_frame(const output *own, shown *frame) {
-    const uint8_t *b = own->pixels.at + own->pixels.from;
-    if (held(&own->pixels) < FRAME_HEAD) return false;
-    *frame = (shown){b[1], b[6] << 8 | b[7], b[8] << 8 | b[9], b + FRAME_HEAD};
-    return held(&own->pixels) >= FRAME_HEAD + (size_t)frame->w * (size_t)frame->h * 4;
+/* Ends the program where what comes is no picture: another output gets each port whole. */
+static inline void need(bool holds) {
+    if (holds) return;
+    fprintf(stderr, "the frames are none\n");
+    exit(1);
 }
 
-static inline void drop_frame(output *own, const shown *frame) { take(&own->pixels, FRAME_HEAD + (size_t)frame->w * (size_t)frame->h * 4); }
+/* Takes a frame or a band that is whole, and pastes it onto the last picture of its port, which then is the `frame`, until the next one of
+ * the port. False where none is whole. */
+static inline bool get_frame(output *own, shown *frame) {
+    const uint8_t *b = own->pixels.at + own->pixels.from;
+    if (held(&own->pixels) < BAND_HEAD) return false; /* a frame of one pixel is as long */
+    bool is_band = b[0] == 'B';
+    shown came = {.port = b[1], .w = b[6] << 8 | b[7], .h = b[8] << 8 | b[9]};
+    came.first = is_band ? b[10] << 8 | b[11] : 0;
+    came.rows = is_band ? b[12] << 8 | b[13] : came.h;
+    need((is_band || b[0] == 'F') && came.port >= 1 && came.port <= MOST_PORTS);
+    need(came.w >= 1 && came.rows >= 1 && came.first + came.rows <= came.h);
+    size_t head = is_band ? BAND_HEAD : FRAME_HEAD, row = (size_t)came.w * 4, count = row * (size_t)came.rows;
+    if (held(&own->pixels) < head + count) return false;
+    shown *last = &own->last[came.port - 1];
+    bool has_room = last->pixels && last->w == came.w && last->h == came.h;
+    need(has_room || !is_band);
+    came.pixels = has_room ? last->pixels : realloc(last->pixels, count);
+    if (!came.pixels) abort();
+    memcpy(came.pixels + row * (size_t)came.first, b + head, count);
+    take(&own->pixels, head + count);
+    *frame = *last = came;
+    return true;
+}
 
 /* Reads and writes what can be: `socket_events` and `frame_events` are what `poll` told. False where the broker is gone. Frames are read to
  * the end of what is there, since the core put all of a tick's before it answered. */
@@ -94,9 +117,9 @@ static inline bool serve(output *own, short socket_events, short frame_events) {
     return flush(own->sock, &own->to);
 }
 
-/* Copies rows of a frame to words of X R G B, `stride` bytes apart: `columns` pixels of each of `rows`. */
-static inline void copy_frame(const shown *frame, uint8_t *to, size_t stride, int columns, int rows) {
-    for (int y = 0; y < rows; y++) {
+/* Copies rows of a frame, from `first` up to `end`, to their places in words of X R G B, `stride` bytes apart: `columns` pixels of each. */
+static inline void copy_rows(const shown *frame, uint8_t *to, size_t stride, int columns, int first, int end) {
+    for (int y = first; y < end; y++) {
         const uint8_t *from = frame->pixels + (size_t)y * (size_t)frame->w * 4;
         uint32_t *words = (uint32_t *)(void *)(to + (size_t)y * stride);
         for (int x = 0; x < columns; x++, from += 4) words[x] = (uint32_t)from[0] << 16 | (uint32_t)from[1] << 8 | from[2];

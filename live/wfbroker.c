@@ -32,7 +32,7 @@ enum { AHEAD = 64 * 1024 };         /* with so many bytes on their way to the co
 enum { OWED = 64 };                 /* nor one of a client of which so many are not answered yet, so that others wait for no more of it */
 enum { SLOW = 64 * 1024 };          /* nor one of a client that has so many bytes to read */
 enum { PATIENCE = 5 };              /* one that reads none of them for so many seconds is cut off */
-enum { BEHIND = MOST + SLOW };      /* and so is one that has more than these to read */
+enum { MOST_KEPT = 5 * MOST };      /* and so is one that has more than these to read: pictures of four ports, and as much as one more */
 
 /* A client: its socket or -1, whether the core still has to let go of the last one of this number, what it sent and what it will get, how
  * many of its frames are not answered yet, and when it read last. */
@@ -149,7 +149,7 @@ static void hand_answers(int k) {
     if (p->fd < 0) return;
     if (!flush(p->fd, &p->out)) drop(k, NULL);
     else if (held(&p->out) < before) p->read_at = seconds();
-    else if (held(&p->out) > BEHIND) drop(k, "it has too much to read");
+    else if (held(&p->out) > MOST_KEPT) drop(k, "it has too much to read");
     else if (held(&p->out) > SLOW && seconds() - p->read_at > PATIENCE) drop(k, "it does not read");
 }
 

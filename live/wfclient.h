@@ -502,7 +502,8 @@ static inline wf_told wf_display_error(wf_client *client) {
     return wf_ask(client, 44, NULL, 0, NULL, 0, NULL, 0);
 }
 
-/* Begins a frame of a port, counted from 1. The picture goes to `room`: its width and its height, of two bytes each, and its pixels. */
+/* Begins a frame of a port, counted from 1. The picture goes to `room`: its width and its height, of two bytes each, and its
+ * pixels, of four. Between wf_begin and wf_end it goes nowhere. */
 static inline wf_told wf_begin_port(wf_client *client, int64_t port, uint8_t *room, size_t most) {
     const int64_t arguments[] = {port};
     return wf_ask(client, 45, arguments, 1, NULL, 0, room, most);

@@ -9,7 +9,9 @@
 
 A function sends its message, and does not wait: it returns a Reply, whose answer is awaited where it is asked for. So many messages go out
 before the first answer is read. A Reply may stand where its value is an argument. `sync` waits for all answers, and raises Refused for the
-first message that was refused. What others tell meanwhile is kept, and `event` returns it. `help(Client)` lists the functions.
+first message that was refused. What others tell meanwhile is kept, and `event` returns it. Where the window manager asks
+for the picture of a port, `begin_port(1).data` is its width and its height, of two bytes each, and its pixels. `help(Client)` lists the
+functions.
 """
 
 import inspect
@@ -206,13 +208,14 @@ class Client:
 
 
 class Output(Client):
-    """The client that ticks, and reads the frames."""
+    """The client that ticks, and reads the frames. `last` is for who pastes them: the pixels of each port's last picture."""
 
     def __init__(self, where=None):
         super().__init__("out", where)
         # Once it is answered it is the output, and what an output before it left in the pipe is gone.
         self.tell(OUTPUT).awaited()
         self.events.clear()
+        self.last = {}
         self.frames = os.open(self.where / "frames", os.O_RDONLY | os.O_NONBLOCK)
 
     def close(self):
@@ -220,7 +223,7 @@ class Output(Client):
         os.close(self.frames)
 
     def shown(self):
-        """Ticks. Returns the number of the tick, and the bytes of the frames that came with it."""
+        """Ticks. Returns the number of the tick, and the bytes of the frames and bands that came with it."""
         reply, data = self.tick(), bytearray()
         self.flush()
         while reply.answer is None:

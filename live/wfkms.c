@@ -18,8 +18,9 @@
 
 enum { MOST_OBJECTS = 32, MOST_MODES = 128, CONNECTED = 1, XRGB8888 = 0x34325258, PATTERN = 240 };
 
-/* A buffer of the card: the number by which it is shown, the bytes of a row, and where its pixels are. */
-typedef struct buffer { uint32_t id, stride; uint8_t *pixels; } buffer;
+/* A buffer of the card: the number by which it is shown, the bytes of a row, where its pixels are, and the rows of the last picture that it
+ * may have otherwise, from `first` up to `end`. */
+typedef struct buffer { uint32_t id, stride; uint8_t *pixels; int first, end; } buffer;
 
 static int card;
 static uint32_t crtc, connector;
@@ -96,29 +97,42 @@ static buffer make_buffer(void) {
     uint8_t *pixels = mmap(NULL, made.size, PROT_READ | PROT_WRITE, MAP_SHARED, card, (off_t)map.offset);
     if (pixels == MAP_FAILED) die("a buffer's memory");
     memset(pixels, 0, made.size);
-    return (buffer){shown.fb_id, made.pitch, pixels};
+    return (buffer){.id = shown.fb_id, .stride = made.pitch, .pixels = pixels};
 }
 
-/* Copies a frame into the middle of a buffer. What is larger than the screen is cut at the right and below. */
-static void draw(const buffer *b, const shown *frame) {
+/* Notes of both buffers that rows of a frame are others now. */
+static void note(const shown *frame) {
+    int first = frame->first, end = first + frame->rows;
+    for (buffer *b = buffers; b < buffers + 2; b++) {
+        bool has_noted = b->first < b->end;
+        if (!has_noted || first < b->first) b->first = first;
+        if (!has_noted || end > b->end) b->end = end;
+    }
+}
+
+/* Copies the rows of a frame that were noted into the middle of a buffer. What is larger than the screen is cut at the right and below. */
+static void draw(buffer *b, const shown *frame) {
     int columns = frame->w < mode.hdisplay ? frame->w : mode.hdisplay, rows = frame->h < mode.vdisplay ? frame->h : mode.vdisplay;
     size_t left = (size_t)(mode.hdisplay - columns) / 2, top = (size_t)(mode.vdisplay - rows) / 2;
-    copy_frame(frame, b->pixels + top * b->stride + 4 * left, b->stride, columns, rows);
+    copy_rows(frame, b->pixels + top * b->stride + 4 * left, b->stride, columns, b->first, b->end < rows ? b->end : rows);
+    b->first = b->end = 0;
 }
 
 /* Draws a pattern that moves. */
-static void draw_pattern(const buffer *b, long number) {
+static void draw_pattern(buffer *b, long number) {
     static uint8_t pixels[4 * PATTERN * PATTERN];
     for (size_t i = 0; i < PATTERN * PATTERN; i++) {
         pixels[4 * i] = (uint8_t)(i + (size_t)number);
         pixels[4 * i + 1] = (uint8_t)(i / PATTERN);
         pixels[4 * i + 2] = 128;
     }
-    draw(b, &(shown){1, PATTERN, PATTERN, pixels});
+    shown frame = {.w = PATTERN, .h = PATTERN, .rows = PATTERN, .pixels = pixels};
+    note(&frame);
+    draw(b, &frame);
 }
 
 /* Ticks, and draws the frame of a port, if one came. False where the broker is gone. */
-static bool draw_tick(const buffer *b, int port, bool *is_drawn) {
+static bool draw_tick(buffer *b, int port, bool *is_drawn) {
     *is_drawn = false;
     take_inputs(&inputs, shown_w, shown_h, &own);
     tick(&own);
@@ -127,8 +141,9 @@ static bool draw_tick(const buffer *b, int port, bool *is_drawn) {
         if (poll(w, 2, -1) < 0 && errno != EINTR) die("poll");
         if (!serve(&own, w[0].revents, w[1].revents)) return false;
     }
-    for (shown frame; get_frame(&own, &frame); drop_frame(&own, &frame))
+    for (shown frame; get_frame(&own, &frame);)
         if (frame.port == port) {
+            note(&frame);
             draw(b, &frame);
             *is_drawn = true;
             shown_w = frame.w;

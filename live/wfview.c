@@ -85,20 +85,20 @@ static void make_image(int w, int h) {
     if (!image) abort();
 }
 
-/* Puts the image into the window, and waits until the display has read it. */
-static void put_image(void) {
+/* Puts rows of the image into the window, and waits until the display has read them. */
+static void put_rows(int first, int rows) {
     GC context = DefaultGC(display, DefaultScreen(display));
-    if (!image) return;
-    unsigned w = (unsigned)image->width, h = (unsigned)image->height;
-    if (shared.shmid >= 0) XShmPutImage(display, window, context, image, 0, 0, 0, 0, w, h, False);
-    else XPutImage(display, window, context, image, 0, 0, 0, 0, w, h);
+    unsigned w = (unsigned)image->width, h = (unsigned)rows;
+    if (shared.shmid >= 0) XShmPutImage(display, window, context, image, 0, first, 0, first, w, h, False);
+    else XPutImage(display, window, context, image, 0, first, 0, first, w, h);
     XSync(display, False);
 }
 
+/* Shows what changed. The image has the rest, since where its sides are others all has changed. */
 static void show(const shown *frame) {
     make_image(frame->w, frame->h);
-    copy_frame(frame, (uint8_t *)image->data, (size_t)image->bytes_per_line, frame->w, frame->h);
-    put_image();
+    copy_rows(frame, (uint8_t *)image->data, (size_t)image->bytes_per_line, frame->w, frame->first, frame->first + frame->rows);
+    put_rows(frame->first, frame->rows);
 }
 
 /* Tells what happened in the window. False where it was closed. */
@@ -110,7 +110,7 @@ static bool take_events(void) {
         if (e.type == ButtonPress) tell(&own, (word){PRESS, e.xbutton.x, e.xbutton.y, (int32_t)e.xbutton.button});
         if (e.type == ButtonRelease) tell(&own, (word){RELEASE, e.xbutton.x, e.xbutton.y, (int32_t)e.xbutton.button});
         if (e.type == KeyPress) tell(&own, (word){KEY, (int32_t)XLookupKeysym(&e.xkey, 0), 0, 0});
-        if (e.type == Expose) put_image();
+        if (e.type == Expose && image) put_rows(0, image->height);
         if (e.type == ClientMessage && (Atom)e.xclient.data.l[0] == closing) return false;
     }
     return true;
@@ -134,7 +134,7 @@ static bool turn(double next, int port, times *t) {
     poll(w, 3, own.is_owed ? 100 : left > 0 ? (int)(left * 1000) + 1 : 0);
     bool was_owed = own.is_owed;
     if (!serve(&own, w[0].revents, w[1].revents)) return false;
-    for (shown frame; get_frame(&own, &frame); drop_frame(&own, &frame))
+    for (shown frame; get_frame(&own, &frame);)
         if (frame.port == port) show(&frame);
     if (was_owed && !own.is_owed) count_frame(t);
     return true;

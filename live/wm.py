@@ -1,19 +1,26 @@
 #!/usr/bin/env python3
 """A window manager: a ground, windows with a bar, a panel, and a pointer on pipeline 1 where there is one.
 
-    live/wm.py
+    live/wm.py [--picture FILE]
 
 A window is raised by a press on it, moved by its bar, and closed by the mark at the bar's end; the panel has a mark for each window, which
-raises it. It takes the sides of port 1 from the core, and connects to `wm` in the folder that WF_DIR names.
+raises it. With --picture a press of the third button on the panel writes what the port shows to FILE, as PNG. It takes the sides of port 1
+from the core, and connects to `wm` in the folder that WF_DIR names.
 """
 
+import argparse
 import sys
 from dataclasses import dataclass, field
+from pathlib import Path
 
 from wfclient import OK, OUTPUT, Client, Refused
 from words import AGAIN, CLOSE, KEY, MOVE, PRESS, RELEASE, SHOW, word, word_of
 
+from lib import png, tool  # noqa: E402  wfclient says where they stand
+
 PORT, PIPE, APPS = 1, 1, range(1, 8)
+# The button that asks for a picture.
+THIRD = 3
 BAR, PANEL, MARK, GAP, POINTER = 14, 20, 10, 4, 12
 BY_ALPHA = 2
 # How many windows there are, and of one app, and how many events are done before what they ask for is shown. No app keeps all to itself.
@@ -62,6 +69,7 @@ class Manager:
     windows: list = field(default_factory=list)
     grip: tuple = None
     has_pointer: bool = False
+    picture: Path = None
 
     def __post_init__(self):
         client = self.client
@@ -228,6 +236,9 @@ class Manager:
 
     def pressed(self, x, y, button):
         """A button of the pointer went down."""
+        if button == THIRD and self.picture and self.panel.has(x, y):
+            self.keep_picture()
+            return
         if self.panel.has(x, y):
             window = next((window for window, at in self.marks() if at <= x < at + 2 * MARK), None)
         else:
@@ -245,6 +256,18 @@ class Manager:
             elif window.shown.has(x, y):
                 self.client.tell(window.client, word(PRESS, x - window.shown.x, y - window.shown.y, button))
         self.restack()
+
+    def keep_picture(self):
+        """Writes what the port shows as a picture, unless it is off."""
+        data = self.client.begin_port(PORT).data
+        if not data:
+            return
+        width, height = (int.from_bytes(data[at : at + 2], "big") for at in (0, 2))
+        try:
+            with tool.whole(self.picture) as sink:
+                sink.write(png.picture(width, height, data[4:]))
+        except (OSError, tool.Refused) as fault:
+            print(f"wm: {fault}", file=sys.stderr)
 
     def moved(self, x, y):
         """The pointer moved."""
@@ -291,8 +314,11 @@ class Manager:
 
 def main():
     """Connects, and runs."""
+    words = argparse.ArgumentParser(description="A window manager: a ground, windows with a bar, a panel, and a pointer.")
+    words.add_argument("--picture", type=Path, metavar="FILE", help="write what is shown, by the third button on the panel")
+    asked = words.parse_args()
     try:
-        Manager(Client("wm")).run()
+        Manager(Client("wm"), picture=asked.picture).run()
     except Refused as fault:
         sys.exit(f"wm: {fault}")
     except (EOFError, ConnectionError, KeyboardInterrupt):

@@ -4,6 +4,7 @@ are those of the table of calls, as lib/wire.py writes them."""
 from typing import NamedTuple
 
 from lib.film import CODES
+from lib.limits import MOST_SIDE
 from lib.wire import ARGUMENT, MESSAGES, NAMED, RANGES, kinds_of, message
 
 # The clients: the window manager, the apps, the output, and the broker.
@@ -13,10 +14,10 @@ CLIENTS = (MANAGER, *APPS, OUTPUT)
 GONE, PUT, TICK, WAIT, TELL, SIZE, TOLD, LEFT = 0, 50, 51, 52, 53, 54, 55, 56
 # The calls that apps may make, beside the paints.
 OF_APPS = ("StreamNew", "StreamQueue", "StreamDestroy", "Acquire", "Post", "Discard", "Fill", "Rectangle", "Checker", "Ramp")
-# Frames begin by ticks alone.
-BEGINS = ("BeginContext", "BeginPort")
 # How many live streams the window manager and an app may have.
 MANAGER_STREAMS, APP_STREAMS = 32, 4
+# How many bytes the buffers of those may take.
+MANAGER_BYTES, APP_BYTES = 24 * MOST_SIDE**2, 8 * MOST_SIDE**2
 # The code of an answer to a message that made no call, since a write buffer is held or is not.
 NO_CALL, NO_CALL_NAME = 255, "NoCall"
 # The least and the most that the length of a frame may be, and the most bytes that are told.

@@ -1,7 +1,7 @@
 """The cases of the live core, lib/live.cases: messages of several clients with what each is answered, worked out by hand from docs/live.md.
 The model plays them, and any program that serves the same messages.
 
-    core 2x1 1x1 pipes 1        a core of its own begins, with these ports and pipelines
+    core 2x1 1x1 pipes 1        a core of its own begins, with these ports and pipelines; behind them `bands` where it has that word
     1 StreamNew 2 1 rgba 2 = Ok 1
                                 client 1 asks, and is answered this; a message has its name, words or numbers for its arguments, and
                                 `,` between the four numbers of a value
@@ -10,7 +10,7 @@ The model plays them, and any program that serves the same messages.
                                 bytes have a `:` before them; `:00*4096` is so many times the same byte
     1 hex 04:00 = IllegalArgument 0
                                 a body that is any bytes
-    frames = 46 01 00000001 0001 0001 000000ff
+    frames = 46 01 00000001 0001 0002 000000ff*2
                                 what went to the frames since they were told last
     rest 0000 = bad frame       the input ends with these bytes, at whose first one a frame begins that is none
 """
@@ -20,7 +20,7 @@ from typing import NamedTuple
 from lib.film import CODES
 from lib.live import LENGTH, NO_CALL, NO_CALL_NAME, NUMBERS, answer_bytes, answer_of, body, code_name, framed, name_of
 from lib.player import PAINTED
-from lib.serving import Live, film_frame
+from lib.serving import Live, band, film_frame
 from lib.wire import NAMED, arguments_of
 
 
@@ -37,15 +37,16 @@ class Step(NamedTuple):
 
 
 class Core(NamedTuple):
-    """A core of its own: its ports, how many pipelines it has, and its steps."""
+    """A core of its own: its ports, how many pipelines it has, whether it puts bands, and its steps."""
 
     ports: list
     pipes: int
+    has_bands: bool
     steps: list
 
 
 def bytes_of(word):
-    """Returns the bytes that a `word` behind a `:` tells."""
+    """Returns the bytes that a `word` tells, which may have `:` between them, and a `*` with a number behind them."""
     data, _, times = word.partition("*")
     return bytes.fromhex(data.replace(":", "")) * int(times or 1)
 
@@ -87,7 +88,7 @@ def step_of(place, line):
     """Returns the step of a `line` that stands at a `place`."""
     call, _, want = (part.strip() for part in line.partition("="))
     if call == "frames":
-        return Step(place, line, b"", [], frames=bytes.fromhex(want))
+        return Step(place, line, b"", [], frames=b"".join(map(bytes_of, want.split())))
     words = call.split()
     if words[0] == "rest":
         return Step(place, line, bytes.fromhex("".join(words[1:]).replace(":", "")), [], is_end=True)
@@ -107,7 +108,7 @@ def cores(path):
             if core:
                 yield core
             pipes = int(words[words.index("pipes") + 1]) if "pipes" in words else 0
-            core = Core([tuple(map(int, word.split("x"))) for word in words[1:] if "x" in word], pipes, [])
+            core = Core([tuple(map(int, word.split("x"))) for word in words[1:] if "x" in word], pipes, "bands" in words, [])
         else:
             core.steps.append(step_of(place, line))
     yield core
@@ -140,16 +141,16 @@ def differences(core, step_answers, step_frames):
 
 def by_model(core):
     """Yields where the model answers a core otherwise."""
-    frames = bytearray()
-    live = Live(core.ports, core.pipes, lambda *frame: frames.extend(film_frame(*frame)))
+    frames, told = bytearray(), band if core.has_bands else film_frame
+    live = Live(core.ports, core.pipes, lambda *picture: frames.extend(told(*picture)))
 
     def answers(step):
         return [framed(bytes([client]), data) for client, data in live.answers(step.sent[LENGTH], step.sent[LENGTH + 1 :])]
 
     def taken():
-        told = bytes(frames)
+        came = bytes(frames)
         frames.clear()
-        return told
+        return came
 
     PAINTED.clear()
     yield from differences(core, answers, taken)

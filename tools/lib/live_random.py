@@ -4,29 +4,38 @@ beside it, ticks, clients that leave, and messages that are wrong. Each number m
 import io
 
 from lib.live import APPS, BROKER, CLIENTS, LENGTH, MANAGER, MOST_TOLD, NUMBERS, OUTPUT, body, framed
-from lib.serving import Live, film_frame
+from lib.serving import Live, band, film_frame
 from lib.sessions import DEEDS, EDGES, Writer
 from lib.wire import NAMED, PAINTS
 
 # Who does something next, each with how often; and what an app does, the methods of these names.
-WHO = {"manager": 10, "app": 14, "tick": 4, "leave": 0.4, "noise": 1.5, "speech": 1}
+WHO = {"manager": 10, "app": 14, "tick": 4, "shift": 2, "leave": 0.4, "change_output": 0.6, "noise": 1.5, "speech": 1}
 APP_DEEDS = {"make": 3, "draw_own": 8, "put_some": 4, "give": 2, "destroy": 1, "ask_size": 1, "wait_for": 1.5, "foreign": 1, "paint_any": 2}
 OF_PAINTS = sorted(PAINTS)
 BYTES_OF = {"rgba": 4, "pre": 4, "rgbx": 4, "a8": 1}
 
 
 class LiveWriter(Writer):
-    """An input that is written message by message, and answered at once by the model: its frames, the answers, and the frames of ports."""
+    """An input that is written message by message, and answered at once by the model: its frames, the answers, and the pictures of ports,
+    as frames and as bands."""
+
+    # The apps that do something, each as often as it stands here.
+    AT_WORK = (1, 1, 2, 3, 7)
 
     # A writer of sessions begins one of its own, so its beginning is not this one's.
     def __init__(self, chance):  # pylint: disable=super-init-not-called
         self.chance = chance
-        self.ports = [(self.side(), self.side()) for _ in range(chance.choice((1, 1, 2, 3)))]
+        self.ports = [(self.side(), chance.choice((1, 1, 4)) * self.side()) for _ in range(chance.choice((1, 1, 2, 3)))]
         self.pipes = chance.choice((0, 1, 2, 4))
-        self.input, self.output, self.frames = io.BytesIO(), [], io.BytesIO()
-        self.live = Live(self.ports, self.pipes, lambda *frame: self.frames.write(film_frame(*frame)))
+        self.input, self.output, self.frames, self.bands = io.BytesIO(), [], io.BytesIO(), io.BytesIO()
+        self.live = Live(self.ports, self.pipes, self.put_picture)
         self.machine = self.live.machine
         self.client = MANAGER
+
+    def put_picture(self, *picture):
+        """Writes a picture as a frame and as a band."""
+        self.frames.write(film_frame(*picture))
+        self.bands.write(band(*picture))
 
     def send(self, client, data):
         """Sends the bytes of a message of a client. Returns the value of its own answer, or 0 where that comes later."""
@@ -39,6 +48,13 @@ class LiveWriter(Writer):
     def say(self, name, *values):
         """Sends a message of the client that has the turn, by its name."""
         return self.send(self.client, body(name, *values))
+
+    def begin(self):
+        """Makes a context of the screen of port 1, which is composed by ticks."""
+        self.client = MANAGER
+        device = self.say("DeviceNew")
+        context = self.say("ScreenContext", device, 1)
+        self.say("Activate", device, context)
 
     # Who does something.
 
@@ -53,17 +69,68 @@ class LiveWriter(Writer):
 
     def app(self):
         """Lets an app do something."""
-        self.client = self.chance.choice((1, 1, 2, 3, 7))
+        self.client = self.chance.choice(self.AT_WORK)
         getattr(self, self.chance.choices(list(APP_DEEDS), APP_DEEDS.values())[0])()
 
     def tick(self):
         """Ticks."""
         self.send(OUTPUT, body("tick"))
 
+    def shift(self):
+        """Lets the window manager move a small image over what a context shows, or over a port, and ticks each time."""
+        self.client = MANAGER
+        stream = self.stream("rgba", "rgbx")[0]
+        self.draw_into(stream)
+        if self.pipes and self.chance.random() < 0.4:
+            self.shift_plane(stream)
+        else:
+            self.shift_layer(stream)
+        self.say("StreamDestroy", stream)
+
+    def spot(self):
+        """Returns a rectangle somewhere in a port."""
+        return [self.chance.randint(-1, 3), self.chance.randint(-1, self.chance.choice(self.ports)[1]), self.side(), self.side()]
+
+    def shift_layer(self, stream):
+        """Moves an element of a context that shows a stream, and then takes it away."""
+        device, context, _ = self.pair("context")
+        source, element = self.say("SourceNew", device, context, stream), self.say("ElementNew", device, context)
+        self.say("ElementSet", device, element, "source", source)
+        self.say("ElementSet", device, element, "srcrect", [0, 0, 1, 1])
+        self.say("ElementInsert", device, element, 0)
+        for _ in range(self.chance.randint(1, 4)):
+            self.say("ElementSet", device, element, "dest", self.spot())
+            self.say("Commit", device, context)
+            self.say("Activate", device, context)
+            self.tick()
+        self.say("ElementDestroy", device, element)
+        self.say("SourceDestroy", device, source)
+
+    def shift_plane(self, stream):
+        """Moves a pipeline that shows a stream."""
+        pipe = self.number(self.pipes)
+        source = self.say("DisplaySource", pipe, stream)
+        self.say("PipeSet", pipe, "srcrect", [0, 0, 1, 1])
+        self.say("PipeBindPort", pipe, self.number(len(self.ports)))
+        self.say("PipeBindSource", pipe, source, "now")
+        for _ in range(self.chance.randint(1, 4)):
+            self.say("PipeSet", pipe, "dest", self.spot())
+            self.say("CommitPipe", pipe)
+            self.tick()
+
     def leave(self):
         """Lets a client be gone, mostly an app."""
         client = self.chance.choice((*APPS, 1, 2, 3, MANAGER, OUTPUT, -1, 9))
         self.send(BROKER, body("gone", client))
+
+    def change_output(self):
+        """Lets the output be gone, and now and then another one tick, or the window manager look, before anything else comes."""
+        self.send(BROKER, body("gone", OUTPUT))
+        if self.chance.random() < 0.3:
+            self.client = MANAGER
+            self.show()
+        if self.chance.random() < 0.5:
+            self.tick()
 
     def speech(self):
         """Lets a client tell another one something."""
@@ -138,9 +205,7 @@ class LiveWriter(Writer):
 def written(chance, deeds):
     """Returns an input of so many deeds, with its answers and its frames."""
     writer = LiveWriter(chance)
-    device = writer.say("DeviceNew")
-    context = writer.say("ScreenContext", device, 1)
-    writer.say("Activate", device, context)
+    writer.begin()
     for _ in range(deeds):
         writer.turn()
     writer.tick()

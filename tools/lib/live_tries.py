@@ -16,7 +16,7 @@ from lib.limits import MOST_SIDE
 from lib.live import APPS, OUTPUT, SIZE, TELL, WAIT, body
 from lib.live_hostile import HOSTILE, Flood, is_soon
 from lib.live_script import ByHand, Played
-from lib.living import LIVE, SANITIZED, SECONDS, NoWay, System, built, core_words, options_of
+from lib.living import LIVE, SANITIZED, SECONDS, NoWay, System, built, compiled, core_words, options_of
 from lib.player import Show, declared
 from lib.serving import Live, film_frames
 from lib.wire import NAMED
@@ -27,18 +27,22 @@ from wfclient import Client, Output, given  # noqa: E402
 from words import MOVE, PRESS, RELEASE, SHOW, word  # noqa: E402
 
 SIDES, PIPES = (160, 120), 1
+# A window manager in C that asks for a picture, and an output in C that pastes what it reads.
+LOOKING, PASTING = TOP / "tools/lib/looking.c", TOP / "tools/lib/pasting.c"
 COMMIT, FILL = NAMED["Commit"].number, NAMED["Fill"].number
 MANAGER, CLOCK, WAVES = 0, *list(APPS)[:2]
 TICKS = 60
-# The sum over the bytes of the last frame after so many ticks, after the window of the waves was moved and the pointer with it, once the
+# The sum over the pixels of the last frame after so many ticks, after the window of the waves was moved and the pointer with it, once the
 # app of the waves was killed, and once another window manager has the screen. All of them were looked at.
-SUMS = {"ticks": 10_380_073, "moved": 10_595_871, "killed": 10_285_192, "again": 8_030_612}
-# The window of the waves, and where its bar is gripped and let go.
-WINDOW, GRIP, DROP = (64, 40), (50, 40), (90, 70)
+SUMS = {"ticks": 10_379_662, "moved": 10_595_459, "killed": 10_284_779, "again": 8_030_192}
+# The window of the waves, where its bar is gripped and let go, and a place on the panel.
+WINDOW, GRIP, DROP, PANEL = (64, 40), (50, 40), (90, 70), (80, 115)
 # Scripts of the examples that are played live.
-SCRIPTS = ("clients", "desk", "ports")
+SCRIPTS = ("clients", "desk", "offscreen", "ports")
 # The sides of the screen of a test, and how many bits a pixel has.
 ROOT = "320x240x24"
+# A window over that of a test.
+COVER = ("xlogo", "-geometry", "160x120+0+0")
 
 
 class Programs(NamedTuple):
@@ -47,12 +51,15 @@ class Programs(NamedTuple):
     broker: str
     waves: str
     kiosk: str
+    looking: str
+    pasting: str
     view: str
 
 
 def programs(folder):
     """Returns the programs, compiled into a `folder` for the sanitizers. That of X11 is none where its headers are missing."""
     own = [built(name, folder, *SANITIZED) for name in ("wfbroker", "waves", "kiosk")]
+    own += [compiled(source, folder, *SANITIZED) for source in (LOOKING, PASTING)]
     with contextlib.suppress(NoWay):
         return Programs(*own, built("wfview", folder, *SANITIZED, "-lX11", "-lXext"))
     return Programs(*own, None)
@@ -66,9 +73,11 @@ def fresh(folder, name):
 
 
 def replays(system, frames):
-    """Plays once more what the core of a system read. Yields where its answers or, where they are given, its frames are others."""
+    """Plays once more what the core of a system read, with a file for its pictures. Yields where its answers or, where they are given, its
+    `frames` are others."""
     again = system.folder / "again"
-    words = [*core_words(), *options_of([SIDES], PIPES, again)]
+    word_of_sink, _, *more = system.sink
+    words = [*core_words(), *options_of(system.ports, system.pipes, word_of_sink, again, *more)]
     data = system.recorded.input.read_bytes()
     done = subprocess.run(words, input=data, capture_output=True, timeout=SECONDS, check=False)
     if done.returncode:
@@ -85,7 +94,8 @@ class Desk:
     def __init__(self, folder, own):
         self.system = System(folder, own.broker, [SIDES], PIPES, is_recorded=True)
         self.counts = self.system.recorded
-        self.manager = self.system.start(LIVE / "wm.py")
+        self.picture = folder / "shown.png"
+        self.manager = self.system.start(LIVE / "wm.py", "--picture", self.picture)
         self.counts.wait_for(MANAGER, COMMIT, 1)
         self.clock = self.system.start(LIVE / "clock.py", 48, "ticks")
         self.counts.wait_for(CLOCK, WAIT, 1)
@@ -95,18 +105,22 @@ class Desk:
         self.counts.wait_for(MANAGER, COMMIT, 3)
         self.output = Output(self.system.place)
         self.frames = bytearray()
+        self.pixels = b""
         self.ticks = 0
         self.waiting = {CLOCK, WAVES}
 
     def tick(self):
-        """Ticks, and waits until the apps have drawn again. Returns the sum over the frame."""
+        """Ticks, and waits until the apps have drawn again. Returns the sum over the pixels of what is shown, which stays where no frame
+        comes."""
         self.counts.read()
         before = {app: self.counts.counts[app, WAIT] for app in self.waiting}
         self.ticks, data = self.output.shown()
         self.frames += data
+        for frame in film_frames(data, self.output.last):
+            self.pixels = frame[-1]
         for app, count in before.items():
             self.counts.wait_for(app, WAIT, count + 1)
-        return sum(data)
+        return sum(self.pixels)
 
     def commits(self, does):
         """Does something after which the window manager commits, and waits for that."""
@@ -115,9 +129,9 @@ class Desk:
         does()
         self.counts.wait_for(MANAGER, COMMIT, before + 1)
 
-    def point(self, letter, place):
+    def point(self, letter, place, button=1):
         """Tells the window manager of the pointer."""
-        self.output.tell(MANAGER, word(letter, *place, 1))
+        self.output.tell(MANAGER, word(letter, *place, button))
         self.output.sync()
 
     def close(self):
@@ -138,6 +152,15 @@ def dragged(desk):
     desk.commits(lambda: desk.point(MOVE, DROP))
     desk.point(RELEASE, DROP)
     return desk.tick()
+
+
+def pictured(desk):
+    """Asks the window manager for a picture. Yields where it is another one than what is shown."""
+    desk.point(PRESS, PANEL, 3)
+    if not is_soon(desk.picture.exists):
+        yield "desk: the window manager writes no picture"
+    elif png.read(desk.picture.read_bytes(), MOST_SIDE) != (*SIDES, desk.pixels):
+        yield "desk: the picture that the window manager writes is another one than what is shown"
 
 
 def killed(desk):
@@ -183,6 +206,7 @@ def tries_desk(folder, own):
             last = desk.tick()
         yield from tells("ticks", last)
         yield from tells("moved", dragged(desk))
+        yield from pictured(desk)
         yield from tells("killed", killed(desk))
         yield from stopped(desk)
         yield from tells("again", managed_again(desk, own))
@@ -327,11 +351,23 @@ def still(place):
     return client
 
 
-def still_pixels():
-    """Returns the pixels of that picture, by the model."""
+# The same with another rectangle, which is another picture in some of its rows: the number of the first one, and how many.
+CHANGED = (("Acquire", 3), ("Ramp", 250, 40, 10, 255, 10, 60, 240, 255), ("Rectangle", 20, 30, 50, 40, 90, 3, 200, 255), ("Post",))
+ROWS = (30, 40)
+
+
+def change(client):
+    """Changes the still picture."""
+    for name, *values in CHANGED:
+        client.say(name, *values)
+    client.sync()
+
+
+def still_pixels(*more):
+    """Returns the pixels of that picture, by the model, after `more` messages."""
     shown = []
-    live = Live([SIDES], PIPES, lambda *frame: shown.append(frame[-1]))
-    for name, *values in STILL:
+    live = Live([SIDES], PIPES, lambda *picture: shown.append(picture[4]))
+    for name, *values in (*STILL, *more):
         live.answers(MANAGER, body(name, *map(given, values)))
     live.answers(OUTPUT, body("tick"))
     return shown[-1]
@@ -359,12 +395,25 @@ def picture_of(around):
 def view(folder, own, around):
     """Shows a still picture in a window, and moves the pointer. Yields what is wrong."""
     with System(folder, own.broker, [SIDES], PIPES) as system:
-        client, wanted = still(system.place), still_pixels()
+        client, first, then = still(system.place), still_pixels(), still_pixels(*CHANGED)
         shown = subprocess.Popen([own.view, system.place, "20"], env=around, stdout=subprocess.DEVNULL)
         system.parts.append(shown)
 
-        if not is_soon(lambda: screen_of(picture_of(around).stdout, *SIDES) == wanted):
+        def is_shown(wanted):
+            return screen_of(picture_of(around).stdout, *SIDES) == wanted
+
+        if not is_soon(lambda: is_shown(first)):
             yield "the window shows something else than the frame"
+        change(client)
+        if not is_soon(lambda: is_shown(then)):
+            yield "the window shows something else once some rows changed"
+        # No frame comes any more, and the window shows the last one again where another window was.
+        if shutil.which(COVER[0]):
+            with subprocess.Popen(COVER, env=around, stdout=subprocess.DEVNULL, stderr=subprocess.DEVNULL) as other:
+                is_covered = is_soon(lambda: not is_shown(then))
+                other.terminate()
+            if not is_covered or not is_soon(lambda: is_shown(then)):
+                yield "the window doesn't show the frame again where another one was"
         warped(around["DISPLAY"], 33, 44)
         if not is_soon(lambda: (event := client.event(wait=False)) and event[:2] == (OUTPUT, word(MOVE, 33, 44, 0))):
             yield "the window manager is not told where the pointer is"

@@ -19,8 +19,8 @@ MODEL = TOP / "tools/serve-live"
 WARNINGS = ["-std=c11", "-Wall", "-Wextra", "-Werror"]
 SANITIZED = ["-g", "-fsanitize=address,undefined", "-fno-sanitize-recover=all"]
 SECONDS = 30
-# The descriptor on which the broker gives the core the frames' pipe.
-FRAMES = "/dev/fd/3"
+# Where the pictures of a core go that the broker starts: to the descriptor of the frames' pipe, as the rows that changed.
+TO_OUTPUT = ("--frames", "/dev/fd/3", "--bands")
 # Keeps what goes through a pipe in a file, before the core and behind it.
 RECORDED = 'into=$1 outof=$2; shift 2; tee "$into" | "$@" | tee "$outof"'
 
@@ -36,11 +36,16 @@ def has_compiler():
 
 def built(name, folder, *flags):
     """Returns the program that a source in live/ is compiled to, into a `folder`, with `flags` as they stand behind it."""
-    program = folder / name
-    words = ["cc", *WARNINGS, "-O2", f"{LIVE / name}.c", "-o", program, *flags]
+    return compiled(LIVE / f"{name}.c", folder, *flags)
+
+
+def compiled(source, folder, *flags):
+    """Returns the program that a `source` is compiled to, in the same way."""
+    program = folder / source.stem
+    words = ["cc", *WARNINGS, "-O2", source, "-o", program, *flags]
     done = subprocess.run(list(map(str, words)), capture_output=True, text=True, check=False)
     if done.returncode:
-        raise NoWay(f"{name}.c: {done.stderr}")
+        raise NoWay(f"{source.name}: {done.stderr}")
     return program
 
 
@@ -51,9 +56,10 @@ def core_words():
     return [str(SERVE if SERVE.exists() else MODEL)]
 
 
-def options_of(ports, pipes, frames):
-    """Returns the words of a core with these `ports`, which are sides, and `pipes`, whose frames go to a file."""
-    return ["--port", ",".join(f"{w}x{h}" for w, h in ports), "--pipes", str(pipes), "--frames", str(frames)]
+def options_of(ports, pipes, *sink):
+    """Returns the words of a core with these `ports`, which are sides, and `pipes`, and after them those of the `sink`, which
+    say where the pictures go."""
+    return ["--port", ",".join(f"{w}x{h}" for w, h in ports), "--pipes", str(pipes), *map(str, sink)]
 
 
 class Recorded:
@@ -88,13 +94,13 @@ class Recorded:
 
 class System:
     """A broker with its core in a `folder`, with what was recorded, and the other parts that were started. `broker` is its program, and the
-    core has these `ports`, which are sides, and `pipes`."""
+    core has these `ports`, which are sides, and `pipes`; its pictures go where the words of the `sink` say, a word and a file first."""
 
-    def __init__(self, folder, broker, ports, pipes=1, core=None, is_recorded=False):
+    def __init__(self, folder, broker, ports, pipes=1, core=None, is_recorded=False, sink=TO_OUTPUT):
         self.folder = folder
         self.place = folder / "wf"
-        self.options = options_of(ports, pipes, FRAMES)
-        words = [*(core or core_words()), *self.options]
+        self.ports, self.pipes, self.sink = ports, pipes, sink
+        words = [*(core or core_words()), *options_of(ports, pipes, *sink)]
         self.recorded = Recorded(folder) if is_recorded else None
         if self.recorded:
             self.recorded.input.touch()

@@ -6,19 +6,22 @@ import math
 import struct
 
 from lib.film import CODES
+from lib.limits import MOST_DEPTH, MOST_SIDE
 from lib.live import (
+    APP_BYTES,
     APP_STREAMS,
     APPS,
-    BEGINS,
     GONE,
     LEAST_FRAME,
     LEFT,
     LENGTH,
     MANAGER,
+    MANAGER_BYTES,
     MANAGER_STREAMS,
     MOST_FRAME,
     MOST_TOLD,
     NO_CALL,
+    OUTPUT,
     OWN,
     PUT,
     SIZE,
@@ -32,6 +35,7 @@ from lib.live import (
     may_send,
     ranges_of,
 )
+from lib.model import bytes_of, new_stream
 from lib.names import Counted
 from lib.player import PAINTED
 from lib.session import Session
@@ -43,6 +47,9 @@ NAMES_STREAM, MAKES_STREAM = ("StreamDestroy", "Acquire"), ("StreamNew", "Stream
 # How many pictures are kept, so that a scene that stays is not painted again.
 MOST_PAINTED = 8
 FRAME_HEAD = struct.Struct(">cBIHH")
+# What stands between the head and the pixels of a band: its first row, and how many rows it has.
+ROWS_HEAD = struct.Struct(">HH")
+FRAME, BAND = b"F", b"B"
 
 
 class Refused(Exception):
@@ -60,6 +67,14 @@ def need(holds, code):
         raise Refused(code)
 
 
+def asked_bytes(queue, width, height, form, count):
+    """Returns the bytes of the buffers of a new stream, a queue or a plain one, or 0 where a number is out of its range."""
+    least, most = (1, MOST_DEPTH) if queue else (2, 4)
+    if not (1 <= width <= MOST_SIDE and 1 <= height <= MOST_SIDE and least <= count <= most):
+        return 0
+    return bytes_of(new_stream(width, height, form, count + queue))
+
+
 class Hands(Session):
     """What one client holds, on the machine that all share. Its calls are not counted."""
 
@@ -71,8 +86,9 @@ class Hands(Session):
 
 
 class Live:
-    """The core: the machine of some `ports` and `pipes`, what each client holds, who made which stream, who waits, and the tick's number.
-    Each frame of a port goes to `put_frame`, by its port, its tick, its sides and its pixels."""
+    """The core: the machine of some `ports` and `pipes`, what each client holds, who made which stream, who waits, the tick's number, and
+    of each port the picture that was put last. A picture of a port that is another one goes to `put_frame`, by its port, its tick, its
+    sides, its pixels, and those of the picture that was put last, or None where there is none of these sides."""
 
     def __init__(self, ports, pipes, put_frame):
         self.machine = Counted([[size] for size in ports], pipes)
@@ -81,6 +97,7 @@ class Live:
         self.makers = {}
         self.waiting = set()
         self.ticks = 0
+        self.last = {}
         self.put_frame = put_frame
         self.out = []
 
@@ -98,6 +115,8 @@ class Live:
             self.tell_to(client, own)
         if number == TICK and own[1] == OK:
             self.wake()
+        if len(PAINTED) > MOST_PAINTED:
+            PAINTED.clear()
         return self.out
 
     def tell_to(self, client, answer):
@@ -120,19 +139,24 @@ class Live:
     def call(self, client, number, numbers, data):
         """Makes a call, or a paint, with the canvas that the client holds."""
         name = MESSAGES[number].name
-        need(name not in BEGINS, UNSUPPORTED)
+        message = Reader(io.BytesIO(bytes([number]) + data)).message()
         if name in MAKES_STREAM:
-            share = MANAGER_STREAMS if client == MANAGER else APP_STREAMS
-            need(sum(maker == client for maker in self.makers.values()) < share, LIMIT)
+            self.need_share(client, asked_bytes(name == "StreamQueue", *message.words))
         if name in NAMES_STREAM:
             self.need_maker(client, numbers[0])
-        message = Reader(io.BytesIO(bytes([number]) + data)).message()
         answer = b"".join(self.hands[client].answer(message))
         if name == "StreamDestroy" and answer[0] == OK:
             self.makers.pop(numbers[0], None)
         if name in MAKES_STREAM and answer[0] == OK:
             self.makers[int.from_bytes(answer[1:5], "big")] = client
         return bytes([number]) + answer
+
+    def need_share(self, client, size):
+        """Refuses a new stream, of `size` bytes, that would pass the share of its client."""
+        streams, most = (MANAGER_STREAMS, MANAGER_BYTES) if client == MANAGER else (APP_STREAMS, APP_BYTES)
+        own = [self.machine.live[stream] for stream, maker in self.makers.items() if maker == client]
+        need(len(own) < streams, LIMIT)
+        need(sum(map(bytes_of, own)) + size <= most, LIMIT)
 
     def need_maker(self, client, stream):
         """Refuses a stream that an app did not make, as one that is not there."""
@@ -159,7 +183,7 @@ class Live:
         return answer_bytes(PUT, OK, 0)
 
     def tick(self, _):
-        """Composes each active context, and then each port, whose frame is put."""
+        """Composes each active context, and then each port, whose picture is put where it is another one than was put last."""
         self.ticks += 1
         context = 0
         while True:
@@ -172,9 +196,11 @@ class Live:
             code, value = self.machine.call("begin_port", [port])
             if value:
                 head, pixels = self.clock.frame(code, value, True)
-                self.put_frame(port, self.ticks, *struct.unpack(">HH", head[-4:]), pixels)
-        if len(PAINTED) > MOST_PAINTED:
-            PAINTED.clear()
+                sides = struct.unpack(">HH", head[-4:])
+                before = self.last.get(port, (None, None))
+                if before != (sides, pixels):
+                    self.put_frame(port, self.ticks, *sides, pixels, before[1] if before[0] == sides else None)
+                    self.last[port] = sides, pixels
         return answer_bytes(TICK, OK, self.ticks)
 
     def wait(self, client):
@@ -202,7 +228,7 @@ class Live:
         return answer_bytes(SIZE, OK, thing.w * 65536 + thing.h)
 
     def gone(self, _, client):
-        """Lets go of all that a client has, and tells the window manager."""
+        """Lets go of all that a client has, and tells the window manager. After the output the next one gets each port whole."""
         if client in self.hands:
             self.hands[client].close()
         for stream in [stream for stream, maker in sorted(self.makers.items()) if maker == client]:
@@ -210,30 +236,57 @@ class Live:
             if stream in self.machine.live:
                 self.machine.call("del_stream", [stream])
         self.waiting.discard(client)
+        if client == OUTPUT:
+            self.last = {}
         self.tell_to(MANAGER, answer_bytes(LEFT, OK, client))
         return answer_bytes(GONE, OK, 0)
 
 
-def film_frame(port, tick, width, height, pixels):
-    """Returns a frame as a film of form 1 has it."""
-    return FRAME_HEAD.pack(b"F", port, tick, width, height) + pixels
+def film_frame(port, tick, width, height, pixels, _=None):
+    """Returns a picture as a frame, as a film of form 1 has it."""
+    return FRAME_HEAD.pack(FRAME, port, tick, width, height) + pixels
 
 
-def film_frames(data):
-    """Yields the frames that stand in `data`, as a film of form 1 has them: each with its port, its tick, its sides and its pixels."""
-    at = 0
+def band(port, tick, width, height, pixels, before):
+    """Returns a picture as the rows from the first to the last one that differs from those of the picture `before`, or as a frame where
+    that is None."""
+    if before is None:
+        return film_frame(port, tick, width, height, pixels)
+    size = 4 * width
+    rows = [at for at in range(0, len(pixels), size) if pixels[at : at + size] != before[at : at + size]]
+    first, end = rows[0], rows[-1] + size
+    head = FRAME_HEAD.pack(BAND, port, tick, width, height)
+    return head + ROWS_HEAD.pack(first // size, (end - first) // size) + pixels[first:end]
+
+
+def film_frames(data, last=None):
+    """Yields the pictures that stand in `data` as frames, or as bands, which are pasted: each with its port, its tick, its sides and its
+    pixels. `last` keeps the pixels of each port's last one, from one part of an output's frames to the next."""
+    last, at = {} if last is None else last, 0
     while at < len(data):
-        _, port, tick, width, height = FRAME_HEAD.unpack_from(data, at)
-        end = at + FRAME_HEAD.size + 4 * width * height
-        yield port, tick, width, height, data[at + FRAME_HEAD.size : end]
-        at = end
+        letter, port, tick, width, height = FRAME_HEAD.unpack_from(data, at)
+        at += FRAME_HEAD.size
+        first, count = 0, height
+        if letter == BAND:
+            first, count = ROWS_HEAD.unpack_from(data, at)
+            at += ROWS_HEAD.size
+        size = 4 * width
+        rows = data[at : at + size * count]
+        at += size * count
+        if letter == BAND:
+            before = memoryview(last[port])
+            rows = b"".join((before[: size * first], rows, before[size * (first + count) :]))
+        last[port] = bytes(rows)
+        yield port, tick, width, height, last[port]
 
 
-def screen_frame(pixels):
-    """Returns the pixels of a frame as words of X R G B with the lowest byte first: B, G, R and X, which is 255 as the alpha."""
+def screen_picture(width, pixels, stride):
+    """Returns a picture as a framebuffer has it: rows `stride` bytes apart, of words of X R G B with the lowest byte first, which are B, G,
+    R and the alpha; zeros stand after each row."""
     turned = bytearray(pixels)
     turned[0::4], turned[2::4] = pixels[2::4], pixels[0::4]
-    return bytes(turned)
+    row, rest = 4 * width, bytes(stride - 4 * width)
+    return b"".join(turned[at : at + row] + rest for at in range(0, len(turned), row))
 
 
 def serve(source, sink, live):
@@ -251,7 +304,5 @@ def serve(source, sink, live):
         if len(data) < length:
             return at
         at += LENGTH + length
-        for client, answer in live.answers(data[0], data[1:]):
-            sink.write(framed(bytes([client]), answer))
-        sink.flush()
+        sink.write(b"".join(framed(bytes([client]), answer) for client, answer in live.answers(data[0], data[1:])))
 
