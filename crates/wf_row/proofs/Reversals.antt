@@ -126,7 +126,7 @@ one_reversed (r ∷ g ∷ b ∷ a ∷ []) len = refl
 one_reversed (r ∷ g ∷ b ∷ a ∷ x ∷ xs) len = absurd (omega arith)
 
 -- what holds of each byte
-each_append : (P : ℕ → Type 0) (xs ys : List ℕ) → Each1 P xs → Each1 P ys → Each1 P (xs ++ ys)
+pub each_append : (P : ℕ → Type 0) (xs ys : List ℕ) → Each1 P xs → Each1 P ys → Each1 P (xs ++ ys)
 each_append P [] ys x y = y
 each_append P (a ∷ xs) ys x y = (x.0, each_append P xs ys x.1 y)
 

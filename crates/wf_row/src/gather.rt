@@ -1,9 +1,15 @@
 //! Pixels at chosen places of a source, one after the other. A pixel goes through an array of four bytes: a copy from
 //! slice to slice would ask at each pixel whether the two overlap.
 
-ghost use Rattle.std.specs.Prelude.{◌≡◌, ◌+◌, ◌*◌, ◌<◌, ◌≤◌, All, length};
+ghost use Rattle.std.specs.Prelude.{◌≡◌, ◌+◌, ◌*◌, ◌<◌, ◌≤◌, All, length, None};
 ghost use Rattle.std.specs.Simd.Lanes.{chunk};
+ghost use Rattle.wf_row.specs.Bytes.{blended};
 ghost use Rattle.wf_row.specs.Gather.{gathered_row, gathered_column};
+
+use crate::AlphaMode;
+use crate::copying::opaque_pixel;
+use crate::loading::load_pixel;
+use std::simd::prelude::*;
 
 /// Writes into `out` the pixels of the row `src` at the columns `columns`.
 pub fn gather_row(out: &mut [u8], src: &[u8], columns: &[u16])
@@ -15,6 +21,18 @@ pub fn gather_row(out: &mut [u8], src: &[u8], columns: &[u16])
         let at = 4 * i;
         let pixel = pixel_at(src, columns[i] as usize);
         out[at..at + 4].copy_from_slice(&pixel);
+    }
+}
+
+/// Lays the pixels of the row `src` at the columns `columns`, made opaque, over those of `row`.
+pub fn copy_gathered_row(row: &mut [u8], src: &[u8], columns: &[u16])
+    requires row { length row.old ≡ 4 * length columns.now }
+    requires within { All (λ c. 4 * c + 4 ≤ length src.now) columns.now }
+    ensures { row.new ≡ blended AlphaMode.Opaque None (gathered_row src.now columns.now) row.old }
+{
+    for i in 0..columns.len() {
+        let pixel = load_pixel(src, 4 * columns[i] as usize);
+        opaque_pixel(pixel).copy_to_slice(&mut row[4 * i..]);
     }
 }
 
