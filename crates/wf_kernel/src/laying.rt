@@ -1,25 +1,25 @@
 //! Lays one layer over pixels of a row of the target.
 
-ghost use Rattle.std.specs.Prelude.{◌≡◌, ◌≢◌, ℕ, ◌+◌, ◌*◌, ◌<◌, ◌≤◌, length, true, All, IsTrue, Some};
+ghost use Rattle.std.specs.Prelude.{◌≡◌, ◌≢◌, ℕ, ◌+◌, ◌*◌, ◌<◌, ◌≤◌, length, false, slice_index, true, All, IsTrue, Some};
 ghost use Rattle.wf_pixel.specs.declared.Format.TheVariants.{Rgba8Pre};
 ghost use Rattle.wf_pixel.specs.Arithmetic.{scaled};
 ghost use Rattle.wf_pixel.specs.Place.{size_of};
 ghost use Rattle.wf_image.specs.Bitmap.{read_at, drawn_row};
 ghost use Rattle.wf_kernel.specs.Bound.{bound_texel, layer_at};
 ghost use Rattle.wf_kernel.specs.Kept.{AreKept};
-ghost use Rattle.wf_kernel.specs.Placed.{is_crossed, source_colour, mask_value};
+ghost use Rattle.wf_kernel.specs.Placed.{across, is_crossed, source_colour, mask_value};
 ghost use Rattle.wf_kernel.specs.Laid.{laid, lifted_pixel, mode_of, fade_of, placed_texel, IsCopied, IsStretch};
 ghost use Rattle.wf_kernel.specs.Prepared.{IsWalk};
 
 use crate::ROW_BYTES;
 use crate::bound::BoundLayer;
 use crate::keeping::{COLUMNS, Kept, keep_block, keep_line};
-use crate::lines::{backward_line, fill_line, forward_line};
+use crate::lines::{backward_line, copy_gathered, fill_line, forward_line};
 use crate::masks::{fill_values, straight_values};
 use crate::placing::{Walk, down};
 use crate::stretch::{Stretch, stretch_of};
 use wf_image::Image;
-use wf_pixel::{Format, MOST_SIDE, Rotation, SIDE_LEN};
+use wf_pixel::{Format, MOST_SIDE, Rotation, SIDE_LEN, Size, turned};
 use wf_row::{AlphaMode, blend_masked_row, blend_row, copy_reversed_row};
 
 /// Lays a layer, by its place, over `width` pixels of row `y`, from column `first` on. The source's pixels go through what is
@@ -76,8 +76,57 @@ fn lay_stretch(
             lay_forward(part, line, layer, image, stretch);
         }
         Walk::Backward => lay_backward(part, layers, i, kept, spare, image, stretch),
-        Walk::Table => lay_by_lines(part, layers, i, kept, spare, image, stretch),
+        Walk::Table => {
+            let first = stretch.x as usize;
+            let places = &layer.table[first..first + stretch.len as usize];
+            lay_by_table(part, layers, i, kept, spare, image, places, stretch);
+        }
     }
+}
+
+/// The same, where the target's columns are at these places of the source.
+fn lay_by_table(
+    part: &mut [u8],
+    layers: &[BoundLayer],
+    i: usize,
+    kept: &mut [Kept],
+    spare: &mut [[u8; ROW_BYTES]],
+    image: &Image,
+    places: &[u16],
+    stretch: Stretch,
+)
+    requires count { length part.old ≡ 4 * stretch.len }
+    requires layer { i < length layers.now }
+    requires source { (layer_at layers.now i).source ≡ Some image.now }
+    requires stretch { IsStretch (layer_at layers.now i) stretch }
+    requires len { length places.now ≡ stretch.len }
+    requires places { (k : ℕ) → k < stretch.len
+        → slice_index places.now k ≡ across (layer_at layers.now i).turn (layer_at layers.now i).layer (stretch.across + k) }
+    requires kept { All (AreKept layers.now) kept.old }
+    ensures part { part.new ≡ laid stretch.len
+        (λ j. placed_texel (layer_at layers.now i) image.now (stretch.across + j) stretch.down) part.old }
+    ensures kept { All (AreKept layers.now) kept.new }
+{
+    if is_shown_once(&layers[i]) && is_copied(&layers[i], image) {
+        copy_gathered(part, &layers[i], image, places, stretch);
+    } else {
+        lay_by_lines(part, layers, i, kept, spare, image, stretch);
+    }
+}
+
+/// Whether rows of a layer's source are shown as rows, and each in one row of the target at most: it is not worth keeping.
+fn is_shown_once(layer: &BoundLayer) -> bool
+    ensures { IsTrue result → is_crossed layer.now.turn layer.now.layer ≡ false }
+{
+    let dest = layer.layer.dest;
+    let size = turned(
+        layer.turn,
+        Size {
+            w: dest.w,
+            h: dest.h,
+        },
+    );
+    !layer.crossed && size.h <= layer.layer.src.h
 }
 
 /// The same, where the source's pixels stand there from the last to the first.

@@ -1,19 +1,19 @@
 //! The pixels of a layer's source that a stretch of the target shows, one after the other.
 
-ghost use Rattle.std.specs.Prelude.{◌≡◌, ◌≢◌, ◌+◌, ◌*◌, ◌<◌, ◌≤◌, ◌≤ℤ◌, ℕ, length, nat_abs, pos, slice_index, Some};
+ghost use Rattle.std.specs.Prelude.{◌≡◌, ◌≢◌, ◌+◌, ◌*◌, ◌<◌, ◌≤◌, ◌≤ℤ◌, ℕ, false, length, nat_abs, pos, slice_index, Some};
 ghost use Rattle.wf_pixel.specs.declared.Format.TheVariants.{Rgba8Pre};
 ghost use Rattle.wf_image.specs.Bitmap.{pixel, drawn_row};
 ghost use Rattle.wf_row.specs.Gather.{reversed};
-ghost use Rattle.wf_kernel.specs.Placed.{across, source_colour};
+ghost use Rattle.wf_kernel.specs.Placed.{across, is_crossed, source_colour};
 ghost use Rattle.wf_kernel.specs.Prepared.{IsWalk};
-ghost use Rattle.wf_kernel.specs.Laid.{IsStretch};
+ghost use Rattle.wf_kernel.specs.Laid.{IsCopied, IsStretch, laid, placed_texel};
 
 use crate::bound::BoundLayer;
 use crate::placing::{Walk, down};
 use crate::stretch::Stretch;
 use wf_image::Image;
 use wf_pixel::{Format, Rect};
-use wf_row::{gather_column, gather_row, reverse_row};
+use wf_row::{copy_gathered_row, gather_column, gather_row, reverse_row};
 
 /// The part of a row of the source that is shown as it stands.
 #[inline(always)]
@@ -84,6 +84,28 @@ fn fill_gathered(
     } else {
         gather_row(line, row_part(image, 0, other, width), places);
     }
+}
+
+/// Lays the source's pixels, made opaque, over a part of a row of the target, whose columns are at these places of a row of the source.
+pub(crate) fn copy_gathered(
+    part: &mut [u8],
+    layer: &BoundLayer,
+    image: &Image,
+    places: &[u16],
+    stretch: Stretch,
+)
+    requires count { length part.old ≡ 4 * stretch.len }
+    requires source { layer.now.source ≡ Some image.now }
+    requires straight { is_crossed layer.now.turn layer.now.layer ≡ false }
+    requires copied { IsCopied layer.now image.now }
+    requires stretch { IsStretch layer.now stretch }
+    requires len { length places.now ≡ stretch.len }
+    requires places { (i : ℕ) → i < stretch.len → slice_index places.now i ≡ across layer.now.turn layer.now.layer (stretch.across + i) }
+    ensures { part.new ≡ laid stretch.len (λ i. placed_texel layer.now image.now (stretch.across + i) stretch.down) part.old }
+{
+    let other = down(layer.turn, &layer.layer, stretch.down);
+    let width = image.size().w;
+    copy_gathered_row(part, row_part(image, 0, other, width), places);
 }
 
 /// The first column of a rectangle that begins in an image.

@@ -38,4 +38,4 @@ pub returns-in-Backward-clause-part : goal.returns-in-Backward-clause-part
 returns-in-Backward-clause-part c = c.lay_backward.ensures.part ∙ shown (goal.at.returns-in-Backward-clause-part c).In-Some
 
 pub returns-in-Table-clause-part : goal.returns-in-Table-clause-part
-returns-in-Table-clause-part c = c.lay_by_lines.ensures.part ∙ shown (goal.at.returns-in-Table-clause-part c).In-Some
+returns-in-Table-clause-part c = c.lay_by_table.ensures.part ∙ shown (goal.at.returns-in-Table-clause-part c).In-Some
