@@ -3,10 +3,7 @@ use Rattle.std.specs.Prelude.{◌≡◌, ℕ, Bool, List, IfSome, IsSome, IsTrue
 use Rattle.wf_words.specs.Refusals.{◌>>=◌}
 use Rattle.wf_pixel.specs.Choice.{is_between}
 use Rattle.wf_stream.specs.Streams.{KeptStream, StoreView}
-use Rattle.wf_stream.specs.Names.{Recounts}
 use Rattle.wf_model.specs.Names.{core_names}
-use Rattle.wf_calls.specs.Codes.{is_out_of_memory}
-use Rattle.wf_calls.specs.Replies.{bare, told}
 use Rattle.wf_calls.specs.declared.call.Call.{Call}
 use Rattle.wf_calls.specs.declared.call.Call.TheVariants as call
 use Rattle.wf_calls.specs.declared.reply.Refusal.{Refusal}

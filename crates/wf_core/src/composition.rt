@@ -41,14 +41,14 @@ impl Core {
     }
 
     /// Returns what a context shows. BadDevice is no live device, BadHandle no context of it.
-    pub fn context(&self, device: u32, context: u32) -> Result<Shown, Code>
+    pub fn context(&self, device: u32, context: u32) -> Result<Shown<'_>, Code>
         ensures { result ≡ shown_context device context self.now }
     {
         self.objects.context(device, context)
     }
 
     /// Returns the active context with the least handle above `after`, of any device, and what it shows.
-    pub fn next(&self, after: u32) -> Option<(u32, Shown)>
+    pub fn next(&self, after: u32) -> Option<(u32, Shown<'_>)>
         ensures { result ≡ next_shown after self.now }
     {
         self.objects.next(after)

@@ -1,6 +1,6 @@
 //! What a port shows.
 
-ghost use Rattle.std.specs.Prelude.{◌≡◌, ◌≤◌, ◌<◌, ◌+◌, ◌∷◌, ◌++◌, filter_map, flat_map, is_some, length, map, option_map, option_to_list};
+ghost use Rattle.std.specs.Prelude.{◌≡◌, ◌≤◌, ◌<◌, ◌+◌, ◌∷◌, ◌++◌, filter_map, flat_map, is_some, length, map, option_map, option_to_list, IfSome};
 ghost use Rattle.std.specs.Option.{option_copied};
 ghost use Rattle.wf_words.specs.Keyed.{nth};
 ghost use Rattle.wf_stream.specs.Names.{HasRoom, NamesFit, Recounts, but_names};
@@ -68,17 +68,21 @@ fn push_layer(layers: &mut ArrayVec<Layer, MOST_INSERTED>, layer: Option<Layer>)
     }
 }
 
-/// A layer, and those of the pipelines of a port over it, by rising number.
-fn layers_of(number: u32, lowest: Layer, pipelines: &[Pipeline]) -> ArrayVec<Layer, MOST_INSERTED>
+/// Writes a layer, and those of the pipelines of a port over it, by rising number.
+fn write_layers(
+    layers: &mut ArrayVec<Layer, MOST_INSERTED>,
+    number: u32,
+    lowest: Layer,
+    pipelines: &[Pipeline],
+)
     requires { length pipelines.now ≤ MOST_PIPELINES }
-    ensures { result.items ≡ lowest ∷ filter_map (pipeline_layer number) pipelines.now }
+    ensures { layers.new.items ≡ lowest ∷ filter_map (pipeline_layer number) pipelines.now }
 {
-    let mut layers = ArrayVec::new();
+    layers.clear();
     layers.push(lowest);
     for pipeline in pipelines {
-        push_layer(&mut layers, pipeline_layer(number, *pipeline));
+        push_layer(layers, pipeline_layer(number, *pipeline));
     }
-    layers
 }
 
 /// Whether a port gives frames.
@@ -121,19 +125,22 @@ fn begin_pipelines(store: &mut Store, number: u32, pipelines: &mut [Pipeline])
     }
 }
 
-/// The scene of a port: its background, its screen, and its pipelines by rising number.
-fn scene_of_port(number: u32, pipelines: &[Pipeline], port: &Port) -> Scene
+/// Writes the scene of a port: its background, its screen, and its pipelines by rising number.
+fn write_scene_of(scene: &mut Scene, number: u32, pipelines: &[Pipeline], port: &Port)
     requires { length pipelines.now ≤ MOST_PIPELINES }
-    ensures { result ≡ scene_of_port number pipelines.now port.now }
+    ensures { scene.new ≡ scene_of_port number pipelines.now port.now }
 {
     let size = shown_size(port);
     let screen = mode_size(port.modes.as_slice(), 1);
-    Scene {
-        size,
-        turn: Rotation::R0,
-        background: port.committed.background,
-        layers: layers_of(number, screen_layer(number, screen, size), pipelines),
-    }
+    scene.size = size;
+    scene.turn = Rotation::R0;
+    scene.background = port.committed.background;
+    write_layers(
+        &mut scene.layers,
+        number,
+        screen_layer(number, screen, size),
+        pipelines,
+    );
 }
 
 /// The port of a number, which is counted from 1.
@@ -157,15 +164,19 @@ impl Display {
         }
     }
 
-    /// Returns the scene of a port, which is counted from 1: its background, its screen, scaled to the committed mode, and each
-    /// pipeline that is committed to it and shows a stream, by rising number. `None` is a port that was not declared, is off,
-    /// or has no display attached.
-    pub fn scene(&self, port: u32) -> Option<Scene>
-        ensures { result ≡ port_scene port self.now }
+    /// Writes into `scene` what a `port`, which is counted from 1, shows: its background, its screen, scaled to the committed mode, and
+    /// each pipeline that is committed to it and shows a stream, by rising number. Returns whether it shows anything: it does not where
+    /// it was not declared, is off, or has no display attached.
+    pub fn write_scene(&self, port: u32, scene: &mut Scene) -> bool
+        ensures shows { result ≡ is_some (port_scene port self.now) }
+        ensures scene { IfSome (port_scene port self.now) (λ shown. scene.new ≡ shown) }
     {
         match port_of(&self.ports, port) {
-            Some(found) if is_lit(found) => Some(scene_of_port(port, &self.pipelines, found)),
-            _ => None,
+            Some(found) if is_lit(found) => {
+                write_scene_of(scene, port, &self.pipelines, found);
+                true
+            }
+            _ => false,
         }
     }
 

@@ -1,6 +1,6 @@
 -- Calls on the buffers of streams, as the plain machine answers them.
 use Rattle.wf_machine.proofs.Common.{◌≡◌, ℕ, true, false, not, ◌&&◌, List, Option, Some, None, refl, sym, ap, ◌∙◌, option_map, and_parts}
-use Rattle.wf_machine.proofs.Common.{Reply, map, stream_step, unnamed, eqb-true, Size, Format, Rgba8, Rgba8Pre, Rgbx8, A8, same_format}
+use Rattle.wf_machine.proofs.Common.{Reply, map, stream_step, unnamed, same_format}
 use Rattle.wf_machine.proofs.Common.{same_size, Canvas, Buffers, acquired, blank, has_number}
 use Rattle.wf_machine.proofs.Common.{is_blocked, KeptStream, IsNumbered, stream_at, stream_of, State, bare, done, refusal, refused}
 use Rattle.wf_machine.proofs.Common.{acquirable, acquire_step, canvas_back, canvas_of, is_out_at_client, with_stream, is_target}

@@ -25,8 +25,7 @@ use Rattle.wf_model.specs.Frames.{is_short, all_begun}
 use Rattle.wf_model.specs.Objects.{Device}
 use Rattle.wf_model.specs.Outcome.{refuse, refuse_with}
 use Rattle.wf_objects.specs.Owners.{of_device}
-use Rattle.wf_objects.specs.declared.shown.Shown.{Shown}
-use Rattle.wf_objects.specs.Shows.{next_of, shown_context, shown_of}
+use Rattle.wf_objects.specs.Shows.{Shown, next_of, shown_context, shown_of}
 use Rattle.wf_machine.proofs.StreamsLatched.{KeepsShape}
 use Rattle.wf_machine.proofs.StreamsMapped.{buffers_mapped, changed_at, changed_keeps, latch_keeps}
 use Rattle.wf_words.specs.Each.{each_found}

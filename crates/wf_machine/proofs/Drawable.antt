@@ -1,6 +1,6 @@
 -- A scene whose layers fit the streams has a picture with the images that were taken of them.
 use Rattle.wf_machine.proofs.Common.{◌≡◌, ◌≢◌, ℕ, ◌<◌, Bool, true, false, cond, ◌==◌, ◌&&◌, List, [], ◌∷◌, Option, Some, None, refl, sym}
-use Rattle.wf_machine.proofs.Common.{ap, subst, ◌∙◌, arith, IsTrue, nat_le, nat_lt, ℤ, pos, negsuc, AllByRecursion, option_map, IfSome}
+use Rattle.wf_machine.proofs.Common.{ap, subst, ◌∙◌, arith, IsTrue, nat_le, nat_lt, ℤ, pos, AllByRecursion, option_map, IfSome}
 use Rattle.wf_machine.proofs.Common.{IsSomeAnd, and_parts, leb-true, ints, All-cons, All-nil, Size, Format, Rgba8, Rgba8Pre, Rgbx8, A8}
 use Rattle.wf_machine.proofs.Common.{has_sides, is_a8, is_side, IsDrawn, Bitmap, image_of, Buffers, HasShape, KeptStream, buffers_at}
 use Rattle.wf_machine.proofs.Common.{stream_at, Layer, Scene, holds_rect, LayerFits, Content, Images, AllFit}

@@ -2,7 +2,7 @@
 use Rattle.wf_machine.proofs.Common.{◌≡◌, ℕ, ◌+◌, ◌≤◌, Bool, true, false, ◌||◌, ◌==◌, List, [], ◌∷◌, ◌++◌, length, map, cond}
 use Rattle.wf_machine.proofs.Common.{Option, Some, None}
 use Rattle.wf_machine.proofs.Common.{refl, sym, ap, subst, ◌∙◌, arith, nat_le, nat_lt, ℤ, pos, negsuc, option_map, IfSome, and_parts}
-use Rattle.wf_machine.proofs.Common.{count_of, Size, Format, has_sides, is_side, Buffers, buffer_bytes, fresh, KeptStream}
+use Rattle.wf_machine.proofs.Common.{count_of, Size, Format, has_sides, is_side, Buffers, buffer_bytes, KeptStream}
 use Rattle.wf_machine.proofs.Common.{StoreView, buffers_at, change_stream, held, stream_at, unnamed, with_live_stream, JobKind, Reply}
 use Rattle.wf_machine.proofs.Common.{Frame}
 use Rattle.wf_machine.proofs.Common.{State, bare, done, refusal, refused, new_buffers, size_from, stream_new, stream_step, Inside}
@@ -10,7 +10,6 @@ use Rattle.wf_machine.proofs.Common.{FrameFits, IsOfTarget, KindFits, contents_o
 use Rattle.std.specs.Prelude.{◌&&◌}
 use Rattle.std.proofs.lemmas.Bool.{and_from, ltb-false}
 use Rattle.std.proofs.lemmas.List.Sums.{sum_by_push}
-use Rattle.wf_pixel.specs.Choice.{is_between}
 use Rattle.wf_life.specs.Handles.{is_full}
 use Rattle.wf_stream.specs.Buffers.{never}
 use Rattle.wf_stream.specs.Counts.{Counts}

@@ -3,7 +3,7 @@ use Rattle.wf_machine.proofs.Common.{◌≡◌, ℕ, ◌+◌, ◌<◌, true, fal
 use Rattle.wf_machine.proofs.Common.{flat_map, nat_tests, IfSome, Buffers, KeptStream, StoreView, change_stream, stream_at, stream_of}
 use Rattle.wf_machine.proofs.Common.{unnamed}
 use Rattle.wf_machine.proofs.Common.{Canvas, is_out_at_client, State, zero, suc, settle, not, acquired, ◌++◌, ◌||◌, cond, is_some, nat_lt}
-use Rattle.wf_machine.proofs.Common.{Size, Format, fresh, with_live_stream, all_names, own_names, FrameFits, Holds, Inside, IsSound}
+use Rattle.wf_machine.proofs.Common.{with_live_stream, all_names, own_names, FrameFits, Holds, Inside, IsSound}
 use Rattle.wf_machine.proofs.Common.{sizes_of, state_of}
 use Rattle.std.specs.Option.{IsSome}
 use Rattle.wf_stream.specs.Counts.{counted, times, without_count}

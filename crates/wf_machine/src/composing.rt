@@ -52,6 +52,8 @@ impl Parts {
         if self.is_busy() {
             return refuse(Code::Busy);
         }
-        self.begin_context(0, context, &shown, place)
+        let target = shown.target;
+        place.job_mut().scene.copy_from(shown.scene);
+        self.begin_context(0, context, target, place)
     }
 }

@@ -26,7 +26,6 @@ use crate::port::{Port, put_image, take_image};
 use crate::replies::refuse;
 use arrayvec::ArrayVec;
 use wf_calls::{Answer, Code, Job, JobKind, JobPlace, Refusal};
-use wf_core::Shown;
 use wf_image::{Canvas, Image};
 use wf_scene::Scene;
 use wf_stream::Store;
@@ -83,53 +82,51 @@ impl Parts {
             return refuse(Code::Busy);
         }
         match self.core.next(after) {
-            Some((handle, shown)) => self.begin_context(handle, handle, &shown, place),
+            Some((handle, shown)) => {
+                let target = shown.target;
+                place.job_mut().scene.copy_from(shown.scene);
+                self.begin_context(handle, handle, target, place)
+            }
             None => Answer::done(0),
         }
     }
 
-    /// Begins a frame of a context that is live, while none runs. A refusal has this value.
+    /// Begins a frame of a context that is live, while none runs. Its scene stands in the place already. A refusal has this value.
     pub(crate) fn begin_context(
         &mut self,
         value: u32,
         handle: u32,
-        shown: &Shown,
+        target: u32,
         place: &mut JobPlace,
     ) -> Answer
         requires empty { job_in place.old ≡ None }
         requires free { self.old.frame ≡ None }
         requires home { AreAtHome self.old.streams }
-        requires fits { IsComposable self.old.streams shown.now.target shown.now.scene }
-        ensures left { self.new
-            ≡ (started no_register self.old (begin_context value handle shown.now.target shown.now.scene self.old)).0 }
+        requires fits { IsComposable self.old.streams target place.old.job.scene }
+        ensures left { self.new ≡ (started no_register self.old (begin_context value handle target place.old.job.scene self.old)).0 }
         ensures settled { IsSettled self.new }
-        ensures answer { IsAnswer (started no_register self.old (begin_context value handle shown.now.target shown.now.scene self.old)).1
+        ensures answer { IsAnswer (started no_register self.old (begin_context value handle target place.old.job.scene self.old)).1
             (with_job result (job_in place.new)) }
     {
         self.prove_all_named();
-        if let Err(refusal) = self.target_ready(value, shown) {
+        if let Err(refusal) = self.target_ready(value, target, &place.job_mut().scene) {
             return Answer::refused(refusal);
         }
-        let kind = JobKind::Context {
-            handle,
-            target: shown.target,
-        };
-        self.start_frame(kind, 0, &shown.scene, handle, place)
+        self.start_frame(JobKind::Context { handle, target }, 0, handle, place)
     }
 
-    /// A frame of a context may be drawn into its target, which is kept. A refusal has this value.
-    fn target_ready(&self, value: u32, shown: &Shown) -> Result<(), Refusal>
-        requires kept { IsSome (buffers_at shown.now.target self.now.streams) }
+    /// A frame of a context with this scene may be drawn into its target, which is kept. A refusal has this value.
+    fn target_ready(&self, value: u32, target: u32, scene: &Scene) -> Result<(), Refusal>
+        requires kept { IsSome (buffers_at target self.now.streams) }
         requires home { AreAtHome self.now.streams }
-        ensures { IfSome (buffers_at shown.now.target self.now.streams)
-            (λ b. result ≡ target_ready value shown.now.target shown.now.scene b self.now) }
+        ensures { IfSome (buffers_at target self.now.streams) (λ b. result ≡ target_ready value target scene.now b self.now) }
     {
-        let Some(stream) = self.store.get(shown.target) else {
+        let Some(stream) = self.store.get(target) else {
             unreachable!()
         };
         let code = if stream.is_out() {
             Code::Busy
-        } else if !stream.roomy(names(&shown.scene, shown.target)) {
+        } else if !stream.roomy(names(scene, target)) {
             Code::NoBuffer
         } else if self.begun == u64::MAX {
             Code::Limit
@@ -184,34 +181,38 @@ impl Parts {
         let Some(mode) = self.display.mode(port) else {
             unreachable!()
         };
-        let Some(scene) = self.display.scene(port) else {
+        if !self.display.write_scene(port, &mut place.job_mut().scene) {
             unreachable!()
-        };
-        self.start_frame(JobKind::Port { port }, mode, &scene, port, place)
+        }
+        self.start_frame(JobKind::Port { port }, mode, port, place)
     }
 
-    /// Begins a frame that may begin, while none runs: the next images of its scene's streams go into its Job, which is put
-    /// in its place, and a value is answered.
+    /// Begins a frame that may begin, while none runs: the next images of the streams of the scene that stands in the place go into its
+    /// Job, which begins there, and a value is answered.
     fn start_frame(
         &mut self,
         kind: JobKind,
         mode: u32,
-        scene: &Scene,
         value: u32,
         place: &mut JobPlace,
     ) -> Answer
         requires free { self.old.frame ≡ None }
         requires few { self.old.begun < 2 ^ 64 - 1 }
-        requires may { MayStart kind mode scene.now self.old }
-        ensures left { self.new ≡ (start (beginning_of kind scene.now value self.old) self.old).0 }
+        requires may { MayStart kind mode place.old.job.scene self.old }
+        ensures left { self.new ≡ (start (beginning_of kind place.old.job.scene value self.old) self.old).0 }
         ensures settled { IsSettled self.new }
-        ensures answer { IsAnswer (start (beginning_of kind scene.now value self.old) self.old).1 (with_job result (job_in place.new)) }
+        ensures answer { IsAnswer (start (beginning_of kind place.old.job.scene value self.old) self.old).1
+            (with_job result (job_in place.new)) }
     {
         let next = place.job_mut();
         empty(&mut next.contents);
         let mut shapes = ArrayVec::new();
-        latch_scene(&mut self.store, scene, &mut next.contents, &mut shapes);
-        next.scene.copy_from(scene);
+        latch_scene(
+            &mut self.store,
+            &next.scene,
+            &mut next.contents,
+            &mut shapes,
+        );
         let image = take_target(&mut self.store, &mut self.ports, kind, mode);
         self.core.prove_few_names();
         self.display.prove_few_names();

@@ -1,15 +1,20 @@
 -- What contexts show to those who compose them.
-use Rattle.std.specs.Prelude.{ℕ, option_map, Option, Result, Ok}
+use Rattle.std.specs.Prelude.{ℕ, Bool, option_map, Option, Result, Ok}
 use Rattle.wf_words.specs.Refusals.{◌>>=◌, found_or}
 use Rattle.wf_words.specs.Keyed.{at_key}
 use Rattle.wf_calls.specs.declared.code.Code.{Code}
 use Rattle.wf_calls.specs.declared.code.Code.TheVariants as code
 use Rattle.wf_model.specs.Objects.{Context, CoreState}
 use Rattle.wf_model.specs.Frames.{next_context}
-use Rattle.wf_objects.specs.declared.shown.Shown.{Shown}
+use Rattle.wf_scene.specs.declared.Scene.{Scene}
 use Rattle.wf_objects.specs.Owners.{of_device}
 
--- its target, whether it is active, and its committed scene
+-- what a context shows: its target, whether it is active, and its committed scene
+pub record Shown : Type 0 where
+  pub target : ℕ
+  pub active : Bool
+  pub scene : Scene
+
 abbrev pub shown_of : Context → Shown
 shown_of c = record { target = c.target; active = c.active; scene = c.committed }
 

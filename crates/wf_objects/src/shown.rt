@@ -8,30 +8,39 @@ ghost use Rattle.wf_objects.specs.Shows.{next_of, next_shown, shown_of, shown_co
 use crate::objects::Objects;
 use crate::registers::device_at;
 use crate::rows::Context;
+use std::marker::Model;
 use wf_calls::Code;
 use wf_scene::Scene;
 
 /// What a context shows: the number of the stream that it draws into, whether it is active, and its committed scene.
 #[derive(Drop)]
-pub struct Shown {
+pub struct Shown<'a> {
     pub target: u32,
     pub active: bool,
-    pub scene: Scene,
+    pub scene: &'a Scene,
+}
+
+impl<'a> Model for Shown<'a> {
+    ghost use Rattle.wf_objects.specs.Shows as plain;
+
+    ghost Value = { plain.Shown };
+
+    ghost view = { λ s. record { target = s.target; active = s.active; scene = s.scene.now } };
 }
 
 /// What a context shows.
-fn shown_of(context: &Context) -> Shown
+fn shown_of(context: &Context) -> Shown<'_>
     ensures { result ≡ shown_of context.now }
 {
     Shown {
         target: context.target,
         active: context.active,
-        scene: context.committed.copy(),
+        scene: &context.committed,
     }
 }
 
 /// What the context of a device shows.
-fn shown_in(contexts: &[Context], device: u32, handle: u32) -> Option<Shown>
+fn shown_in(contexts: &[Context], device: u32, handle: u32) -> Option<Shown<'_>>
     ensures { result ≡ option_map shown_of (of_device device handle contexts.now) }
 {
     for context in contexts {
@@ -43,7 +52,7 @@ fn shown_in(contexts: &[Context], device: u32, handle: u32) -> Option<Shown>
 }
 
 /// The first active context above a handle, and what it shows.
-fn next_in(contexts: &[Context], after: u32) -> Option<(u32, Shown)>
+fn next_in(contexts: &[Context], after: u32) -> Option<(u32, Shown<'_>)>
     ensures { result ≡ option_map next_of (next_context after contexts.now) }
 {
     for context in contexts {
@@ -56,7 +65,7 @@ fn next_in(contexts: &[Context], after: u32) -> Option<(u32, Shown)>
 
 impl Objects {
     /// Returns what a context shows. BadDevice is no live device, BadHandle no context of it.
-    pub fn context(&self, device: u32, context: u32) -> Result<Shown, Code>
+    pub fn context(&self, device: u32, context: u32) -> Result<Shown<'_>, Code>
         ensures { result ≡ shown_context device context self.now }
     {
         if device_at(&self.devices, device).is_none() {
@@ -66,7 +75,7 @@ impl Objects {
     }
 
     /// Returns the active context with the least handle above `after`, of any device, and what it shows.
-    pub fn next(&self, after: u32) -> Option<(u32, Shown)>
+    pub fn next(&self, after: u32) -> Option<(u32, Shown<'_>)>
         ensures { result ≡ next_shown after self.now }
     {
         next_in(&self.contexts, after)

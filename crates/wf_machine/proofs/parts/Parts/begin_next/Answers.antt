@@ -1,4 +1,5 @@
-use Rattle.wf_machine.proofs.Common.{ap, subst, ◌∙◌, sym, Fits, next_shown, AreAtHome, not_some}
+use Rattle.wf_machine.proofs.Common.{IsComposable, ap, subst, ◌∙◌, sym, Fits, next_shown, AreAtHome, not_some}
+use Rattle.wf_objects.specs.Shows.{Shown}
 use Rattle.wf_machine.proofs.ContextFrames.{next_fits}
 use Rattle.wf_machine.proofs.parts.Parts.begin_next.Goals as goal
 use Rattle.wf_machine.proofs.FrameBegunKeepsInvariant.{no_frame}
@@ -7,9 +8,11 @@ use Rattle.wf_machine.proofs.ImagesOfBegunFrame.{home_without}
 pub begin_context-requires-clause-fits : goal.begin_context-requires-clause-fits
 begin_context-requires-clause-fits c =
     let same = c.self.view_is in
-    next_fits c.args.self.now _ c.in-Some.handle c.in-Some.shown (c.in-Some.ensures
+    subst (λ scene. IsComposable c.args.self.now.streams c.shown.inside.target scene) (sym c.copy_from.ensures)
+    (subst (λ (s : Shown). IsComposable c.args.self.now.streams s.target s.scene) (sym c.shown.view_is)
+    (next_fits c.args.self.now _ c.in-Some.handle c.in-Some.shown (c.in-Some.ensures
     ∙ ap (λ s. next_shown c.args.after s.core) same) c.self.inside.store (ap (λ s. s.streams) same)
-    (subst (λ core. Fits core c.self.inside.store) (ap (λ s. s.core) same) c.self.invariant.holds.fits)
+    (subst (λ core. Fits core c.self.inside.store) (ap (λ s. s.core) same) c.self.invariant.holds.fits)))
 
 pub begin_context-requires-clause-home : goal.begin_context-requires-clause-home
 begin_context-requires-clause-home c =

@@ -1,6 +1,6 @@
 use Rattle.std.proofs.Common.{◌≡◌, ◌≤◌, ◌+◌, ◌∷◌, filter_map, length, take}
 use Rattle.wf_model.specs.Display.{pipeline_layer}
-use Rattle.wf_display.proofs.scenes.layers_of.Given as goal
+use Rattle.wf_display.proofs.scenes.write_layers.Given as goal
 
 -- the layers of the pipelines so far
 abbrev pub invariant-loop-pipeline : goal.invariant-loop-pipeline

@@ -2,7 +2,7 @@ use Rattle.std.proofs.Common.{◌∙◌, ◌++◌, ◌∷◌, ap, arith, sym, ta
 use Rattle.std.specs.Prelude.{filter_map, option_to_list}
 use Rattle.wf_model.specs.Display.{pipeline_layer}
 use Rattle.wf_display.proofs.PipelineLayersFit.{given_more}
-use Rattle.wf_display.proofs.scenes.layers_of.Goals as goal
+use Rattle.wf_display.proofs.scenes.write_layers.Goals as goal
 
 pub loop-pipeline-preserved : goal.loop-pipeline-preserved
 loop-pipeline-preserved c =
