@@ -250,7 +250,7 @@ impl Parts {
         if !self.is_of_running(job) {
             return refuse(Code::BadHandle);
         }
-        let Some(frame) = self.frame.take() else {
+        let Some(frame) = &self.frame else {
             unreachable!()
         };
         let kind = job.kind;
@@ -260,6 +260,7 @@ impl Parts {
         };
         deliver(&mut self.store, &mut self.ports, kind, frame.mode, image);
         end_names(&mut self.store, frame.contents.as_slice(), kind);
+        self.frame = None;
         Answer::done(0)
     }
 }

@@ -46,7 +46,7 @@ returns-then-not-is_of_running c =
 
 pub unreachable-requires : goal.unreachable-requires
 unreachable-requires c =
-    none_of c.self.inside c.job_mut-job.result.now (sym c.take.ensures.value ∙ c.in_default.is)
+    none_of c.self.inside c.job_mut-job.result.now (c.in_default.is)
     (was_running c.self.inside c.job_mut-job.result.now _ c.self.view_is (sym c.is_of_running.ensures ∙ c.if-not-is_of_running.false))
 
 pub bring_home-requires-clause-awaited : goal.bring_home-requires-clause-awaited
@@ -81,7 +81,7 @@ deliver-requires c =
     subst (λ image. IsDue c.bring_home.new.store.streams m.ports.items c.in-Some.frame.mode job.kind image) (sym own)
     (subst (λ ss. IsDue ss m.ports.items c.in-Some.frame.mode job.kind job.image) (sym (ap (λ v. v.streams) c.bring_home.ensures))
     (ending_due m job (was_running m job c.args.self.now c.self.view_is (sym c.is_of_running.ensures ∙ c.if-not-is_of_running.false))
-    c.self.invariant.holds c.in-Some.frame (sym c.take.ensures.value ∙ c.in-Some.is)))
+    c.self.invariant.holds c.in-Some.frame (c.in-Some.is)))
 
 pub end_names-requires : goal.end_names-requires
 end_names-requires c =
@@ -89,15 +89,15 @@ end_names-requires c =
     let job = c.job_mut-job.result.now in
     let f = c.in-Some.frame in
     let is = was_running m job c.args.self.now c.self.view_is (sym c.is_of_running.ensures ∙ c.if-not-is_of_running.false) in
-    let ran = sym c.take.ensures.value ∙ c.in-Some.is in
+    let ran = c.in-Some.is in
     let own = image_is_own c.in-Some-end.image (c.args.place.now.held) _ (says_held c.args.place.now c.requires)
     (sym c.in-Some-end.is ∙ c.end.ensures.image) in
-    let now : Inside = record m { store = c.deliver.new.store; ports = c.deliver.new.ports; frame = c.take.new.self } in
+    let now : Inside = record m { store = c.deliver.new.store; ports = c.deliver.new.ports; frame = None } in
     subst (λ cs. NamesFit (held_names cs job.kind) c.deliver.new.store) (sym c.as_slice.ensures.value)
     (ended_fit m now job f c.self.invariant ran (ran_kind m job is c.self.invariant.holds f ran)
     (ran_fits m job is c.self.invariant.holds f ran)
     (came_home m job c.in-Some-end.image c.bring_home.new.store c.deliver.new.store own c.bring_home.ensures c.deliver.ensures.store)
-    refl refl c.take.ensures.after)
+    refl refl refl)
 
 module _ (c : goal.After-done) where
   abbrev m : Inside
@@ -110,7 +110,7 @@ module _ (c : goal.After-done) where
   is = was_running m job c.args.self.now c.self.view_is (sym c.is_of_running.ensures ∙ c.if-not-is_of_running.false)
 
   ran : m.frame ≡ Some c.in-Some.frame
-  ran = sym c.take.ensures.value ∙ c.in-Some.is
+  ran = c.in-Some.is
 
   own : c.in-Some-end.image ≡ job.image
   own = image_is_own c.in-Some-end.image (c.args.place.now.held) _ (says_held c.args.place.now c.requires)
@@ -118,7 +118,7 @@ module _ (c : goal.After-done) where
 
   -- the machine before the store is told that the names ended
   abbrev now : Inside
-  now = record m { store = c.deliver.new.store; ports = c.deliver.new.ports; frame = c.take.new.self }
+  now = record m { store = c.deliver.new.store; ports = c.deliver.new.ports; frame = None }
 
   store_is : now.store ≡ record m.store { streams = delivered job.kind job.image (brought_home job.contents m.store.streams) }
   store_is = came_home m job c.in-Some-end.image c.bring_home.new.store c.deliver.new.store own c.bring_home.ensures
@@ -139,7 +139,7 @@ module _ (c : goal.After-done) where
 
   holds : Holds now
   holds = sound_ended m job is c.self.invariant.holds _ c.deliver.new.ports.items reply now refl refl refl refl refl
-      c.take.ensures.after ended
+      refl ended
 
   told : Renames (held_names c.in-Some.frame.contents.items job.kind) [] now.store c.end_names.new.store
   told =
@@ -150,15 +150,15 @@ pub invariant_of-self : goal.invariant_of-self
 invariant_of-self c =
     sound_untold (m c) (now c) (job c) c.in-Some.frame c.self.invariant (ran c)
     (ran_kind (m c) (job c) (is c) c.self.invariant.holds c.in-Some.frame (ran c))
-    (ran_fits (m c) (job c) (is c) c.self.invariant.holds c.in-Some.frame (ran c)) (store_is c) refl refl c.take.ensures.after
+    (ran_fits (m c) (job c) (is c) c.self.invariant.holds c.in-Some.frame (ran c)) (store_is c) refl refl refl
     (holds c) c.end_names.new.store (told c)
 
 pub returns : goal.returns
 returns c =
     of_job _ _ _ _ _ (job c) (job_stands c.args.place.now (job c) c.requires c.job_mut-job.ensures.job)
     (ap settled_so (left_ended (m c) (job c) (is c) c.self.invariant.holds _ _ (reply c) (now c) refl refl refl refl refl
-    c.take.ensures.after (ended c) c.args.self.now c.self.view_is)
+    refl (ended c) c.args.self.now c.self.view_is)
     ∙ ap (λ s. (s, reply c)) (sym (untold_seen (m c) (now c) (job c) c.in-Some.frame c.self.invariant (ran c)
     (ran_kind (m c) (job c) (is c) c.self.invariant.holds c.in-Some.frame (ran c))
-    (ran_fits (m c) (job c) (is c) c.self.invariant.holds c.in-Some.frame (ran c)) (store_is c) refl refl c.take.ensures.after
+    (ran_fits (m c) (job c) (is c) c.self.invariant.holds c.in-Some.frame (ran c)) (store_is c) refl refl refl
     (holds c) c.end_names.new.store (told c))))
