@@ -12,9 +12,11 @@ use Rattle.wf_stream.specs.Streams.{KeptStream, buffers_at}
 use Rattle.wf_calls.specs.declared.call.JobKind.{JobKind}
 use Rattle.wf_calls.specs.declared.call.JobKind.TheVariants as kind
 use Rattle.wf_model.specs.Fitting.{LayerFits}
-use Rattle.wf_model.specs.Frames.{Beginning, target_ready}
+use Rattle.wf_model.specs.Frames.{Beginning, content_shape, target_ready}
+use Rattle.wf_model.specs.Picture.{Images}
 use Rattle.wf_model.specs.Kept.{modes_of}
 use Rattle.wf_model.specs.State.{State, mode_size}
+use Rattle.wf_machine.specs.declared.frame.Frame.{Frame}
 use Rattle.wf_machine.specs.declared.port.Port.{Port}
 use Rattle.wf_machine.specs.Fitting.{IsOfMode, PortsFit}
 use Rattle.wf_machine.specs.Ports.{IsFrameImage, sizes_of}
@@ -45,6 +47,15 @@ MayDraw (kind.Port port) mode scene h = IsSomeAnd (nth port (modes_of h.display)
 pub record MayStart (k : JobKind) (mode : ℕ) (scene : Scene) (h : State) : Type 0 where
   pub draws : MayDraw k mode scene h
   pub layers : AllByRecursion (LayerFits h.streams) scene.layers.items
+
+-- what the machine keeps of a frame: its number, its kind and mode, and the size and format of its image and of each of its contents
+pub record IsKept (number : ℕ) (k : JobKind) (mode : ℕ) (image : Bitmap) (contents : Images) (f : Frame) : Type 0 where
+  pub number_is : f.number ≡ number
+  pub kind_is : f.kind ≡ k
+  pub mode_is : f.mode ≡ mode
+  pub size_is : f.size ≡ image.size
+  pub format_is : f.format ≡ image.format
+  pub contents_are : f.contents.items ≡ map content_shape contents
 
 -- the image of a frame can be taken, while no image of a port is away: the write buffer of its context's target is at home,
 -- and a buffer is free; or its port has the mode

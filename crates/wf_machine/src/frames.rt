@@ -1,22 +1,22 @@
 //! Frames: they begin, and they end.
 
 ghost use Rattle.std.specs.List.{AllByRecursion};
-ghost use Rattle.std.specs.Prelude.{◌≡◌, ◌<◌, ◌+◌, ◌-◌, ◌^◌, None, Ok, IfSome, IsSome, MatchOption, Some, length, map};
+ghost use Rattle.std.specs.Prelude.{◌≡◌, ◌<◌, ◌+◌, ◌-◌, ◌^◌, [], None, Ok, IfSome, IsSome, IsSomeAnd, MatchOption, Some, length, map};
 ghost use Rattle.wf_words.specs.Keyed.{nth};
 ghost use Rattle.wf_calls.specs.Parts.{no_register};
 ghost use Rattle.wf_calls.specs.Places.{job_in};
 ghost use Rattle.wf_calls.specs.Replies.{with_job};
-ghost use Rattle.wf_stream.specs.Streams.{buffers_at};
+ghost use Rattle.wf_stream.specs.Streams.{IsNumbered, buffers_at};
 ghost use Rattle.wf_words.specs.Whole.{count_of};
 ghost use Rattle.wf_model.specs.Display.{begun_display, port_scene};
 ghost use Rattle.wf_model.specs.Fitting.{LayerFits};
-ghost use Rattle.wf_model.specs.Frames.{begin_context, begin_next, begin_port, delivered, drawing, end, is_running, start, started};
-ghost use Rattle.wf_model.specs.Frames.{target_ready};
+ghost use Rattle.wf_model.specs.Frames.{begin_context, begin_next, begin_port, delivered, drawing, end, is_running, latch, next_images};
+ghost use Rattle.wf_model.specs.Frames.{scene_streams, start, started, target_ready};
 ghost use Rattle.wf_machine.specs.Fitting.{IsComposable, IsDue, PortsFit, is_of_running};
-ghost use Rattle.wf_machine.specs.Latching.{AreAtHome};
+ghost use Rattle.wf_machine.specs.Latching.{AreAtHome, AreShapedAs};
 ghost use Rattle.wf_machine.specs.Object.{IsAnswer, IsSettled, settled_so};
 ghost use Rattle.wf_machine.specs.Ports.{sizes_of};
-ghost use Rattle.wf_machine.specs.Starting.{IsReady, IsTargetOf, MayStart, beginning_of};
+ghost use Rattle.wf_machine.specs.Starting.{IsKept, IsReady, IsTargetOf, MayStart, beginning_of};
 
 use crate::frame::Frame;
 use crate::latching::{bring_home, empty, latch_scene, names};
@@ -27,6 +27,7 @@ use crate::replies::refuse;
 use arrayvec::ArrayVec;
 use wf_calls::{Answer, Code, Job, JobKind, JobPlace, Refusal};
 use wf_image::{Canvas, Image};
+use wf_pixel::{Format, Size};
 use wf_scene::Scene;
 use wf_stream::Store;
 
@@ -59,6 +60,47 @@ fn deliver(store: &mut Store, ports: &mut Vec<Port>, kind: JobKind, mode: u32, i
         }),
         JobKind::Port { port } => put_image(ports, (port - 1) as usize, mode, image),
     }
+}
+
+/// Takes what a frame needs: the next images of the streams of its scene into its contents, and then the image that it draws into. What
+/// the machine keeps of it is written where it stands.
+fn take_images(
+    store: &mut Store,
+    ports: &mut Vec<Port>,
+    frame: &mut Option<Frame>,
+    next: &mut Job,
+    number: u64,
+    kind: JobKind,
+    mode: u32,
+) -> Image
+    requires none { next.old.contents ≡ [] }
+    requires numbered { IsNumbered 0 store.old.streams store.old.numbered }
+    requires home { AreAtHome store.old.streams }
+    requires ready { IsReady (latch (scene_streams next.old.scene) store.old.streams) ports.old.items mode kind }
+    ensures scene { next.new.scene ≡ next.old.scene }
+    ensures contents { next.new.contents ≡ next_images (scene_streams next.old.scene) store.old.streams }
+    ensures shaped { AreShapedAs (latch (scene_streams next.old.scene) store.old.streams) next.new.contents }
+    ensures store { store.new
+        ≡ record store.old { streams = drawing kind (latch (scene_streams next.old.scene) store.old.streams) } }
+    ensures modes { map sizes_of ports.new.items ≡ map sizes_of ports.old.items }
+    ensures away { (f : Frame) → f.kind ≡ kind → f.mode ≡ mode → PortsFit (Some f) 1 ports.new.items }
+    ensures image { IsTargetOf (latch (scene_streams next.old.scene) store.old.streams) ports.old.items mode kind result }
+    ensures frame { IsSomeAnd frame.new (IsKept number kind mode result next.new.contents) }
+{
+    *frame = Some(Frame {
+        number,
+        kind,
+        mode,
+        size: Size { w: 1, h: 1 },
+        format: Format::A8,
+        contents: ArrayVec::new(),
+    });
+    let Some(kept) = frame else { unreachable!() };
+    latch_scene(store, &next.scene, &mut next.contents, &mut kept.contents);
+    let image = take_target(store, ports, kind, mode);
+    kept.size = image.size();
+    kept.format = image.format();
+    image
 }
 
 impl Parts {
@@ -189,13 +231,7 @@ impl Parts {
 
     /// Begins a frame that may begin, while none runs: the next images of the streams of the scene that stands in the place go into its
     /// Job, which begins there, and a value is answered.
-    fn start_frame(
-        &mut self,
-        kind: JobKind,
-        mode: u32,
-        value: u32,
-        place: &mut JobPlace,
-    ) -> Answer
+    fn start_frame(&mut self, kind: JobKind, mode: u32, value: u32, place: &mut JobPlace) -> Answer
         requires free { self.old.frame ≡ None }
         requires few { self.old.begun < 2 ^ 64 - 1 }
         requires may { MayStart kind mode place.old.job.scene self.old }
@@ -206,27 +242,24 @@ impl Parts {
     {
         let next = place.job_mut();
         empty(&mut next.contents);
-        let mut shapes = ArrayVec::new();
-        latch_scene(
+        let number = self.begun + 1;
+        let image = take_images(
             &mut self.store,
-            &next.scene,
-            &mut next.contents,
-            &mut shapes,
-        );
-        let image = take_target(&mut self.store, &mut self.ports, kind, mode);
-        self.core.prove_few_names();
-        self.display.prove_few_names();
-        begin_names(&mut self.store, shapes.as_slice(), kind);
-        self.begun += 1;
-        self.frame = Some(Frame {
-            number: self.begun,
+            &mut self.ports,
+            &mut self.frame,
+            next,
+            number,
             kind,
             mode,
-            size: image.size(),
-            format: image.format(),
-            contents: shapes,
-        });
-        place.begin(self.begun, kind, image);
+        );
+        self.core.prove_few_names();
+        self.display.prove_few_names();
+        let Some(frame) = &self.frame else {
+            unreachable!()
+        };
+        begin_names(&mut self.store, frame.contents.as_slice(), kind);
+        self.begun = number;
+        place.begin(number, kind, image);
         Answer::done(value)
     }
 
