@@ -1,28 +1,23 @@
 -- A stream that an app does not own stays as it was.
-use Rattle.std.proofs.Common.{◌≡◌, ◌∙◌, ℕ, Bool, true, false, cond, ◌==◌, Option, Some, None, refl, sym, ap}
+use Rattle.std.proofs.Common.{◌≡◌, ◌∙◌, ℕ, Bool, true, false, ◌==◌, Option, Some, None, refl, sym, ap}
 use Rattle.std.proofs.Common.{subst}
 use Rattle.std.proofs.lemmas.Bool.{eqb-true}
 use Rattle.wf_stream.specs.Streams.{KeptStream, has_number, stream_at, stream_of}
-use Rattle.wf_calls.specs.declared.code.Code.{Code}
 use Rattle.wf_calls.specs.Requests.{call_of}
 use Rattle.wf_calls.specs.declared.request.Request.{Request}
 use Rattle.wf_calls.specs.declared.request.Request.TheVariants as request
-use Rattle.wf_calls.specs.declared.call.Call.{Call}
 use Rattle.wf_calls.specs.declared.call.Call.TheVariants as call
-use Rattle.wf_image.specs.Bitmap.{Bitmap}
 use Rattle.wf_image.specs.declared.canvas.Canvas.{Canvas}
 use Rattle.wf_host.specs.Held.{canvas_of}
-use Rattle.wf_host.specs.Made.{not_made}
-use Rattle.wf_host.specs.declared.told.Told.{Told}
-use Rattle.wf_model.specs.Step.{step}
-use Rattle.wf_guard.specs.Apps.{is_found, is_of_apps, names_stream}
+use Rattle.wf_guard.specs.Apps.{is_found, names_stream}
 use Rattle.wf_guard.specs.Policy.{owns, refusal_of}
 use Rattle.wf_guard.specs.Requests.{is_for_apps}
-use Rattle.wf_guard.specs.Serving.{Asked, Served, allowed, discard, draw, drawn, given, lacks_place, made, plain, post, served, with_held}
+use Rattle.wf_guard.specs.Serving.{Asked, Served, served}
 use Rattle.wf_guard.proofs.ForApps.{acquires_own, destroys_own, kinds_let_through, let_through}
 use Rattle.wf_guard.proofs.Numbered.{AreApart, found_handle}
 use Rattle.wf_guard.proofs.OwnCanvases.{HoldsOwn, own_stream}
 use Rattle.wf_guard.proofs.Rest.{leaves_rest}
+use Rattle.wf_guard.proofs.Turns.{Keeps, asked_keeps}
 
 module _ (v : Served) (a : ℕ) (app : (a == 0) ≡ false) (n : ℕ) (s : KeptStream) (found : stream_at n v.machine.streams ≡ Some s)
     (apart : AreApart v.machine.streams) (foreign : owns a s.handle v.owned ≡ false) where
@@ -67,16 +62,6 @@ module _ (v : Served) (a : ℕ) (app : (a == 0) ≡ false) (n : ℕ) (s : KeptSt
     abbrev Stays : Served → Type 0
     Stays w = stream_at n w.machine.streams ≡ Some s
 
-    allows : (r : Request) (why : Option Code) → refusal_of a r v.owned ≡ why → Stays (allowed a r m v why).0
-    allows r (Some why) is = found
-    allows r None is = of_place (lacks_place a r v.held)
-      where
-        of_place : (b : Bool) → Stays (cond {A = Served × Told} b (v, not_made) (made a r v (step v.machine a (call_of r) m))).0
-        of_place true = found
-        of_place false =
-            (leaves_rest v.machine a (call_of r) m (kinds_let_through a app v.owned r is)).streams n s found live
-            (names_another r is (let_through a app v.owned r is))
-
     -- what the app holds is of another stream
     holds_another : (canvas : Canvas) → canvas_of a v.held ≡ Some canvas → (s.number == canvas.stream) ≡ false
     holds_another canvas holds = by_test (s.number == canvas.stream) refl
@@ -89,19 +74,18 @@ module _ (v : Served) (a : ℕ) (app : (a == 0) ≡ false) (n : ℕ) (s : KeptSt
             ∙ eqb-true s.number canvas.stream same) found in
             absurd (let no : true ≡ false = sym (own_stream a v own canvas s holds at live) ∙ foreign in cc)
 
-    gives : (c : Canvas → Call) → ((canvas : Canvas) → is_of_apps (c canvas) ≡ true)
-        → ((canvas : Canvas) → names_stream (c canvas) v.machine s ≡ (s.number == canvas.stream)) → (o : Option Canvas)
-        → canvas_of a v.held ≡ o → Stays (with_held (given a c m v) v o).0
-    gives c may names None is = found
-    gives c may names (Some canvas) is =
-        (leaves_rest v.machine a (c canvas) m (may canvas)).streams n s found live (names canvas ∙ holds_another canvas is)
-
-    paints : (paint : Bitmap → Bitmap) (o : Option Canvas) → Stays (with_held (drawn a paint v) v o).0
-    paints paint None = found
-    paints paint (Some canvas) = found
+    keeps : Keeps Stays v a m
+    keeps =
+        record {
+          here = found;
+          makes = λ r none place.
+              (leaves_rest v.machine a (call_of r) m (kinds_let_through a app v.owned r none)).streams n s found live
+              (names_another r none (let_through a app v.owned r none));
+          posts = λ canvas holds. (leaves_rest v.machine a (call.Post canvas) m refl).streams n s found live (holds_another canvas holds);
+          discards = λ canvas holds.
+              (leaves_rest v.machine a (call.Discard canvas) m refl).streams n s found live (holds_another canvas holds);
+          draws = λ paint canvas holds. found;
+        }
 
     pub stays_as_it_was : (x : Asked) → Stays (served a x m v).0
-    stays_as_it_was (plain r) = allows r (refusal_of a r v.owned) refl
-    stays_as_it_was post = gives call.Post (λ canvas. refl) (λ canvas. refl) (canvas_of a v.held) refl
-    stays_as_it_was discard = gives call.Discard (λ canvas. refl) (λ canvas. refl) (canvas_of a v.held) refl
-    stays_as_it_was (draw paint) = paints paint (canvas_of a v.held)
+    stays_as_it_was = asked_keeps Stays v a m keeps

@@ -1,26 +1,19 @@
 -- The handles of live streams rise in every state that turns lead to, and none is above the number of objects that were made.
-use Rattle.std.proofs.Common.{◌≡◌, ◌∙◌, ℕ, ◌+◌, ◌≤◌, Bool, true, false, cond, not, ◌==◌, ◌||◌, List, [], ◌∷◌, ◌++◌, Option, Some, None}
+use Rattle.std.proofs.Common.{◌≡◌, ◌∙◌, ℕ, ◌+◌, ◌≤◌, Bool, true, false, not, ◌==◌, ◌||◌, [], ◌∷◌, ◌++◌, Option}
 use Rattle.std.proofs.Common.{Ok, refl, sym, ap, subst, arith}
 use Rattle.wf_words.specs.Refusals.{◌>>=◌}
 use Rattle.wf_words.specs.Rising.{RisesTo, rises_to_filter, rises_to_higher, rises_to_more}
-use Rattle.wf_image.specs.Bitmap.{Bitmap}
-use Rattle.wf_image.specs.declared.canvas.Canvas.{Canvas}
 use Rattle.wf_life.specs.Handles.{is_full}
 use Rattle.wf_stream.specs.Buffers.{Buffers}
 use Rattle.wf_stream.specs.Streams.{has_no_room}
 use Rattle.wf_calls.specs.Codes.{is_ok_code}
 use Rattle.wf_calls.specs.Parts.{Register, no_register, of_device, of_display, register_of}
-use Rattle.wf_calls.specs.Requests.{call_of}
 use Rattle.wf_calls.specs.declared.call.Call.{Call}
 use Rattle.wf_calls.specs.declared.call.Call.TheVariants as call
 use Rattle.wf_calls.specs.declared.code.Code.{Code}
 use Rattle.wf_calls.specs.declared.code.Code.TheVariants as code
 use Rattle.wf_calls.specs.declared.ports.Ports.{Ports}
 use Rattle.wf_calls.specs.declared.reply.Reply.{Reply}
-use Rattle.wf_calls.specs.declared.request.Request.{Request}
-use Rattle.wf_host.specs.Held.{canvas_of}
-use Rattle.wf_host.specs.Made.{not_made}
-use Rattle.wf_host.specs.declared.told.Told.{Told}
 use Rattle.wf_model.specs.Calls.{core_call, display_call}
 use Rattle.wf_model.specs.Composing.{core_side, display_side, screen_of}
 use Rattle.wf_model.specs.Composition.{CoreSide}
@@ -32,14 +25,12 @@ use Rattle.wf_model.specs.Registers.{offered}
 use Rattle.wf_model.specs.State.{State}
 use Rattle.wf_model.specs.Step.{act, step}
 use Rattle.wf_model.specs.Streams.{may_make, new_buffers, stream_made, stream_step}
-use Rattle.wf_guard.specs.declared.clients.TheConstants.{OUTPUT}
 use Rattle.wf_guard.specs.declared.form.Form.{Form}
-use Rattle.wf_guard.specs.LiveStreams.{Turn, after_turn, after_turns, framed, is_of_frames, live_handles, lives_if, opened}
-use Rattle.wf_guard.specs.LiveStreams.Turn.{asks, frames}
-use Rattle.wf_guard.specs.Policy.{refusal_of}
-use Rattle.wf_guard.specs.Serving.{Asked, Served, allowed, discard, draw, drawn, given, lacks_place, made, plain, post, served, with_held}
+use Rattle.wf_guard.specs.LiveStreams.{Turn, after_turn, live_handles, lives_if, opened}
+use Rattle.wf_guard.specs.Serving.{Served}
 use Rattle.wf_guard.proofs.Lives.{step_lives}
 use Rattle.wf_guard.proofs.OwnersTrue.{always_true}
+use Rattle.wf_guard.proofs.Turns.{steps_keep}
 
 -- no call takes an object back from the number of those that were made
 
@@ -142,52 +133,15 @@ module _ (h : State) (client : ℕ) (m : Bool) (rise : HandlesRise h) where
       (higher (call.StreamDestroy stream))
   lives_rise c true ok = higher c
 
-  pub handles_rise : (c : Call) → HandlesRise (after c).0
+  handles_rise : (c : Call) → HandlesRise (after c).0
   handles_rise c =
       subst (λ ns. RisesTo (λ n. n) 0 ns (after c).0.made) (sym (step_lives h client c m))
       (lives_rise c (is_ok_code (after c).1.code) refl)
 
 -- over runs
 
-module _ (v : Served) (rise : HandlesRise v.machine) where
-  allows : (client : ℕ) (r : Request) (m : Bool) (why : Option Code) → HandlesRise (allowed client r m v why).0.machine
-  allows client r m (Some why) = rise
-  allows client r m None = of_place (lacks_place client r v.held)
-    where
-      of_place : (b : Bool)
-          → HandlesRise (cond {A = Served × Told} b (v, not_made) (made client r v (step v.machine client (call_of r) m))).0.machine
-      of_place true = rise
-      of_place false = handles_rise v.machine client m rise (call_of r)
+pub turn_rises : (t : Turn) (v : Served) → HandlesRise v.machine → HandlesRise (after_turn t v).machine
+turn_rises = steps_keep HandlesRise (λ h client c m rise. handles_rise h client m rise c)
 
-  gives : (client : ℕ) (c : Canvas → Call) (m : Bool) (o : Option Canvas) → HandlesRise (with_held (given client c m v) v o).0.machine
-  gives client c m None = rise
-  gives client c m (Some canvas) = handles_rise v.machine client m rise (c canvas)
-
-  paints : (client : ℕ) (paint : Bitmap → Bitmap) (o : Option Canvas) → HandlesRise (with_held (drawn client paint v) v o).0.machine
-  paints client paint None = rise
-  paints client paint (Some canvas) = rise
-
-  frames_rise : (c : Call) → HandlesRise (framed c v).machine
-  frames_rise c = of_test (is_of_frames c)
-    where
-      of_test : (b : Bool) → HandlesRise (cond b (record v { machine = (step v.machine OUTPUT c false).0 }) v).machine
-      of_test true = handles_rise v.machine OUTPUT false rise c
-      of_test false = rise
-
-  serves : (client : ℕ) (x : Asked) (m : Bool) → HandlesRise (served client x m v).0.machine
-  serves client (plain r) m = allows client r m (refusal_of client r v.owned)
-  serves client post m = gives client call.Post m (canvas_of client v.held)
-  serves client discard m = gives client call.Discard m (canvas_of client v.held)
-  serves client (draw paint) m = paints client paint (canvas_of client v.held)
-
-  pub turn_rises : (r : Turn) → HandlesRise (after_turn r v).machine
-  turn_rises (asks client x m) = serves client x m
-  turn_rises (frames c) = frames_rise c
-
-runs_rise : (rs : List Turn) (v : Served) → HandlesRise v.machine → HandlesRise (after_turns v rs).machine
-runs_rise [] v rise = rise
-runs_rise (r ∷ rs) v rise = runs_rise rs (after_turn r v) (turn_rises v rise r)
-
-pub handles_always_rise : (form : Form) (ports : Ports) (rs : List Turn) → HandlesRise (after_turns (opened form ports) rs).machine
-handles_always_rise form ports rs =
-    runs_rise rs (opened form ports) (subst (λ ns. RisesTo (λ n. n) 0 ns 0) (always_true form ports []) (omega arith))
+pub open_handles_rise : (form : Form) (ports : Ports) → HandlesRise (opened form ports).machine
+open_handles_rise form ports = subst (λ ns. RisesTo (λ n. n) 0 ns 0) (always_true form ports []) (omega arith)

@@ -1,3 +1,4 @@
+mod Turns
 mod Held
 mod Rest
 mod ForApps

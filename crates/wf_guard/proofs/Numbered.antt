@@ -8,24 +8,17 @@ use Rattle.wf_words.specs.Keyed.{is_in}
 use Rattle.wf_words.specs.Rising.{RisesTo, found_above, rises_to, rises_to_change, rises_to_filter, rises_to_more}
 use Rattle.wf_image.specs.Bitmap.{Bitmap}
 use Rattle.wf_image.specs.Contents.{image_of}
-use Rattle.wf_image.specs.declared.canvas.Canvas.{Canvas}
 use Rattle.wf_stream.specs.Buffers.{Buffers, acquired, posted}
 use Rattle.wf_stream.specs.Streams.{KeptStream, change_stream, stream_at, stream_of, unnamed}
 use Rattle.wf_calls.specs.Codes.{is_ok_code}
 use Rattle.wf_calls.specs.Parts.{Register, no_register, of_device, of_display, register_of}
 use Rattle.wf_calls.specs.declared.call.Call.{Call}
-use Rattle.wf_calls.specs.declared.call.Call.TheVariants as call
 use Rattle.wf_calls.specs.declared.call.JobKind.{JobKind}
 use Rattle.wf_calls.specs.declared.call.JobKind.TheVariants as kind
 use Rattle.wf_calls.specs.declared.code.Code.{Code}
 use Rattle.wf_calls.specs.declared.ports.Modes.{Modes}
 use Rattle.wf_calls.specs.declared.ports.Ports.{Ports}
-use Rattle.wf_calls.specs.Requests.{call_of}
 use Rattle.wf_calls.specs.declared.reply.Reply.{Reply}
-use Rattle.wf_calls.specs.declared.request.Request.{Request}
-use Rattle.wf_host.specs.Held.{canvas_of}
-use Rattle.wf_host.specs.Made.{not_made}
-use Rattle.wf_host.specs.declared.told.Told.{Told}
 use Rattle.wf_model.specs.Effects.{Effect, acquires, begins, composes, displays, effect, ends, makes, refuses, returns, tells, unnames}
 use Rattle.wf_model.specs.Frames.{brought_home, delivered, drawing, home_if, latch, latched_among, scene_streams}
 use Rattle.wf_model.specs.Names.{all_names, settle_if}
@@ -34,11 +27,9 @@ use Rattle.wf_model.specs.Registers.{offered}
 use Rattle.wf_model.specs.State.{State, screen}
 use Rattle.wf_model.specs.Step.{act, step}
 use Rattle.wf_guard.specs.declared.form.Form.{Form}
-use Rattle.wf_guard.specs.LiveStreams.{Turn, after_turn, after_turns, framed, is_of_frames, opened}
-use Rattle.wf_guard.specs.LiveStreams.Turn.{asks, frames}
-use Rattle.wf_guard.specs.declared.clients.TheConstants.{OUTPUT}
-use Rattle.wf_guard.specs.Policy.{refusal_of}
-use Rattle.wf_guard.specs.Serving.{Asked, Served, allowed, discard, draw, drawn, given, lacks_place, made, plain, post, served, with_held}
+use Rattle.wf_guard.specs.LiveStreams.{Turn, after_turn, after_turns, opened}
+use Rattle.wf_guard.specs.Serving.{Served}
+use Rattle.wf_guard.proofs.Turns.{runs_keep, steps_keep}
 
 -- the stream of a live handle is the stream of its number
 abbrev pub AreApart : List KeptStream → Type 0
@@ -162,46 +153,10 @@ unfolding step
 step_rises h client c m rise =
     settled (is_ok_code (act h c m).1.code) (act h c m).0 (effect_rises h c (act h c m) (effect h c m) rise)
 
--- requests
+-- over runs
 
-module _ (v : Served) (rise : NumbersRise v.machine) where
-  allows : (client : ℕ) (r : Request) (m : Bool) (why : Option Code) → NumbersRise (allowed client r m v why).0.machine
-  allows client r m (Some why) = rise
-  allows client r m None = of_place (lacks_place client r v.held)
-    where
-      of_place : (b : Bool)
-          → NumbersRise (cond {A = Served × Told} b (v, not_made) (made client r v (step v.machine client (call_of r) m))).0.machine
-      of_place true = rise
-      of_place false = step_rises v.machine client (call_of r) m rise
-
-  gives : (client : ℕ) (c : Canvas → Call) (m : Bool) (o : Option Canvas) → NumbersRise (with_held (given client c m v) v o).0.machine
-  gives client c m None = rise
-  gives client c m (Some canvas) = step_rises v.machine client (c canvas) m rise
-
-  paints : (client : ℕ) (paint : Bitmap → Bitmap) (o : Option Canvas) → NumbersRise (with_held (drawn client paint v) v o).0.machine
-  paints client paint None = rise
-  paints client paint (Some canvas) = rise
-
-  serves : (client : ℕ) (x : Asked) (m : Bool) → NumbersRise (served client x m v).0.machine
-  serves client (plain r) m = allows client r m (refusal_of client r v.owned)
-  serves client post m = gives client call.Post m (canvas_of client v.held)
-  serves client discard m = gives client call.Discard m (canvas_of client v.held)
-  serves client (draw paint) m = paints client paint (canvas_of client v.held)
-
-frames_rise : (v : Served) → NumbersRise v.machine → (c : Call) → NumbersRise (framed c v).machine
-frames_rise v rise c = of_test (is_of_frames c)
-  where
-    of_test : (b : Bool) → NumbersRise (cond b (record v { machine = (step v.machine OUTPUT c false).0 }) v).machine
-    of_test true = step_rises v.machine OUTPUT c false rise
-    of_test false = rise
-
-pub turn_rises : (r : Turn) (v : Served) → NumbersRise v.machine → NumbersRise (after_turn r v).machine
-turn_rises (asks client x m) v rise = serves v rise client x m
-turn_rises (frames c) v rise = frames_rise v rise c
-
-pub runs_rise : (rs : List Turn) (v : Served) → NumbersRise v.machine → NumbersRise (after_turns v rs).machine
-runs_rise [] v rise = rise
-runs_rise (r ∷ rs) v rise = runs_rise rs (after_turn r v) (turn_rises r v rise)
+pub turn_rises : (t : Turn) (v : Served) → NumbersRise v.machine → NumbersRise (after_turn t v).machine
+turn_rises = steps_keep NumbersRise step_rises
 
 -- screens are numbered first
 screens_rise : (low : ℕ) (ms : List Modes)
@@ -220,4 +175,5 @@ open_rising form ports =
 
 pub always_apart : (form : Form) (ports : Ports) (rs : List Turn) → AreApart (after_turns (opened form ports) rs).machine.streams
 always_apart form ports rs =
-    rise_apart (after_turns (opened form ports) rs).machine (runs_rise rs (opened form ports) (open_rising form ports))
+    rise_apart (after_turns (opened form ports) rs).machine
+    (runs_keep (λ v. NumbersRise v.machine) turn_rises rs (opened form ports) (open_rising form ports))

@@ -5,30 +5,23 @@ use Rattle.std.proofs.lemmas.Bool.{or_parts, eqb-true}
 use Rattle.std.specs.Prelude.{find, nat_le, length, option_and_then, slice_get}
 use Rattle.std.specs.List.{position, position_or_len, remove}
 use Rattle.wf_words.specs.Found.{get_position}
-use Rattle.wf_image.specs.Bitmap.{Bitmap}
 use Rattle.wf_image.specs.declared.canvas.Canvas.{Canvas}
 use Rattle.wf_stream.specs.declared.TheConstants.{MOST_STREAMS}
 use Rattle.wf_calls.specs.Replies.{given_canvas}
 use Rattle.wf_calls.specs.Requests.{call_of}
-use Rattle.wf_calls.specs.declared.call.Call.{Call}
 use Rattle.wf_calls.specs.declared.call.Call.TheVariants as call
-use Rattle.wf_calls.specs.declared.code.Code.{Code}
 use Rattle.wf_calls.specs.declared.ports.Ports.{Ports}
 use Rattle.wf_calls.specs.declared.request.Request.{Request}
 use Rattle.wf_host.specs.Held.{adding, canvas_of, holds, without}
-use Rattle.wf_host.specs.Made.{not_made}
 use Rattle.wf_host.specs.declared.canvases.Held.{Held}
-use Rattle.wf_host.specs.declared.told.Told.{Told}
 use Rattle.wf_model.specs.Step.{step}
 use Rattle.wf_wire.specs.Asked.{is_acquire}
-use Rattle.wf_guard.specs.declared.clients.TheConstants.{OUTPUT}
 use Rattle.wf_guard.specs.declared.form.Form.{Form}
-use Rattle.wf_guard.specs.LiveStreams.{Turn, after_turn, after_turns, framed, is_of_frames, opened}
-use Rattle.wf_guard.specs.LiveStreams.Turn.{asks, frames}
-use Rattle.wf_guard.specs.Policy.{refusal_of}
-use Rattle.wf_guard.specs.Serving.{Asked, Served, allowed, discard, draw, drawn, given, lacks_place, made, plain, post, served, with_held}
+use Rattle.wf_guard.specs.LiveStreams.{Turn, after_turn, after_turns, opened}
+use Rattle.wf_guard.specs.Serving.{Served, lacks_place, made}
 use Rattle.wf_guard.proofs.OwnCanvases.{AllHeld}
 use Rattle.wf_guard.proofs.Payloads.{gives_none}
+use Rattle.wf_guard.proofs.Turns.{Keeps, runs_keep, turn_keeps}
 
 module _ (a : ℕ) where
   -- none is held under the number
@@ -137,55 +130,32 @@ module _ (a : ℕ) where
         let none = or_parts (holds b v.held) (nat_le MOST_STREAMS (length v.held)) both in
         none_of v.held (ap (λ i. holds i v.held) (sym (eqb-true b a key)) ∙ none.0)
 
-    allows : (b : ℕ) (r : Request) (m : Bool) (why : Option Code) → OneOf (allowed b r m v why).0.held
-    allows b r m (Some why) = one
-    allows b r m None = of_place (lacks_place b r v.held) refl
+    without_one : (b : ℕ) → (b == a) ≡ true → NoneOf (without b v.held)
+    without_one b key = subst (λ i. NoneOf (without i v.held)) (sym (eqb-true b a key)) (left_none v.held one)
+
+    makes : (b : ℕ) (r : Request) (m : Bool) → lacks_place b r v.held ≡ false
+        → OneOf (made b r v (step v.machine b (call_of r) m)).0.held
+    makes b r m place = of_kind (is_acquire r) refl
       where
-        of_place : (t : Bool) → lacks_place b r v.held ≡ t
-            → OneOf (cond {A = Served × Told} t (v, not_made) (made b r v (step v.machine b (call_of r) m))).0.held
-        of_place true is = one
-        of_place false place = of_kind (is_acquire r) refl
-          where
-            of_kind : (t : Bool) → is_acquire r ≡ t → OneOf (made b r v (step v.machine b (call_of r) m)).0.held
-            of_kind true takes =
-                adds b (given_canvas (step v.machine b (call_of r) m).1.payload) v.held (free r b takes place) one
-            of_kind false other = rw (gives_none v.machine b r m other) one
+        of_kind : (t : Bool) → is_acquire r ≡ t → OneOf (made b r v (step v.machine b (call_of r) m)).0.held
+        of_kind true takes = adds b (given_canvas (step v.machine b (call_of r) m).1.payload) v.held (free r b takes place) one
+        of_kind false other = rw (gives_none v.machine b r m other) one
 
-    gives : (b : ℕ) (c : Canvas → Call) (m : Bool) (o : Option Canvas) → OneOf (with_held (given b c m v) v o).0.held
-    gives b c m None = one
-    gives b c m (Some canvas) =
-        adds b (given_canvas (step v.machine b (c canvas) m).1.payload) (without b v.held) (λ key. none_without b key)
-        (left_one b v.held one)
-      where
-        none_without : (b : ℕ) → (b == a) ≡ true → NoneOf (without b v.held)
-        none_without b key = subst (λ i. NoneOf (without i v.held)) (sym (eqb-true b a key)) (left_none v.held one)
+    goes : (b : ℕ) (o : Option Canvas) → OneOf (adding b o (without b v.held))
+    goes b o = adds b o (without b v.held) (without_one b) (left_one b v.held one)
 
-    paints : (b : ℕ) (paint : Bitmap → Bitmap) (o : Option Canvas) → OneOf (with_held (drawn b paint v) v o).0.held
-    paints b paint None = one
-    paints b paint (Some canvas) =
-        one_more (record { key = b; canvas = record canvas { image = paint canvas.image } }) (without b v.held)
-        (λ key. subst (λ i. NoneOf (without i v.held)) (sym (eqb-true b a key)) (left_none v.held one)) (left_one b v.held one)
+    keeps : (b : ℕ) (m : Bool) → Keeps (λ w. OneOf w.held) v b m
+    keeps b m =
+        record {
+          here = one;
+          makes = λ r none place. makes b r m place;
+          posts = λ canvas is. goes b (given_canvas (step v.machine b (call.Post canvas) m).1.payload);
+          discards = λ canvas is. goes b (given_canvas (step v.machine b (call.Discard canvas) m).1.payload);
+          draws = λ paint canvas is. goes b (Some (record canvas { image = paint canvas.image }));
+        }
 
-    frames_one : (c : Call) → OneOf (framed c v).held
-    frames_one c = of_test (is_of_frames c)
-      where
-        of_test : (b : Bool) → OneOf (cond b (record v { machine = (step v.machine OUTPUT c false).0 }) v).held
-        of_test true = one
-        of_test false = one
-
-    serves : (b : ℕ) (x : Asked) (m : Bool) → OneOf (served b x m v).0.held
-    serves b (plain r) m = allows b r m (refusal_of b r v.owned)
-    serves b post m = gives b call.Post m (canvas_of b v.held)
-    serves b discard m = gives b call.Discard m (canvas_of b v.held)
-    serves b (draw paint) m = paints b paint (canvas_of b v.held)
-
-    pub turn_one : (r : Turn) → OneOf (after_turn r v).held
-    turn_one (asks b x m) = serves b x m
-    turn_one (frames c) = frames_one c
-
-  runs_one : (rs : List Turn) (v : Served) → OneOf v.held → OneOf (after_turns v rs).held
-  runs_one [] v one = one
-  runs_one (r ∷ rs) v one = runs_one rs (after_turn r v) (turn_one v one r)
+    pub turn_one : (t : Turn) → OneOf (after_turn t v).held
+    turn_one = turn_keeps (λ w. OneOf w.held) v keeps (λ c moves. one)
 
   pub always_one : (form : Form) (ports : Ports) (rs : List Turn) → OneOf (after_turns (opened form ports) rs).held
-  always_one form ports rs = runs_one rs (opened form ports) tt
+  always_one form ports rs = runs_keep (λ v. OneOf v.held) (λ t v one. turn_one v one t) rs (opened form ports) tt

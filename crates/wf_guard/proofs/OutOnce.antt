@@ -30,9 +30,7 @@ use Rattle.wf_calls.specs.declared.reply.Reply.{Reply}
 use Rattle.wf_calls.specs.declared.request.Request.{Request}
 use Rattle.wf_calls.specs.declared.request.Request.TheVariants as request
 use Rattle.wf_host.specs.Held.{adding, canvas_of, without}
-use Rattle.wf_host.specs.Made.{not_made}
 use Rattle.wf_host.specs.declared.canvases.Held.{Held}
-use Rattle.wf_host.specs.declared.told.Told.{Told}
 use Rattle.wf_model.specs.Beginnings.{by_begin}
 use Rattle.wf_model.specs.Effects.{effect, frame_stays}
 use Rattle.wf_model.specs.Frames.{Beginning, brought_home, delivered, drawing, end, end_frame, is_of_frame, is_target, latch, same_kind}
@@ -42,18 +40,14 @@ use Rattle.wf_model.specs.Outcome.{refuse}
 use Rattle.wf_model.specs.Registers.{offered}
 use Rattle.wf_model.specs.State.{Running, State}
 use Rattle.wf_model.specs.Step.{act, step}
-use Rattle.wf_model.specs.Streams.{acquirable, acquire_step, canvas_back, is_out_at_client, may_make}
+use Rattle.wf_model.specs.Streams.{acquirable, acquire_step, is_out_at_client, may_make}
 use Rattle.wf_model.specs.Streams.{new_buffers, stream_destroy, stream_made}
 use Rattle.wf_model.specs.Streams.{stream_step, with_stream}
 use Rattle.wf_model.specs.Streams as model
 use Rattle.wf_guard.specs.declared.clients.TheConstants.{OUTPUT}
 use Rattle.wf_guard.specs.declared.form.Form.{Form}
-use Rattle.wf_guard.specs.LiveStreams.{Turn, after_turn, after_turns, framed, is_of_frames, opened}
-use Rattle.wf_guard.specs.LiveStreams.Turn.{asks, frames}
-use Rattle.wf_guard.specs.Policy.{refusal_of}
-use Rattle.wf_guard.specs.Serving.{Asked, Served, allowed, discard, draw, drawn, lacks_place, made}
-use Rattle.wf_guard.specs.Serving.{owned_by, plain, post, served, with_held}
-use Rattle.wf_guard.specs.Serving as serving
+use Rattle.wf_guard.specs.LiveStreams.{Turn, after_turn, after_turns, is_of_frames, opened}
+use Rattle.wf_guard.specs.Serving.{Served}
 use Rattle.wf_guard.proofs.ForApps.{begins_none}
 use Rattle.wf_guard.proofs.Numbered.{NumbersRise, open_rising, rise_apart, turn_rises}
 use Rattle.wf_guard.proofs.OwnCanvases.{acquirable_is}
@@ -61,6 +55,7 @@ use Rattle.wf_guard.proofs.Outs.{IsFree, StaysOut, begun_target, changed_out, dr
 use Rattle.wf_guard.proofs.Outs.{settled_out, taken_is_out, unnamed_keeps}
 use Rattle.wf_guard.proofs.Payloads.{given, gives_acquired, gives_none}
 use Rattle.wf_guard.proofs.Spared.{still, untouched}
+use Rattle.wf_guard.proofs.Turns.{Keeps, runs_keep, turn_keeps}
 
 -- what is held, by the numbers of its streams
 
@@ -545,48 +540,26 @@ module _ (v : Served) (rise : NumbersRise v.machine) (once : IsOutOnce v) where
       rw (gives_none v.machine b r m refl) (steadily v.machine (step v.machine b (call_of r) m).0 v.held
       (request_steady v.machine b r m rests) once)
 
-  allows : (b : ℕ) (r : Request) (m : Bool) (o : Option Code) → refusal_of b r v.owned ≡ o → IsOutOnce (allowed b r m v o).0
-  allows b r m (Some why) is = once
-  allows b r m None is = of_place (lacks_place b r v.held)
-    where
-      of_place : (t : Bool) → IsOutOnce (cond {A = Served × Told} t (v, not_made) (made b r v (step v.machine b (call_of r) m))).0
-      of_place true = once
-      of_place false = answered b r m (begins_none b v.owned r is)
+  taken_by : (b : ℕ) (canvas : Canvas) → canvas_of b v.held ≡ Some canvas → IsTaken b canvas v.held
+  taken_by b canvas is = taken b canvas v.held once.apart is
 
-  holding : (b : ℕ) (f : Canvas → Served × Told) → ((canvas : Canvas) → IsTaken b canvas v.held → IsOutOnce (f canvas).0)
-      → (o : Option Canvas)
-      → canvas_of b v.held ≡ o → IsOutOnce (with_held f v o).0
-  holding b f does None is = once
-  holding b f does (Some canvas) is = does canvas (taken b canvas v.held once.apart is)
+  keeps : (b : ℕ) (m : Bool) → Keeps IsOutOnce v b m
+  keeps b m =
+      record {
+        here = once;
+        makes = λ r none place. answered b r m (begins_none b v.owned r none);
+        posts = λ canvas is. posts v.machine v.held once b canvas (taken_by b canvas is) b m;
+        discards = λ canvas is. discards v.machine v.held once b canvas (taken_by b canvas is) b m;
+        draws = λ paint canvas is. put_back v.machine v.held once b canvas (taken_by b canvas is) (paint canvas.image);
+      }
 
-  serves : (b : ℕ) (x : Asked) (m : Bool) → IsOutOnce (served b x m v).0
-  serves b (plain r) m = allows b r m (refusal_of b r v.owned) refl
-  serves b post m =
-      holding b (serving.given b call.Post m v) (λ canvas it. posts v.machine v.held once b canvas it b m) (canvas_of b v.held) refl
-  serves b discard m =
-      holding b (serving.given b call.Discard m v) (λ canvas it. discards v.machine v.held once b canvas it b m) (canvas_of b v.held) refl
-  serves b (draw paint) m =
-      holding b (drawn b paint v) (λ canvas it. put_back v.machine v.held once b canvas it (paint canvas.image)) (canvas_of b v.held) refl
-
-  frames_once : (c : Call) → IsOutOnce (framed c v)
-  frames_once c = of_test (is_of_frames c) refl
-    where
-      of_test : (b : Bool) → is_of_frames c ≡ b → IsOutOnce (cond b (record v { machine = (step v.machine OUTPUT c false).0 }) v)
-      of_test true moves = frame_once v.machine v.held once c moves
-      of_test false rests = once
-
-  pub turn_once : (r : Turn) → IsOutOnce (after_turn r v)
-  turn_once (asks b x m) = serves b x m
-  turn_once (frames c) = frames_once c
-
-runs_once : (rs : List Turn) (v : Served) → NumbersRise v.machine → IsOutOnce v → IsOutOnce (after_turns v rs)
-runs_once [] v rise once = once
-runs_once (r ∷ rs) v rise once = runs_once rs (after_turn r v) (turn_rises r v rise) (turn_once v rise once r)
+  pub turn_once : (t : Turn) → IsOutOnce (after_turn t v)
+  turn_once = turn_keeps IsOutOnce v keeps (frame_once v.machine v.held once)
 
 pub always_once : (form : Form) (ports : Ports) (rs : List Turn) → IsOutOnce (after_turns (opened form ports) rs)
 always_once form ports rs =
-    runs_once rs (opened form ports) (open_rising form ports)
-    (record { out = λ n is. absurd cc; apart = tt; target = λ n is. absurd cc })
+    (runs_keep (λ v. NumbersRise v.machine × IsOutOnce v) (λ t v both. (turn_rises t v both.0, turn_once v both.0 both.1 t)) rs
+    (opened form ports) (open_rising form ports, record { out = λ n is. absurd cc; apart = tt; target = λ n is. absurd cc })).1
 
 -- two clients hold write buffers of two streams
 pub held_apart : (a b : ℕ) → (b == a) ≡ false → (one two : Canvas) (hs : List Held) → AllApart hs → canvas_of a hs ≡ Some one

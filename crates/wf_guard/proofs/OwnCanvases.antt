@@ -12,34 +12,31 @@ use Rattle.wf_stream.specs.Streams.{KeptStream, handle_at, stream_at, stream_of}
 use Rattle.wf_calls.specs.Requests.{call_of}
 use Rattle.wf_calls.specs.declared.call.Call.{Call}
 use Rattle.wf_calls.specs.declared.call.Call.TheVariants as call
-use Rattle.wf_calls.specs.declared.code.Code.{Code}
 use Rattle.wf_calls.specs.declared.code.Code.TheVariants as code
 use Rattle.wf_calls.specs.declared.ports.Ports.{Ports}
 use Rattle.wf_calls.specs.declared.reply.Reply.{Reply}
 use Rattle.wf_calls.specs.declared.request.Request.{Request}
 use Rattle.wf_calls.specs.declared.request.Request.TheVariants as request
 use Rattle.wf_host.specs.Held.{adding, canvas_of, without}
-use Rattle.wf_host.specs.Made.{not_made}
 use Rattle.wf_host.specs.declared.canvases.Held.{Held}
-use Rattle.wf_host.specs.declared.told.Told.{Told}
 use Rattle.wf_model.specs.Outcome.{found, refuse}
 use Rattle.wf_model.specs.State.{State}
 use Rattle.wf_model.specs.Step.{step}
 use Rattle.wf_model.specs.Streams.{acquirable}
 use Rattle.wf_guard.specs.declared.form.Form.{Form}
 use Rattle.wf_guard.specs.declared.owners.Owned.{Owned}
-use Rattle.wf_guard.specs.LiveStreams.{Turn, after_turn, after_turns, framed, is_of_frames, opened}
-use Rattle.wf_guard.specs.LiveStreams.Turn.{asks, frames}
+use Rattle.wf_guard.specs.LiveStreams.{Turn, after_turn, after_turns, opened}
 use Rattle.wf_guard.specs.declared.clients.TheConstants.{OUTPUT}
 use Rattle.wf_guard.specs.Policy.{owns, refusal_of}
-use Rattle.wf_guard.specs.Serving.{Asked, Served, allowed, discard, draw, drawn, lacks_place, made}
-use Rattle.wf_guard.specs.Serving.{owned_by, plain, post, served, with_held}
+use Rattle.wf_guard.specs.Serving.{Served, drawn, made}
+use Rattle.wf_guard.specs.Serving.{owned_by}
 use Rattle.wf_guard.specs.Serving as serving
 use Rattle.wf_guard.proofs.ForApps.{acquires_own}
 use Rattle.wf_guard.proofs.Numbered.{NumbersRise, found_handle, number, open_rising, rise_apart, turn_rises}
 use Rattle.wf_guard.proofs.Origins.{step_comes, step_numbers}
 use Rattle.wf_guard.proofs.Owns.{stays}
 use Rattle.wf_guard.proofs.Payloads.{given, gives_acquired, gives_none, posts_back, discards_back}
+use Rattle.wf_guard.proofs.Turns.{Keeps, runs_keep, turn_keeps}
 
 -- what a client holds
 
@@ -174,23 +171,18 @@ module _ (a : ℕ) (app : (a == 0) ≡ false) (v : Served) (rise : NumbersRise v
       (acquired stream got.0 got.1 (acquires_own a app v.owned stream none_of)))
   comes b r m none canvas is key = absurd (let no : None ≡ Some canvas = sym (gives_none here b r m refl) ∙ is in cc)
 
-  allows : (b : ℕ) (r : Request) (m : Bool) (why : Option Code) → refusal_of b r v.owned ≡ why → HoldsOwn a (allowed b r m v why).0
-  allows b r m (Some why) is = own
-  allows b r m None is = of_place (lacks_place b r v.held)
-    where
-      of_place : (t : Bool) → HoldsOwn a (cond {A = Served × Told} t (v, not_made) (made b r v (step here b (call_of r) m))).0
-      of_place true = own
-      of_place false =
-          let x : State × Reply = step here b (call_of r) m in
-          adds a (λ canvas. IsOwn a x.0 (owned_by b r x.1 v.owned) canvas.stream) b (given x) (comes b r m is) v.held
-          (turns_into a (λ canvas. IsOwn a here v.owned canvas.stream) (λ canvas. IsOwn a x.0 (owned_by b r x.1 v.owned) canvas.stream)
-          (λ canvas. after_request b r m canvas.stream) v.held own)
+  makes : (b : ℕ) (r : Request) (m : Bool) → refusal_of b r v.owned ≡ None
+      → HoldsOwn a (made b r v (step here b (call_of r) m)).0
+  makes b r m none =
+      let x : State × Reply = step here b (call_of r) m in
+      adds a (λ canvas. IsOwn a x.0 (owned_by b r x.1 v.owned) canvas.stream) b (given x) (comes b r m none) v.held
+      (turns_into a (λ canvas. IsOwn a here v.owned canvas.stream) (λ canvas. IsOwn a x.0 (owned_by b r x.1 v.owned) canvas.stream)
+      (λ canvas. after_request b r m canvas.stream) v.held own)
 
-  gives : (b : ℕ) (c : Canvas → Call) (m : Bool)
-      → ((canvas other : Canvas) → given (step here b (c canvas) m) ≡ Some other → other ≡ canvas) → (o : Option Canvas)
-      → canvas_of b v.held ≡ o → HoldsOwn a (with_held (serving.given b c m v) v o).0
-  gives b c m back None is = own
-  gives b c m back (Some canvas) is =
+  gives : (b : ℕ) (c : Canvas → Call) (m : Bool) (canvas : Canvas)
+      → ((other : Canvas) → given (step here b (c canvas) m) ≡ Some other → other ≡ canvas) → canvas_of b v.held ≡ Some canvas
+      → HoldsOwn a (serving.given b c m v canvas).0
+  gives b c m canvas back is =
       let x : State × Reply = step here b (c canvas) m in
       adds a (λ kept. IsOwn a x.0 v.owned kept.stream) b (given x) returned (without b v.held)
       (without_all a (λ kept. IsOwn a x.0 v.owned kept.stream) b v.held
@@ -201,48 +193,38 @@ module _ (a : ℕ) (app : (a == 0) ≡ false) (v : Served) (rise : NumbersRise v
           → IsOwn a (step here b (c canvas) m).0 v.owned other.stream
       returned other came key =
           let its : canvas_of a v.held ≡ Some canvas = ap (λ i. canvas_of i v.held) (sym (eqb-true b a key)) ∙ is in
-          subst (λ (i : ℕ). IsOwn a (step here b (c canvas) m).0 v.owned i) (sym (ap (λ (y : Canvas). y.stream) (back canvas other came)))
+          subst (λ (i : ℕ). IsOwn a (step here b (c canvas) m).0 v.owned i) (sym (ap (λ (y : Canvas). y.stream) (back other came)))
           (after_call b (c canvas) m canvas.stream (held_is a (λ kept. IsOwn a here v.owned kept.stream) v.held canvas own its))
 
-  paints : (b : ℕ) (paint : Bitmap → Bitmap) (o : Option Canvas) → canvas_of b v.held ≡ o
-      → HoldsOwn a (with_held (drawn b paint v) v o).0
-  paints b paint None is = own
-  paints b paint (Some canvas) is =
+  paints : (b : ℕ) (paint : Bitmap → Bitmap) (canvas : Canvas) → canvas_of b v.held ≡ Some canvas → HoldsOwn a (drawn b paint v canvas).0
+  paints b paint canvas is =
       one_more a (λ kept. IsOwn a here v.owned kept.stream) b (record canvas { image = paint canvas.image })
       (λ key. held_is a (λ kept. IsOwn a here v.owned kept.stream) v.held canvas own
       (ap (λ i. canvas_of i v.held) (sym (eqb-true b a key)) ∙ is)) (without b v.held)
       (without_all a (λ kept. IsOwn a here v.owned kept.stream) b v.held own)
 
-  serves : (b : ℕ) (x : Asked) (m : Bool) → HoldsOwn a (served b x m v).0
-  serves b (plain r) m = allows b r m (refusal_of b r v.owned) refl
-  serves b post m = gives b call.Post m (λ canvas other. posts_back here b canvas other m) (canvas_of b v.held) refl
-  serves b discard m = gives b call.Discard m (λ canvas other. discards_back here b canvas other m) (canvas_of b v.held) refl
-  serves b (draw paint) m = paints b paint (canvas_of b v.held) refl
+  keeps : (b : ℕ) (m : Bool) → Keeps (HoldsOwn a) v b m
+  keeps b m =
+      record {
+        here = own;
+        makes = λ r none place. makes b r m none;
+        posts = λ canvas is. gives b call.Post m canvas (λ other. posts_back here b canvas other m) is;
+        discards = λ canvas is. gives b call.Discard m canvas (λ other. discards_back here b canvas other m) is;
+        draws = paints b;
+      }
 
-  frames_own : (c : Call) → HoldsOwn a (framed c v)
-  frames_own c = of_test (is_of_frames c)
-    where
-      of_test : (b : Bool) → HoldsOwn a (cond b (record v { machine = (step here OUTPUT c false).0 }) v)
-      of_test true =
-          turns_into a (λ kept. IsOwn a here v.owned kept.stream) (λ kept. IsOwn a (step here OUTPUT c false).0 v.owned kept.stream)
-          (λ kept. after_call OUTPUT c false kept.stream) v.held own
-      of_test false = own
-
-  pub turn_own : (r : Turn) → HoldsOwn a (after_turn r v)
-  turn_own (asks client x m) = serves client x m
-  turn_own (frames c) = frames_own c
+  pub turn_own : (t : Turn) → HoldsOwn a (after_turn t v)
+  turn_own =
+      turn_keeps (HoldsOwn a) v keeps (λ c moves. turns_into a (λ kept. IsOwn a here v.owned kept.stream)
+      (λ kept. IsOwn a (step here OUTPUT c false).0 v.owned kept.stream) (λ kept. after_call OUTPUT c false kept.stream) v.held own)
 
 -- over runs
 
-runs_own : (a : ℕ) → (a == 0) ≡ false → (rs : List Turn) (v : Served) → NumbersRise v.machine → HoldsOwn a v
-    → HoldsOwn a (after_turns v rs)
-runs_own a app [] v rise own = own
-runs_own a app (r ∷ rs) v rise own =
-    runs_own a app rs (after_turn r v) (turn_rises r v rise) (turn_own a app v rise own r)
-
 pub always_own : (a : ℕ) → (a == 0) ≡ false → (form : Form) (ports : Ports) (rs : List Turn)
     → HoldsOwn a (after_turns (opened form ports) rs)
-always_own a app form ports rs = runs_own a app rs (opened form ports) (open_rising form ports) tt
+always_own a app form ports rs =
+    (runs_keep (λ v. NumbersRise v.machine × HoldsOwn a v)
+    (λ t v both. (turn_rises t v both.0, turn_own a app v both.0 both.1 t)) rs (opened form ports) (open_rising form ports, tt)).1
 
 -- what an app holds, of a stream that lives, is of its own
 pub own_stream : (a : ℕ) (v : Served) → HoldsOwn a v → (canvas : Canvas) (s : KeptStream) → canvas_of a v.held ≡ Some canvas

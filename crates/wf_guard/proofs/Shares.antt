@@ -5,12 +5,8 @@ use Rattle.std.proofs.lemmas.Bool.{leb-false, ltb-false, or_parts, eqb-true}
 use Rattle.std.proofs.lemmas.List.Filters.{sum_by-filter_both}
 use Rattle.std.proofs.lemmas.List.Sums.{sum_by_push}
 use Rattle.std.specs.Prelude.{length, nat_le, sum_by}
-use Rattle.wf_image.specs.Bitmap.{Bitmap}
-use Rattle.wf_image.specs.declared.canvas.Canvas.{Canvas}
 use Rattle.wf_stream.specs.declared.TheConstants.{MOST_STREAMS}
 use Rattle.wf_calls.specs.Codes.{is_ok_code}
-use Rattle.wf_calls.specs.declared.call.Call.{Call}
-use Rattle.wf_calls.specs.declared.call.Call.TheVariants as call
 use Rattle.wf_calls.specs.declared.code.Code.{Code}
 use Rattle.wf_calls.specs.declared.code.Code.TheVariants as code
 use Rattle.wf_calls.specs.declared.ports.Ports.{Ports}
@@ -18,19 +14,15 @@ use Rattle.wf_calls.specs.declared.reply.Reply.{Reply}
 use Rattle.wf_calls.specs.declared.request.Request.{Request}
 use Rattle.wf_calls.specs.declared.request.Request.TheVariants as request
 use Rattle.wf_calls.specs.Requests.{call_of}
-use Rattle.wf_host.specs.Held.{canvas_of}
-use Rattle.wf_host.specs.Made.{not_made}
-use Rattle.wf_host.specs.declared.told.Told.{Told}
 use Rattle.wf_model.specs.Step.{step}
 use Rattle.wf_guard.specs.declared.form.Form.{Form}
 use Rattle.wf_guard.specs.declared.owners.Owned.{Owned}
-use Rattle.wf_guard.specs.LiveStreams.{Turn, after_turn, after_turns, framed, is_of_frames, opened}
-use Rattle.wf_guard.specs.LiveStreams.Turn.{asks, frames}
-use Rattle.wf_guard.specs.declared.clients.TheConstants.{OUTPUT}
+use Rattle.wf_guard.specs.LiveStreams.{Turn, after_turn, after_turns, opened}
 use Rattle.wf_guard.specs.Policy.{KeepsShare, forgotten, lacks_share, made_by, owned_after, owned_bytes, owned_streams, refusal_of, share}
 use Rattle.wf_guard.specs.Policy.{share_bytes}
 use Rattle.wf_guard.specs.Requests.{asked_bytes}
-use Rattle.wf_guard.specs.Serving.{Asked, Served, allowed, discard, draw, drawn, given, lacks_place, made, plain, post, served, with_held}
+use Rattle.wf_guard.specs.Serving.{Served}
+use Rattle.wf_guard.proofs.Turns.{Keeps, runs_keep, turn_keeps}
 
 -- no client passes its share
 abbrev AllKeep : List Owned → Type 0
@@ -96,7 +88,7 @@ after client (request.StreamQueue width height format depth) value owned none ke
 after client (request.StreamDestroy stream) value owned none keep = forgets stream owned keep
 after client _ value owned none keep = keep
 
--- requests
+-- over runs
 
 module _ (v : Served) (keep : AllKeep v.owned) where
   answered : (client : ℕ) (r : Request) (reply : Reply) → refusal_of client r v.owned ≡ None → (b : Bool)
@@ -104,48 +96,21 @@ module _ (v : Served) (keep : AllKeep v.owned) where
   answered client r reply none true = after client r reply.value v.owned none keep
   answered client r reply none false = keep
 
-  allows : (client : ℕ) (r : Request) (m : Bool) (why : Option Code) → refusal_of client r v.owned ≡ why
-      → AllKeep (allowed client r m v why).0.owned
-  allows client r m (Some why) is = keep
-  allows client r m None is = of_place (lacks_place client r v.held)
-    where
-      of_place : (b : Bool)
-          → AllKeep (cond {A = Served × Told} b (v, not_made) (made client r v (step v.machine client (call_of r) m))).0.owned
-      of_place true = keep
-      of_place false =
-          let reply : Reply = (step v.machine client (call_of r) m).1 in answered client r reply is (is_ok_code reply.code)
+  keeps : (client : ℕ) (m : Bool) → Keeps (λ w. AllKeep w.owned) v client m
+  keeps client m =
+      record {
+        here = keep;
+        makes = λ r none place. (let reply : Reply = (step v.machine client (call_of r) m).1 in
+            answered client r reply none (is_ok_code reply.code));
+        posts = λ canvas is. keep;
+        discards = λ canvas is. keep;
+        draws = λ paint canvas is. keep;
+      }
 
-  gives : (client : ℕ) (c : Canvas → Call) (m : Bool) (o : Option Canvas) → AllKeep (with_held (given client c m v) v o).0.owned
-  gives client c m None = keep
-  gives client c m (Some canvas) = keep
-
-  paints : (client : ℕ) (paint : Bitmap → Bitmap) (o : Option Canvas) → AllKeep (with_held (drawn client paint v) v o).0.owned
-  paints client paint None = keep
-  paints client paint (Some canvas) = keep
-
-  serves : (client : ℕ) (x : Asked) (m : Bool) → AllKeep (served client x m v).0.owned
-  serves client (plain r) m = allows client r m (refusal_of client r v.owned) refl
-  serves client post m = gives client call.Post m (canvas_of client v.held)
-  serves client discard m = gives client call.Discard m (canvas_of client v.held)
-  serves client (draw paint) m = paints client paint (canvas_of client v.held)
-
--- over runs
-
-frames_keep : (v : Served) → AllKeep v.owned → (c : Call) → AllKeep (framed c v).owned
-frames_keep v keep c = of_test (is_of_frames c)
-  where
-    of_test : (b : Bool) → AllKeep (cond b (record v { machine = (step v.machine OUTPUT c false).0 }) v).owned
-    of_test true = keep
-    of_test false = keep
-
-turn_keeps : (r : Turn) (v : Served) → AllKeep v.owned → AllKeep (after_turn r v).owned
-turn_keeps (asks client x m) v keep = serves v keep client x m
-turn_keeps (frames c) v keep = frames_keep v keep c
-
-runs_keep : (rs : List Turn) (v : Served) → AllKeep v.owned → AllKeep (after_turns v rs).owned
-runs_keep [] v keep = keep
-runs_keep (r ∷ rs) v keep = runs_keep rs (after_turn r v) (turn_keeps r v keep)
+  turn_keep : (t : Turn) → AllKeep (after_turn t v).owned
+  turn_keep = turn_keeps (λ w. AllKeep w.owned) v keeps (λ c moves. keep)
 
 pub always_keep : (form : Form) (ports : Ports) (rs : List Turn) → AllKeep (after_turns (opened form ports) rs).owned
 always_keep form ports rs =
-    runs_keep rs (opened form ports) (λ client. record { streams = omega arith; bytes = omega arith })
+    runs_keep (λ v. AllKeep v.owned) (λ t v keep. turn_keep v keep t) rs (opened form ports)
+    (λ client. record { streams = omega arith; bytes = omega arith })

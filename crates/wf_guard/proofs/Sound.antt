@@ -9,12 +9,13 @@ use Rattle.wf_guard.specs.declared.owners.Owned.{Owned}
 use Rattle.wf_guard.specs.LiveStreams.{AreMeasured, Turn, after_turn, after_turns, live_handles, opened}
 use Rattle.wf_guard.specs.Policy.{owns}
 use Rattle.wf_guard.specs.Serving.{Served}
-use Rattle.wf_guard.proofs.Handles.{HandlesRise, handles_always_rise}
+use Rattle.wf_guard.proofs.Handles.{HandlesRise, open_handles_rise}
 use Rattle.wf_guard.proofs.Handles as handles
-use Rattle.wf_guard.proofs.Numbered.{NumbersRise, open_rising, runs_rise, turn_rises}
-use Rattle.wf_guard.proofs.OneEach.{OneOf, always_one, turn_one}
-use Rattle.wf_guard.proofs.OwnCanvases.{HoldsOwn, always_own, turn_own}
+use Rattle.wf_guard.proofs.Numbered.{NumbersRise, open_rising, turn_rises}
+use Rattle.wf_guard.proofs.OneEach.{OneOf, turn_one}
+use Rattle.wf_guard.proofs.OwnCanvases.{HoldsOwn, turn_own}
 use Rattle.wf_guard.proofs.OwnersTrue.{always_measured, measured_true, turn_measured}
+use Rattle.wf_guard.proofs.Turns.{runs_keep}
 
 pub record IsSound (v : Served) : Type 0 where
   pub numbers : NumbersRise v.machine
@@ -27,21 +28,21 @@ pub turn_sound : (r : Turn) (v : Served) → IsSound v → IsSound (after_turn r
 turn_sound r v sound =
     record {
       numbers = turn_rises r v sound.numbers;
-      handles = handles.turn_rises v sound.handles r;
-      measured = turn_measured r v sound.measured;
+      handles = handles.turn_rises r v sound.handles;
+      measured = turn_measured v sound.measured r;
       one = λ a. turn_one a v (sound.one a) r;
       own = λ a app. turn_own a app v sound.numbers (sound.own a app) r;
     }
 
 pub always_sound : (form : Form) (ports : Ports) (rs : List Turn) → IsSound (after_turns (opened form ports) rs)
 always_sound form ports rs =
-    record {
-      numbers = runs_rise rs (opened form ports) (open_rising form ports);
-      handles = handles_always_rise form ports rs;
-      measured = always_measured form ports rs;
-      one = λ a. always_one a form ports rs;
-      own = λ a app. always_own a app form ports rs;
-    }
+    runs_keep IsSound turn_sound rs (opened form ports) (record {
+      numbers = open_rising form ports;
+      handles = open_handles_rise form ports;
+      measured = always_measured form ports [];
+      one = λ a. tt;
+      own = λ a app. tt;
+    })
 
 -- an owned stream is live
 

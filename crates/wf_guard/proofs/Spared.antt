@@ -14,7 +14,6 @@ use Rattle.wf_calls.specs.Replies.{bare, done, given_canvas, gives_back_canvas}
 use Rattle.wf_calls.specs.Requests.{call_of}
 use Rattle.wf_calls.specs.declared.call.Call.{Call}
 use Rattle.wf_calls.specs.declared.call.Call.TheVariants as call
-use Rattle.wf_calls.specs.declared.code.Code.{Code}
 use Rattle.wf_calls.specs.declared.code.Code.TheVariants as code
 use Rattle.wf_calls.specs.declared.part.Part.{Part}
 use Rattle.wf_calls.specs.declared.part.Part.TheVariants as part
@@ -23,9 +22,8 @@ use Rattle.wf_calls.specs.declared.request.Request.{Request}
 use Rattle.wf_calls.specs.declared.request.Request.TheVariants as request
 use Rattle.wf_host.specs.Held.{adding, canvas_of, without}
 use Rattle.wf_host.specs.declared.canvases.Held.{Held}
-use Rattle.wf_guard.specs.declared.owners.Owned.{Owned}
-use Rattle.wf_host.specs.Made.{not_made}
 use Rattle.wf_host.specs.declared.told.Told.{Told}
+use Rattle.wf_guard.specs.declared.owners.Owned.{Owned}
 use Rattle.wf_model.specs.Calls.{buffer_call, core_call, display_call, end_call, stream_call}
 use Rattle.wf_model.specs.Composing.{composed, core_side, display_side, displayed, screen_of}
 use Rattle.wf_model.specs.Composition.{CoreSide}
@@ -41,16 +39,17 @@ use Rattle.wf_model.specs.Streams.{stream_step, with_stream}
 use Rattle.wf_guard.specs.Alike.{HoldsApart, LooksAlike, Spares, made_of}
 use Rattle.wf_guard.specs.Policy.{owns, refusal_of}
 use Rattle.wf_guard.specs.Requests.{named_stream}
-use Rattle.wf_guard.specs.Serving.{Asked, Served, allowed, discard, draw, drawn, given, lacks_place, made, owned_by, plain, post, served}
+use Rattle.wf_guard.specs.Serving.{Asked, Served, discard, draw, drawn, given, made, owned_by, plain, post, served}
 use Rattle.wf_guard.specs.Serving.{with_held}
 use Rattle.wf_guard.proofs.ForApps.{begins_none}
-use Rattle.wf_guard.proofs.Held.{adds, leaves}
+use Rattle.wf_guard.proofs.Held.{adds, goes}
 use Rattle.wf_guard.proofs.LooksAlike.{changed, changed_seen, no_zero, out_same, seen_again, unnamed_outs}
 use Rattle.wf_guard.proofs.MadeOf.{same_made_of}
 use Rattle.wf_guard.proofs.Numbered.{found_handle, rise_apart}
 use Rattle.wf_guard.proofs.OwnCanvases.{own_stream}
 use Rattle.wf_guard.proofs.Seen.{outs, outs_changed, outs_more, outs_settled, seen_before, seen_unnamed}
 use Rattle.wf_guard.proofs.Sound.{IsSound, owned_there}
+use Rattle.wf_guard.proofs.Turns.{holder_keeps, request_keeps}
 
 -- the calls that make, end or change a stream by its name, and the end of a frame
 abbrev pub touches : Call → Bool
@@ -267,23 +266,21 @@ module _ (a : ℕ) (app : (a == 0) ≡ false) (v : Served) (sound : IsSound v) w
   alike_itself = record { owned = refl; streams = λ k own. refl; held = refl; out = λ canvas image at. refl; frame = refl }
 
   module _ (b : ℕ) (apart : (b == a) ≡ false) (m : Bool) where
+    makes_alike : (r : Request) → refusal_of b r v.owned ≡ None
+        → ((stream : ℕ) → named_stream r ≡ Some stream → owns a stream v.owned ≡ false)
+        → LooksAlike a v (made b r v (step h b (call_of r) m)).0
+    makes_alike r none spares =
+        let reply : Reply = (step h b (call_of r) m).1 in
+        let rests = begins_none b v.owned r none in
+        leaves_alike b (call_of r) m (still r rests) (moved r m rests spares) (owned_by b r reply v.owned)
+        (same_made_of a b apart r reply v.owned (λ stream destroys. spares stream (ap named_stream destroys)))
+        (adding b (given_canvas reply.payload) v.held) (adds b a apart (given_canvas reply.payload) v.held)
+
     pub request_alike : (r : Request)
         → (refusal_of b r v.owned ≡ None → (stream : ℕ) → named_stream r ≡ Some stream → owns a stream v.owned ≡ false)
         → LooksAlike a v (served b (plain r) m v).0
-    request_alike r spares = by_refusal (refusal_of b r v.owned) refl
-      where
-        by_refusal : (o : Option Code) → refusal_of b r v.owned ≡ o → LooksAlike a v (allowed b r m v o).0
-        by_refusal (Some why) is = alike_itself
-        by_refusal None is = by_place (lacks_place b r v.held)
-          where
-            by_place : (t : Bool) → LooksAlike a v (cond {A = Served × Told} t (v, not_made) (made b r v (step h b (call_of r) m))).0
-            by_place true = alike_itself
-            by_place false =
-                let reply : Reply = (step h b (call_of r) m).1 in
-                let rests = begins_none b v.owned r is in
-                leaves_alike b (call_of r) m (still r rests) (moved r m rests (spares is)) (owned_by b r reply v.owned)
-                (same_made_of a b apart r reply v.owned (λ stream destroys. spares is stream (ap named_stream destroys)))
-                (adding b (given_canvas reply.payload) v.held) (adds b a apart (given_canvas reply.payload) v.held)
+    request_alike r spares =
+        request_keeps (LooksAlike a v) v b alike_itself r m (λ none place. makes_alike r none (spares none))
 
     elsewhere : HoldsApart a b v → (canvas : Canvas) → canvas_of b v.held ≡ Some canvas → IsElsewhere canvas.stream
     elsewhere holds canvas at =
@@ -293,14 +290,12 @@ module _ (a : ℕ) (app : (a == 0) ≡ false) (v : Served) (sound : IsSound v) w
         }
 
     gives : (c : Canvas → Call) → ((canvas : Canvas) → moves_frame (c canvas) ≡ false)
-        → ((canvas : Canvas) → IsElsewhere canvas.stream → Unmoved (act h (c canvas) m).0) → HoldsApart a b v → (o : Option Canvas)
-        → canvas_of b v.held ≡ o → LooksAlike a v (with_held (given b c m v) v o).0
-    gives c rests moves holds None is = alike_itself
-    gives c rests moves holds (Some canvas) is =
+        → ((canvas : Canvas) → IsElsewhere canvas.stream → Unmoved (act h (c canvas) m).0) → HoldsApart a b v → (canvas : Canvas)
+        → canvas_of b v.held ≡ Some canvas → LooksAlike a v (given b c m v canvas).0
+    gives c rests moves holds canvas is =
         let reply : Reply = (step h b (c canvas) m).1 in
         leaves_alike b (c canvas) m (rests canvas) (moves canvas (elsewhere holds canvas is)) v.owned refl
-        (adding b (given_canvas reply.payload) (without b v.held))
-        (adds b a apart (given_canvas reply.payload) (without b v.held) ∙ leaves b a apart v.held)
+        (adding b (given_canvas reply.payload) (without b v.held)) (goes b a apart (given_canvas reply.payload) v.held)
 
     posts : (canvas : Canvas) → IsElsewhere canvas.stream → Unmoved (act h (call.Post canvas) m).0
     unfolding act
@@ -310,16 +305,22 @@ module _ (a : ℕ) (app : (a == 0) ≡ false) (v : Served) (sound : IsSound v) w
     unfolding act
     discards canvas is = back canvas discarded is
 
-    paints : (paint : Bitmap → Bitmap) (o : Option Canvas) → canvas_of b v.held ≡ o → LooksAlike a v (with_held (drawn b paint v) v o).0
-    paints paint None is = alike_itself
-    paints paint (Some canvas) is =
-        let held = adding b (Some (record canvas { image = paint canvas.image })) (without b v.held) in
-        let same : canvas_of a held ≡ canvas_of a v.held =
-        adds b a apart (Some (record canvas { image = paint canvas.image })) (without b v.held) ∙ leaves b a apart v.held in
-        record { owned = refl; streams = λ k own. refl; held = sym same; out = λ kept image at. refl; frame = refl }
+    paints : (paint : Bitmap → Bitmap) (canvas : Canvas) → LooksAlike a v (drawn b paint v canvas).0
+    paints paint canvas =
+        record {
+          owned = refl;
+          streams = λ k own. refl;
+          held = sym (goes b a apart (Some (record canvas { image = paint canvas.image })) v.held);
+          out = λ kept image at. refl;
+          frame = refl;
+        }
+
+    holding : (f : Canvas → Served × Told) → ((canvas : Canvas) → canvas_of b v.held ≡ Some canvas → LooksAlike a v (f canvas).0)
+        → LooksAlike a v (with_held f v (canvas_of b v.held)).0
+    holding = holder_keeps (LooksAlike a v) v b alike_itself
 
     pub spared_alike : (x : Asked) → Spares a b x v → LooksAlike a v (served b x m v).0
     spared_alike (plain r) spares = request_alike r (λ none. spares)
-    spared_alike post spares = gives call.Post (λ canvas. refl) posts spares (canvas_of b v.held) refl
-    spared_alike discard spares = gives call.Discard (λ canvas. refl) discards spares (canvas_of b v.held) refl
-    spared_alike (draw paint) spares = paints paint (canvas_of b v.held) refl
+    spared_alike post spares = holding (given b call.Post m v) (gives call.Post (λ canvas. refl) posts spares)
+    spared_alike discard spares = holding (given b call.Discard m v) (gives call.Discard (λ canvas. refl) discards spares)
+    spared_alike (draw paint) spares = holding (drawn b paint v) (λ canvas is. paints paint canvas)
