@@ -1,6 +1,5 @@
 -- What an app asks for leaves what another app sees as it was.
-use Rattle.std.proofs.Common.{◌≡◌, ◌∙◌, ℕ, ◌≤◌, Bool, true, false, ◌==◌, ◌&&◌, ◌||◌, List, [], ◌∷◌, Some, None}
-use Rattle.std.proofs.Common.{refl, sym, ap, subst, arith}
+use Rattle.std.proofs.Common.{◌≡◌, ◌∙◌, ℕ, ◌≤◌, Bool, true, false, ◌==◌, ◌&&◌, ◌||◌, List, [], ◌∷◌, Some, None, refl, sym, ap, subst, arith}
 use Rattle.std.proofs.lemmas.Bool.{eq-eqb, eqb-true}
 use Rattle.std.proofs.lemmas.Bool.Decides.{nat_tests}
 use Rattle.wf_words.specs.Rising.{Rises, rises_map, rises_to}
@@ -17,7 +16,8 @@ use Rattle.wf_guard.specs.Requests.{named_stream}
 use Rattle.wf_guard.specs.Serving.{Asked, Served, discard, draw, plain, post, served}
 use Rattle.wf_guard.proofs.ForApps.{acquires_own, destroys_own}
 use Rattle.wf_guard.proofs.Numbered.{found_handle, rise_apart}
-use Rattle.wf_guard.proofs.OutOnce.{IsOutOnce, held_apart}
+use Rattle.wf_guard.proofs.HeldApart.{held_apart}
+use Rattle.wf_guard.proofs.OutOnce.{IsOutOnce}
 use Rattle.wf_guard.proofs.OwnCanvases.{own_stream}
 use Rattle.wf_guard.proofs.OwnersTrue.{measured_true}
 use Rattle.wf_guard.proofs.Sound.{IsSound, owned_there}

@@ -1,6 +1,5 @@
 -- A stream that an app does not own stays as it was.
-use Rattle.std.proofs.Common.{◌≡◌, ◌∙◌, ℕ, Bool, true, false, ◌==◌, Option, Some, None, refl, sym, ap}
-use Rattle.std.proofs.Common.{subst}
+use Rattle.std.proofs.Common.{◌≡◌, ◌∙◌, ℕ, Bool, true, false, ◌==◌, Option, Some, None, refl, sym, ap, subst}
 use Rattle.std.proofs.lemmas.Bool.{eqb-true}
 use Rattle.wf_stream.specs.Streams.{KeptStream, has_number, stream_at, stream_of}
 use Rattle.wf_calls.specs.Requests.{call_of}

@@ -1,6 +1,6 @@
 -- The handles of live streams rise in every state that turns lead to, and none is above the number of objects that were made.
-use Rattle.std.proofs.Common.{◌≡◌, ◌∙◌, ℕ, ◌+◌, ◌≤◌, Bool, true, false, not, ◌==◌, ◌||◌, [], ◌∷◌, ◌++◌, Option}
-use Rattle.std.proofs.Common.{Ok, refl, sym, ap, subst, arith}
+use Rattle.std.proofs.Common.{◌≡◌, ◌∙◌, ℕ, ◌+◌, ◌≤◌, Bool, true, false, not, ◌==◌, ◌||◌, [], ◌∷◌, ◌++◌, Option, Ok, refl, sym, ap, subst}
+use Rattle.std.proofs.Common.{arith}
 use Rattle.wf_words.specs.Refusals.{◌>>=◌}
 use Rattle.wf_words.specs.Rising.{RisesTo, rises_to_filter, rises_to_higher, rises_to_more}
 use Rattle.wf_life.specs.Handles.{is_full}
@@ -18,8 +18,7 @@ use Rattle.wf_model.specs.Calls.{core_call, display_call}
 use Rattle.wf_model.specs.Composing.{core_side, display_side, screen_of}
 use Rattle.wf_model.specs.Composition.{CoreSide}
 use Rattle.wf_model.specs.DisplaySides.{DisplaySide}
-use Rattle.wf_model.specs.Effects.{Effect, acquires, begins, composes, displays, effect, ends, makes}
-use Rattle.wf_model.specs.Effects.{refuses, returns, tells, unnames}
+use Rattle.wf_model.specs.Effects.{Effect, acquires, begins, composes, displays, effect, ends, makes, refuses, returns, tells, unnames}
 use Rattle.wf_model.specs.Outcome.{Keeps, keeps_behind, refuse}
 use Rattle.wf_model.specs.Registers.{offered}
 use Rattle.wf_model.specs.State.{State}

@@ -18,10 +18,13 @@ mod Seen
 mod OneEach
 mod Sound
 mod MadeOf
+mod Found
+mod Pairs
 mod LooksAlike
 mod Spared
 mod Runs
 mod Outs
+mod HeldApart
 mod OutOnce
 mod Apart
 mod Leaving

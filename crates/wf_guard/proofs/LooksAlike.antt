@@ -1,23 +1,18 @@
 -- Two states that look alike to an app answer it the same, and look alike to it afterwards.
-use Rattle.std.proofs.Common.{◌≡◌, ◌∙◌, ℕ, ◌+◌, ◌≤◌, Bool, true, false, cond, not, ◌==◌, ◌&&◌, ◌||◌, List}
-use Rattle.std.proofs.Common.{[], ◌∷◌, ◌++◌, map, Option, Some, None}
-use Rattle.std.proofs.Common.{Ok, option_map, refl, sym, ap, subst, arith}
-use Rattle.std.proofs.lemmas.Bool.{eq-eqb, eqb-true, or_parts}
+use Rattle.std.proofs.Common.{◌≡◌, ◌∙◌, ℕ, ◌+◌, ◌≤◌, Bool, true, false, cond, not, ◌==◌, ◌&&◌, ◌||◌, List, [], ◌∷◌, ◌++◌, map, Option, Some}
+use Rattle.std.proofs.Common.{None, option_map, refl, sym, ap, subst, arith}
+use Rattle.std.proofs.lemmas.Bool.{eqb-true, or_parts}
 use Rattle.std.proofs.lemmas.Bool.Decides.{nat_tests}
 use Rattle.std.proofs.lemmas.List.Folds.{list_any-append}
-use Rattle.std.specs.Prelude.{find, is_some, length, nat_le}
-use Rattle.wf_words.specs.Found.{any_found}
-use Rattle.wf_words.specs.Refusals.{◌>>=◌}
-use Rattle.wf_words.specs.Keyed.{is_in}
-use Rattle.wf_words.specs.Rising.{RisesTo, low_under}
+use Rattle.std.specs.Prelude.{is_some, length, nat_le}
 use Rattle.wf_image.specs.Bitmap.{Bitmap}
 use Rattle.wf_image.specs.declared.canvas.Canvas.{Canvas}
 use Rattle.wf_life.specs.Handles.{is_full}
-use Rattle.wf_stream.specs.Buffers.{Buffers, acquired, discarded, is_blocked, posted}
-use Rattle.wf_stream.specs.Streams.{KeptStream, change_stream, has_no_room, stream_at, stream_of, unnamed}
+use Rattle.wf_stream.specs.Buffers.{Buffers, acquired, discarded, posted}
+use Rattle.wf_stream.specs.Streams.{KeptStream, has_no_room, stream_of, unnamed}
 use Rattle.wf_stream.specs.declared.TheConstants.{MOST_STREAMS}
 use Rattle.wf_calls.specs.Codes.{is_ok_code}
-use Rattle.wf_calls.specs.Replies.{bare, done, given_canvas, gives_back_canvas, gives_canvas, refusal, refused}
+use Rattle.wf_calls.specs.Replies.{bare, done, given_canvas, gives_back_canvas, gives_canvas, refused}
 use Rattle.wf_calls.specs.Requests.{call_of}
 use Rattle.wf_calls.specs.declared.call.Call.{Call}
 use Rattle.wf_calls.specs.declared.call.Call.TheVariants as call
@@ -28,268 +23,30 @@ use Rattle.wf_calls.specs.declared.request.Request.{Request}
 use Rattle.wf_calls.specs.declared.request.Request.TheVariants as request
 use Rattle.wf_host.specs.Held.{adding, canvas_of, holds, without}
 use Rattle.wf_host.specs.Made.{told_of}
-use Rattle.wf_host.specs.declared.canvases.Held.{Held}
 use Rattle.wf_host.specs.declared.told.Told.{Told}
-use Rattle.wf_model.specs.Frames.{is_target}
-use Rattle.wf_model.specs.Named.{in_behind}
 use Rattle.wf_model.specs.Names.{settle_if}
-use Rattle.wf_model.specs.Outcome.{refuse}
 use Rattle.wf_model.specs.State.{State}
 use Rattle.wf_model.specs.Step.{act, step}
-use Rattle.wf_model.specs.Streams.{acquirable, acquire_step, canvas_back, is_out_at_client, is_out_of, may_make}
-use Rattle.wf_model.specs.Streams.{new_buffers, stream_destroy, stream_made}
-use Rattle.wf_model.specs.Streams.{stream_step, with_stream}
+use Rattle.wf_model.specs.Streams.{is_out_at_client, may_make, new_buffers, stream_made, with_stream}
 use Rattle.wf_model.specs.Streams as model
 use Rattle.wf_wire.specs.Asked.{is_acquire}
 use Rattle.wf_guard.specs.declared.owners.Owned.{Owned}
 use Rattle.wf_guard.specs.Alike.{LooksAlike, MeetsSame, SharesSame}
 use Rattle.wf_guard.specs.Apps.{LooksSame, RoomSame}
 use Rattle.wf_guard.specs.LiveStreams.{live_handles}
-use Rattle.wf_guard.specs.Policy.{forgotten, made_by, owned_after, owns, refusal_of}
+use Rattle.wf_guard.specs.Policy.{made_by, owned_after, owns, refusal_of}
 use Rattle.wf_guard.specs.Requests.{asked_bytes, is_for_apps}
-use Rattle.wf_guard.specs.Serving.{Asked, Served, allowed, carried, discard, draw, drawn, given, lacks_place, made, plain, post}
-use Rattle.wf_guard.specs.Serving.{served, with_held}
+use Rattle.wf_guard.specs.Serving.{Asked, Served, allowed, carried, discard, draw, drawn, given, lacks_place, made, plain, post, served}
+use Rattle.wf_guard.specs.Serving.{with_held}
 use Rattle.wf_guard.proofs.ForApps.{acquires_own, destroys_own, kinds_let_through, let_through}
+use Rattle.wf_guard.proofs.Found.{adding_same, alone_adding, below, changed, changed_seen, found_live, holds_is, no_zero, out_same}
+use Rattle.wf_guard.proofs.Found.{seen_again, still_owned, taken_out, unnamed_out}
 use Rattle.wf_guard.proofs.MadeOf.{same_lacks, same_made, same_owns}
-use Rattle.wf_guard.proofs.Numbered.{rise_apart}
 use Rattle.wf_guard.proofs.OneEach.{left_none, none_held, none_of}
-use Rattle.wf_guard.proofs.Seen.{outs, outs_mapped, outs_more, outs_settled, seen_mapped, seen_more, seen_new, seen_settled}
-use Rattle.wf_guard.proofs.Seen.{seen_unnamed}
+use Rattle.wf_guard.proofs.Pairs.{Both, Pair, by_acquired, by_back, by_destroyed, by_new, settled}
+use Rattle.wf_guard.proofs.Seen.{outs_more, outs_settled, seen_more, seen_new, seen_unnamed}
 use Rattle.wf_guard.proofs.Sound.{IsSound, owned_there}
 use Rattle.wf_guard.proofs.Told.{told_same}
-
--- a call's state, settled, with its reply
-abbrev pub settled : State × Reply → State × Reply
-settled x = (settle_if (is_ok_code x.1.code) x.0, x.1)
-
--- no stream is under the handle 0
-pub no_zero : (k : ℕ) → (k == 0) ≡ true → (ss : List KeptStream) → stream_of k ss ≡ None
-no_zero k zero [] = refl
-no_zero k zero (s ∷ ss) = by_test (no_zero k zero ss) (s.handle == k) refl
-  where
-    by_test : stream_of k ss ≡ None → (b : Bool) → (s.handle == k) ≡ b → stream_of k (s ∷ ss) ≡ None
-    by_test rest true is = rw (is, zero) rest
-    by_test rest false is = rw is rest
-
-pub seen_again : (k : ℕ) (b : Bool) (h : State) → stream_of k (settle_if b h).streams ≡ stream_of k h.streams
-seen_again k b h = by_test (k == 0) refl
-  where
-    by_test : (z : Bool) → (k == 0) ≡ z → stream_of k (settle_if b h).streams ≡ stream_of k h.streams
-    by_test true zero = no_zero k zero (settle_if b h).streams ∙ sym (no_zero k zero h.streams)
-    by_test false live = seen_settled k live b h
-
--- what is held after an answer
-or_given : Option Canvas → Option Canvas → Option Canvas
-or_given None given = given
-or_given (Some canvas) given = Some canvas
-
-held_adding : (a : ℕ) (given : Option Canvas) (hs : List Held) → canvas_of a (adding a given hs) ≡ or_given (canvas_of a hs) given
-unfolding or_given
-held_adding a None hs = by_held (canvas_of a hs)
-  where
-    by_held : (o : Option Canvas) → o ≡ or_given o None
-    by_held None = refl
-    by_held (Some canvas) = refl
-held_adding a (Some canvas) [] = rw (eq-eqb a a refl) refl
-held_adding a (Some canvas) (h ∷ hs) = by_test (held_adding a (Some canvas) hs) (h.key == a) refl
-  where
-    by_test : canvas_of a (hs ++ record { key = a; canvas = canvas } ∷ []) ≡ or_given (canvas_of a hs) (Some canvas) → (b : Bool)
-        → (h.key == a) ≡ b
-        → canvas_of a ((h ∷ hs) ++ record { key = a; canvas = canvas } ∷ []) ≡ or_given (canvas_of a (h ∷ hs)) (Some canvas)
-    by_test rest true is = rw is refl
-    by_test rest false is = rw is rest
-
-holds_is : (a : ℕ) (hs : List Held) → holds a hs ≡ is_some (canvas_of a hs)
-holds_is a hs = any_found (λ (h : Held). h.key == a) hs ∙ by_found (find (λ h. h.key == a) hs)
-  where
-    by_found : (o : Option Held) → is_some o ≡ is_some (option_map (λ (h : Held). h.canvas) o)
-    by_found None = refl
-    by_found (Some h) = refl
-
--- what comes back depends on the running frame and on what is out
-pub out_same : (canvas : Canvas) (h g : State) → h.frame ≡ g.frame → outs canvas h.streams ≡ outs canvas g.streams
-    → is_out_at_client canvas h ≡ is_out_at_client canvas g
-out_same canvas h g frame out =
-    ap (λ f. not (is_target canvas.stream f) && outs canvas h.streams) frame
-    ∙ ap (λ b. not (is_target canvas.stream g.frame) && b) out
-
--- the stream of a number that was changed
-changed_at : (n : ℕ) (f : Buffers → Buffers) (s : KeptStream) (ss : List KeptStream) → stream_at n ss ≡ Some s
-    → stream_at n (change_stream n f ss) ≡ Some (record s { buffers = f s.buffers })
-changed_at n f s [] at = absurd cc
-changed_at n f s (t ∷ ss) at = by_test (changed_at n f s ss) (t.number == n) refl at
-  where
-    by_test : (stream_at n ss ≡ Some s → stream_at n (change_stream n f ss) ≡ Some (record s { buffers = f s.buffers })) → (b : Bool)
-        → (t.number == n) ≡ b → stream_at n (t ∷ ss) ≡ Some s
-        → stream_at n (change_stream n f (t ∷ ss)) ≡ Some (record s { buffers = f s.buffers })
-    by_test later true is at =
-        let same : t ≡ s = (let one : Some t ≡ Some s = rw is at at in cc) in
-        rw (is, is) (ap (λ (x : KeptStream). Some (record x { buffers = f x.buffers })) same)
-    by_test later false is at = rw (is, is) (later (rw is at at))
-
--- both are served the same, and look alike
-pub record Both (a : ℕ) (x y : Served × Told) : Type 0 where
-  pub told : x.1 ≡ y.1
-  pub alike : LooksAlike a x.0 y.0
-
--- how a call goes in two states, by what it meets there
-
-abbrev Pair : Type 1
-Pair = State × Reply → State × Reply → Type 0
-
-module _ (h g : State) (P : Pair) (refuses : (r : Reply) → is_ok_code r.code ≡ false → given_canvas r.payload ≡ None → P (h, r)
-    (g, r)) where
-  by_new : (new : Buffers) → P ((stream_made new h).0, bare (done (h.made + 1))) ((stream_made new g).0, bare (done (g.made + 1)))
-      → (wrong full other lacking : Bool) → full ≡ other
-      → P (stream_step h (refuse code.IllegalArgument wrong >>= (λ _. refuse code.Limit full >>= (λ _.
-      refuse code.OutOfMemory lacking >>= (λ _. Ok (stream_made new h))))))
-      (stream_step g (refuse code.IllegalArgument wrong >>= (λ _. refuse code.Limit other >>= (λ _.
-      refuse code.OutOfMemory lacking >>= (λ _. Ok (stream_made new g))))))
-  by_new new makes true full other lacking is = refuses (bare (refused (refusal code.IllegalArgument))) refl refl
-  by_new new makes false true true lacking is = refuses (bare (refused (refusal code.Limit))) refl refl
-  by_new new makes false true false lacking is = absurd cc
-  by_new new makes false false true lacking is = absurd cc
-  by_new new makes false false false true is = refuses (bare (refused (refusal code.OutOfMemory))) refl refl
-  by_new new makes false false false false is = makes
-
-  by_destroyed : (handle : ℕ)
-      → P (record h { streams = map (unnamed handle) h.streams }, bare (done 0)) (
-        record g {
-          streams = map
-              (unnamed handle) g.streams;
-        },
-        bare (done 0),
-      )
-      → (o : Option KeptStream) → stream_of handle h.streams ≡ o → stream_of handle g.streams ≡ o
-      → P (stream_step h (stream_destroy handle h)) (stream_step g (stream_destroy handle g))
-  by_destroyed handle ends None here there = rw (here, there) (refuses (bare (refused (refusal code.BadHandle))) refl refl)
-  by_destroyed handle ends (Some t) here there = rw (here, there) ends
-
-  by_taken : (t : KeptStream)
-      → P (with_stream t.number acquired h, gives_canvas (model.canvas_of t)) (
-        with_stream t.number acquired g,
-        gives_canvas
-            (model.canvas_of t),
-      )
-      → (out blocked : Bool)
-      → P (acquire_step h (refuse code.Busy out >>= (λ _. refuse code.NoBuffer blocked >>= (λ _. Ok t))))
-      (acquire_step g (refuse code.Busy out >>= (λ _. refuse code.NoBuffer blocked >>= (λ _. Ok t))))
-  by_taken t takes true blocked = refuses (bare (refused (refusal code.Busy))) refl refl
-  by_taken t takes false true = refuses (bare (refused (refusal code.NoBuffer))) refl refl
-  by_taken t takes false false = takes
-
-  by_acquired : (handle : ℕ)
-      → ((t : KeptStream) → stream_of handle h.streams ≡ Some t → stream_of handle g.streams ≡ Some t
-      → P (with_stream t.number acquired h, gives_canvas (model.canvas_of t)) (
-        with_stream t.number acquired g,
-        gives_canvas
-            (model.canvas_of t),
-      ))
-      → (o : Option KeptStream) → stream_of handle h.streams ≡ o → stream_of handle g.streams ≡ o
-      → P (acquire_step h (acquirable handle h)) (acquire_step g (acquirable handle g))
-  by_acquired handle takes None here there = rw (here, there) (refuses (bare (refused (refusal code.BadHandle))) refl refl)
-  by_acquired handle takes (Some t) here there =
-      rw (here, there) (by_taken t (takes t here there) t.buffers.out (is_blocked t.buffers))
-
-by_back : (h g : State) (P : Pair) (canvas : Canvas) (f : Buffers → Buffers)
-    → P (with_stream canvas.stream f h, bare (done 0)) (with_stream canvas.stream f g, bare (done 0))
-    → P (h, gives_back_canvas canvas) (g, gives_back_canvas canvas) → (b d : Bool) → b ≡ d
-    → P (cond {A = State × Reply} b (with_stream canvas.stream f h, bare (done 0)) (h, gives_back_canvas canvas))
-    (cond {A = State × Reply} d (with_stream canvas.stream f g, bare (done 0)) (g, gives_back_canvas canvas))
-by_back h g P canvas f taken back true true is = taken
-by_back h g P canvas f taken back true false is = absurd cc
-by_back h g P canvas f taken back false true is = absurd cc
-by_back h g P canvas f taken back false false is = back
-
--- a stream that is found by a live handle is among the live ones
-found_live : (k : ℕ) (ss : List KeptStream) (t : KeptStream) → stream_of k ss ≡ Some t → is_in k (live_handles ss) ≡ true
-found_live k [] t is = absurd cc
-found_live k (s ∷ ss) t is = by_tests (found_live k ss t) (s.handle == k) refl (k == 0) refl is
-  where
-    by_tests : (stream_of k ss ≡ Some t → is_in k (live_handles ss) ≡ true) → (b : Bool) → (s.handle == k) ≡ b → (z : Bool) → (k == 0) ≡ z
-        → stream_of k (s ∷ ss) ≡ Some t → is_in k (live_handles (s ∷ ss)) ≡ true
-    by_tests later b here true zero is = absurd (let no : None ≡ Some t = sym (no_zero k zero (s ∷ ss)) ∙ is in cc)
-    by_tests later true here false live is =
-        let alive : (s.handle == 0) ≡ false = ap (λ i. i == 0) (eqb-true s.handle k here) ∙ live in
-        rw (alive, here) refl
-    by_tests later false other false live is =
-        let rest : is_in k (live_handles ss) ≡ true = later (rw other at is) in
-        elim (s.handle == 0) as (λ b. is_in k (cond b (live_handles ss) (s.handle ∷ live_handles ss)) ≡ true) [
-          | true ↦ rest
-          | false ↦ in_behind k s.handle (live_handles ss) rest
-        ]
-
--- what is among rising numbers is no higher than the highest
-below : (k low high : ℕ) (ns : List ℕ) → RisesTo (λ n. n) low ns high → is_in k ns ≡ true → k ≤ high
-below k low high [] rises among = absurd cc
-below k low high (n ∷ ns) rises among = by_test (below k n high ns rises.1) (n == k) refl among
-  where
-    by_test : (is_in k ns ≡ true → k ≤ high) → (b : Bool) → (n == k) ≡ b → is_in k (n ∷ ns) ≡ true → k ≤ high
-    by_test later true is among =
-        let under = low_under (λ (i : ℕ). i) n high ns rises.1 in
-        let same = eqb-true n k is in
-        omega (arith, under, same)
-    by_test later false is among = later (rw is at among)
-
--- what is owned without a stream was owned before, and is another one
-still_owned : (a k stream : ℕ) (owned : List Owned) → owns a k (forgotten stream owned) ≡ true
-    → (owns a k owned ≡ true) × ((k == stream) ≡ false)
-still_owned a k stream [] own = absurd cc
-still_owned a k stream (o ∷ os) own =
-    by_tests (still_owned a k stream os) (o.stream == stream) refl (o.client == a) refl (o.stream == k) refl own
-  where
-    by_tests : (owns a k (forgotten stream os) ≡ true → (owns a k os ≡ true) × ((k == stream) ≡ false)) → (b : Bool)
-        → (o.stream == stream) ≡ b → (d : Bool) → (o.client == a) ≡ d → (e : Bool) → (o.stream == k) ≡ e
-        → owns a k (forgotten stream (o ∷ os)) ≡ true → (owns a k (o ∷ os) ≡ true) × ((k == stream) ≡ false)
-    by_tests later true gone true client true is own = ((rw (client, is) refl), (later (rw gone at own)).1)
-    by_tests later true gone true client false is own = let rest = later (rw gone at own) in ((rw (client, is) rest.0), rest.1)
-    by_tests later true gone false client e is own = let rest = later (rw gone at own) in ((rw client rest.0), rest.1)
-    by_tests later false stays true client true is own =
-        ((rw (client, is) refl), ap (λ i. i == stream) (sym (eqb-true o.stream k is)) ∙ stays)
-    by_tests later false stays true client false is own =
-        let rest = later (rw (stays, client, is) at own) in ((rw (client, is) rest.0), rest.1)
-    by_tests later false stays false client e is own = let rest = later (rw (stays, client) at own) in ((rw client rest.0), rest.1)
-
--- the end of a handle leaves what is out
-pub unnamed_outs : (stream : ℕ) (canvas : Canvas) (ss : List KeptStream) → outs canvas (map (unnamed stream) ss) ≡ outs canvas ss
-unnamed_outs stream canvas ss =
-    outs_mapped canvas (unnamed stream) (λ s. number s (s.handle == stream)) (λ s. buffers s (s.handle == stream)) ss
-  where
-    number : (s : KeptStream) (b : Bool) → (cond b (record s { handle = 0 }) s).number ≡ s.number
-    number s true = refl
-    number s false = refl
-
-    buffers : (s : KeptStream) (b : Bool) → (cond b (record s { handle = 0 }) s).buffers ≡ s.buffers
-    buffers s true = refl
-    buffers s false = refl
-
-unnamed_out : (stream : ℕ) (canvas : Canvas) (h : State)
-    → is_out_at_client canvas (settle_if true (record h { streams = map (unnamed stream) h.streams })) ≡ is_out_at_client canvas h
-unnamed_out stream canvas h =
-    out_same canvas (settle_if true (record h { streams = map (unnamed stream) h.streams })) h refl
-    (outs_settled canvas true (record h { streams = map (unnamed stream) h.streams }) ∙ unnamed_outs stream canvas h.streams)
-
--- a stream whose buffers change, where it has this number
-abbrev pub changed : ℕ → (Buffers → Buffers) → KeptStream → KeptStream
-changed n f s = cond (s.number == n) (record s { buffers = f s.buffers }) s
-
-pub changed_seen : (n : ℕ) (f : Buffers → Buffers) (b : Bool) (k : ℕ) → (k == 0) ≡ false → (h : State)
-    → stream_of k (settle_if b (with_stream n f h)).streams ≡ option_map (changed n f) (stream_of k h.streams)
-changed_seen n f b k live h =
-    seen_settled k live b (with_stream n f h) ∙ seen_mapped k live (changed n f) (λ s. handle s (s.number == n)) h.streams
-  where
-    handle : (s : KeptStream) (b : Bool) → (cond b (record s { buffers = f s.buffers }) s).handle ≡ s.handle
-    handle s true = refl
-    handle s false = refl
-
--- the write buffer that was acquired is out
-taken_out : (image : Bitmap) (u : Served) → IsSound u → (stream : ℕ) (t : KeptStream) → stream_of stream u.machine.streams ≡ Some t
-    → outs (record (model.canvas_of t) { image = image }) (settle_if true (with_stream t.number acquired u.machine)).streams
-    ≡ is_out_of (record (model.canvas_of t) { image = image }) (Some (record t { buffers = acquired t.buffers }))
-taken_out image u sound stream t is =
-    outs_settled (record (model.canvas_of t) { image = image }) true (with_stream t.number acquired u.machine)
-    ∙ ap (is_out_of (record (model.canvas_of t) { image = image }))
-    (changed_at t.number acquired t u.machine.streams (rise_apart u.machine sound.numbers stream t is))
 
 module _ (a : ℕ) (app : (a == 0) ≡ false) (m : Bool) (v w : Served) (sv : IsSound v) (sw : IsSound w) (alike : LooksAlike a v w) where
   abbrev h : State
@@ -331,12 +88,6 @@ module _ (a : ℕ) (app : (a == 0) ≡ false) (m : Bool) (v w : Served) (sv : Is
   looks (request.StreamDestroy stream) none meets = alike.streams stream (destroys_own a app v.owned stream none)
   looks (request.Acquire stream) none meets = alike.streams stream (acquires_own a app v.owned stream none)
   looks _ none meets = tt
-
-  -- where nothing was held what is held was given
-  only_given : (canvas given : Canvas) → canvas_of a v.held ≡ None → Some canvas ≡ or_given (canvas_of a v.held) (Some given)
-      → canvas ≡ given
-  unfolding or_given
-  only_given canvas given free at = (let one : Some canvas ≡ Some given = rw free at at in cc)
 
   full : (new : Buffers) → RoomSame new h g → (has_no_room new h.streams || is_full h.made) ≡ (has_no_room new g.streams || is_full g.made)
   full new room = ap (λ b. b || is_full h.made) room.0 ∙ ap (λ n. has_no_room new g.streams || is_full n) room.1
@@ -471,12 +222,10 @@ module _ (a : ℕ) (app : (a == 0) ≡ false) (m : Bool) (v w : Served) (sv : Is
             let live : (k == 0) ≡ false = (owned_there a k v sv own).live in
             changed_seen t.number acquired true k live h ∙ ap (option_map (changed t.number acquired)) (alike.streams k own)
             ∙ sym (changed_seen t.number acquired true k live g);
-        held =
-            held_adding a (Some (model.canvas_of t)) v.held ∙ ap (λ o. or_given o (Some (model.canvas_of t))) alike.held
-            ∙ sym (held_adding a (Some (model.canvas_of t)) w.held);
+        held = adding_same a (Some (model.canvas_of t)) v.held w.held alike.held;
         out = λ canvas image at.
-            let same : canvas ≡ model.canvas_of t =
-            only_given canvas (model.canvas_of t) free (sym at ∙ held_adding a (Some (model.canvas_of t)) v.held) in
+            let one : Some canvas ≡ Some (model.canvas_of t) = sym at ∙ alone_adding a (model.canvas_of t) v.held free in
+            let same : canvas ≡ model.canvas_of t = cc in
             subst (λ (c : Canvas). is_out_at_client (record c { image = image }) (settle_if true (with_stream t.number acquired h))
             ≡ is_out_at_client (record c { image = image }) (settle_if true (with_stream t.number acquired g))) (sym same)
             (out_same (record (model.canvas_of t) { image = image }) (settle_if true (with_stream t.number acquired h))
@@ -567,9 +316,7 @@ module _ (a : ℕ) (app : (a == 0) ≡ false) (m : Bool) (v w : Served) (sv : Is
       }
 
   back_again : (u : Served) → IsSound u → (canvas : Canvas) → canvas_of a (adding a (Some canvas) (without a u.held)) ≡ Some canvas
-  unfolding or_given
-  back_again u sound canvas =
-      held_adding a (Some canvas) (without a u.held) ∙ ap (λ o. or_given o (Some canvas)) (none_after u sound)
+  back_again u sound canvas = alone_adding a canvas (without a u.held) (none_after u sound)
 
   given_back : (c : Canvas → Call) (canvas : Canvas) → canvas_of a v.held ≡ Some canvas
       → Back c canvas (h, gives_back_canvas canvas) (g, gives_back_canvas canvas)

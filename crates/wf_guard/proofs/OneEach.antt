@@ -1,6 +1,6 @@
 -- A client holds one write buffer at most.
-use Rattle.std.proofs.Common.{◌≡◌, ◌∙◌, ℕ, zero, suc, Bool, true, false, cond, ◌==◌, ◌||◌, List, [], ◌∷◌, ◌++◌, Option, Some, None}
-use Rattle.std.proofs.Common.{◌&&◌, refl, sym, ap, subst, one-add}
+use Rattle.std.proofs.Common.{◌≡◌, ◌∙◌, ℕ, zero, suc, Bool, true, false, cond, ◌==◌, ◌||◌, List, [], ◌∷◌, ◌++◌, Option, Some, None, ◌&&◌}
+use Rattle.std.proofs.Common.{refl, sym, ap, subst, one-add}
 use Rattle.std.proofs.lemmas.Bool.{or_parts, eqb-true}
 use Rattle.std.specs.Prelude.{find, nat_le, length, option_and_then, slice_get}
 use Rattle.std.specs.List.{position, position_or_len, remove}

@@ -1,11 +1,7 @@
 -- No two clients hold the write buffer of one stream.
-use Rattle.std.proofs.Common.{◌≡◌, ◌∙◌, ℕ, zero, suc, ◌+◌, Bool, true, false, cond, not, ◌==◌, ◌&&◌, ◌||◌, List, [], ◌∷◌, ◌++◌, Option}
-use Rattle.std.proofs.Common.{Some, None, Ok, Err, ◌⊎◌, inl, inr, option_map, refl, sym, ap, subst}
-use Rattle.std.proofs.lemmas.Bool.{and_parts, eq-eqb, eqb-true, or_parts}
-use Rattle.std.proofs.lemmas.List.Folds.{list_any-append}
-use Rattle.std.specs.Prelude.{find, option_and_then, slice_get}
-use Rattle.std.specs.List.{list_any, position, remove}
-use Rattle.wf_words.specs.Found.{any_at, any_by, get_position}
+use Rattle.std.proofs.Common.{◌≡◌, ◌∙◌, ℕ, ◌+◌, Bool, true, false, cond, not, ◌==◌, ◌&&◌, ◌||◌, List, [], ◌∷◌, ◌++◌, Option, Some, None, Ok}
+use Rattle.std.proofs.Common.{Err, ◌⊎◌, inl, inr, refl, sym, ap, subst}
+use Rattle.std.proofs.lemmas.Bool.{and_parts, eq-eqb, eqb-true}
 use Rattle.wf_words.specs.Keyed.{is_in}
 use Rattle.wf_words.specs.Refusals.{◌>>=◌}
 use Rattle.wf_image.specs.Bitmap.{Bitmap}
@@ -40,8 +36,7 @@ use Rattle.wf_model.specs.Outcome.{refuse}
 use Rattle.wf_model.specs.Registers.{offered}
 use Rattle.wf_model.specs.State.{Running, State}
 use Rattle.wf_model.specs.Step.{act, step}
-use Rattle.wf_model.specs.Streams.{acquirable, acquire_step, is_out_at_client, may_make}
-use Rattle.wf_model.specs.Streams.{new_buffers, stream_destroy, stream_made}
+use Rattle.wf_model.specs.Streams.{acquirable, acquire_step, is_out_at_client, may_make, new_buffers, stream_destroy, stream_made}
 use Rattle.wf_model.specs.Streams.{stream_step, with_stream}
 use Rattle.wf_model.specs.Streams as model
 use Rattle.wf_guard.specs.declared.clients.TheConstants.{OUTPUT}
@@ -49,6 +44,7 @@ use Rattle.wf_guard.specs.declared.form.Form.{Form}
 use Rattle.wf_guard.specs.LiveStreams.{Turn, after_turn, after_turns, is_of_frames, opened}
 use Rattle.wf_guard.specs.Serving.{Served}
 use Rattle.wf_guard.proofs.ForApps.{begins_none}
+use Rattle.wf_guard.proofs.HeldApart.{AllApart, IsTaken, apart_more, in_more, is_held, none_more, other_way, taken}
 use Rattle.wf_guard.proofs.Numbered.{NumbersRise, open_rising, rise_apart, turn_rises}
 use Rattle.wf_guard.proofs.OwnCanvases.{acquirable_is}
 use Rattle.wf_guard.proofs.Outs.{IsFree, StaysOut, begun_target, changed_out, drawn_is_out, home_out, is_out, latched_out, more_out, out_of}
@@ -56,125 +52,6 @@ use Rattle.wf_guard.proofs.Outs.{settled_out, taken_is_out, unnamed_keeps}
 use Rattle.wf_guard.proofs.Payloads.{given, gives_acquired, gives_none}
 use Rattle.wf_guard.proofs.Spared.{still, untouched}
 use Rattle.wf_guard.proofs.Turns.{Keeps, runs_keep, turn_keeps}
-
--- what is held, by the numbers of its streams
-
-abbrev pub is_held : ℕ → List Held → Bool
-is_held n held = list_any (λ h. h.canvas.stream == n) held
-
--- no two are of one stream
-abbrev pub AllApart : List Held → Type 0
-AllApart [] = Unit {0}
-AllApart (h ∷ hs) = (is_held h.canvas.stream hs ≡ false) × AllApart hs
-
-in_more : (n : ℕ) (h : Held) (hs : List Held) → is_held n (hs ++ h ∷ []) ≡ true → (is_held n hs ≡ true) ⊎ (n ≡ h.canvas.stream)
-in_more n h hs held =
-    by_tests (is_held n hs) refl (h.canvas.stream == n) refl
-    (sym (list_any-append (λ (x : Held). x.canvas.stream == n) hs (h ∷ [])) ∙ held)
-  where
-    by_tests : (b : Bool) → is_held n hs ≡ b → (d : Bool) → (h.canvas.stream == n) ≡ d
-        → (is_held n hs || ((h.canvas.stream == n) || false)) ≡ true
-        → (is_held n hs ≡ true) ⊎ (n ≡ h.canvas.stream)
-    by_tests true is d here either = inl is
-    by_tests false is true here either = inr (sym (eqb-true h.canvas.stream n here))
-    by_tests false is false other either = absurd (let no : false ≡ true = rw (is, other) at either in cc)
-
-none_more : (n : ℕ) (h : Held) (hs : List Held) → is_held n hs ≡ false → (h.canvas.stream == n) ≡ false → is_held n (hs ++ h ∷ []) ≡ false
-none_more n h hs none other =
-    list_any-append (λ (x : Held). x.canvas.stream == n) hs (h ∷ [])
-    ∙ ap (λ b. b || ((h.canvas.stream == n) || false)) none ∙ ap (λ b. b || false) other
-
--- two numbers are apart either way round
-other_way : (n k : ℕ) → (n == k) ≡ false → (k == n) ≡ false
-other_way n k apart = by_test (k == n) refl
-  where
-    by_test : (b : Bool) → (k == n) ≡ b → b ≡ false
-    by_test false is = refl
-    by_test true is = absurd (let no : true ≡ false = sym (eq-eqb n k (sym (eqb-true k n is))) ∙ apart in cc)
-
-apart_more : (h : Held) (hs : List Held) → AllApart hs → is_held h.canvas.stream hs ≡ false → AllApart (hs ++ h ∷ [])
-apart_more h [] apart none = (refl, tt)
-apart_more h (x ∷ xs) apart none =
-    let parts = or_parts (x.canvas.stream == h.canvas.stream) (is_held h.canvas.stream xs) none in (
-      none_more x.canvas.stream h xs apart.0 (other_way x.canvas.stream h.canvas.stream parts.0),
-      apart_more h xs apart.1 parts.1,
-    )
-
-still_held : (n at : ℕ) (hs : List Held) → is_held n (remove hs at) ≡ true → is_held n hs ≡ true
-still_held n zero [] held = held
-still_held n (suc at) [] held = held
-still_held n zero (h ∷ hs) held = by_test (h.canvas.stream == n)
-  where
-    by_test : (b : Bool) → (b || is_held n hs) ≡ true
-    by_test true = refl
-    by_test false = held
-still_held n (suc at) (h ∷ hs) held = by_test (still_held n at hs) (h.canvas.stream == n) held
-  where
-    by_test : (is_held n (remove hs at) ≡ true → is_held n hs ≡ true) → (b : Bool) → (b || is_held n (remove hs at)) ≡ true
-        → (b || is_held n hs) ≡ true
-    by_test later true held = refl
-    by_test later false held = later held
-
-not_held : (n : ℕ) (at : ℕ) (hs : List Held) → is_held n hs ≡ false → is_held n (remove hs at) ≡ false
-not_held n at hs none = by_test (is_held n (remove hs at)) refl
-  where
-    by_test : (b : Bool) → is_held n (remove hs at) ≡ b → b ≡ false
-    by_test false is = refl
-    by_test true is = absurd (let no : true ≡ false = sym (still_held n at hs is) ∙ none in cc)
-
-apart_left : (at : ℕ) (hs : List Held) → AllApart hs → AllApart (remove hs at)
-apart_left zero [] apart = apart
-apart_left (suc at) [] apart = apart
-apart_left zero (h ∷ hs) apart = apart.1
-apart_left (suc at) (h ∷ hs) apart = (not_held h.canvas.stream at hs apart.0, apart_left at hs apart.1)
-
--- what is taken out is held no more
-taken_out : (at : ℕ) (x : Held) (hs : List Held) → AllApart hs → slice_get hs at ≡ Some x → is_held x.canvas.stream (remove hs at) ≡ false
-taken_out zero x [] apart is = absurd cc
-taken_out (suc at) x [] apart is = absurd cc
-taken_out zero x (h ∷ hs) apart is =
-    let same : h ≡ x = cc in subst (λ (y : Held). is_held y.canvas.stream hs ≡ false) same apart.0
-taken_out (suc at) x (h ∷ hs) apart is = by_test (h.canvas.stream == x.canvas.stream) refl (taken_out at x hs apart.1 is)
-  where
-    by_test : (b : Bool) → (h.canvas.stream == x.canvas.stream) ≡ b → is_held x.canvas.stream (remove hs at) ≡ false
-        → (b || is_held x.canvas.stream (remove hs at)) ≡ false
-    by_test false other rest = rest
-    by_test true same rest =
-        let twice = any_at (λ (y : Held). y.canvas.stream == h.canvas.stream) hs at x is
-        (eq-eqb x.canvas.stream h.canvas.stream (sym (eqb-true h.canvas.stream x.canvas.stream same))) in
-        absurd (let no : true ≡ false = sym twice ∙ apart.0 in cc)
-
--- what a client holds, and what is left without it
-record IsTaken (b : ℕ) (canvas : Canvas) (hs : List Held) : Type 0 where
-  held : is_held canvas.stream hs ≡ true
-  gone : is_held canvas.stream (without b hs) ≡ false
-  left : (n : ℕ) → is_held n (without b hs) ≡ true → is_held n hs ≡ true
-  apart : AllApart (without b hs)
-
-taken : (b : ℕ) (canvas : Canvas) (hs : List Held) → AllApart hs → canvas_of b hs ≡ Some canvas → IsTaken b canvas hs
-taken b canvas hs apart is = of_found (find (λ h. h.key == b) hs) refl is
-  where
-    of_found : (o : Option Held) → find (λ h. h.key == b) hs ≡ o → option_map (λ (h : Held). h.canvas) o ≡ Some canvas
-        → IsTaken b canvas hs
-    of_found None found is = absurd cc
-    of_found (Some x) found is =
-        let same : x.canvas ≡ canvas = cc in
-        subst (λ (c : Canvas). IsTaken b c hs) same (of_place (position (λ h. h.key == b) hs) refl)
-      where
-        of_place : (o : Option ℕ) → position (λ h. h.key == b) hs ≡ o → IsTaken b x.canvas hs
-        of_place None none =
-            absurd (let no : None ≡ Some x =
-            ap (option_and_then (slice_get hs)) (sym none) ∙ get_position (λ h. h.key == b) hs ∙ found in cc)
-        of_place (Some at) here =
-            let got : slice_get hs at ≡ Some x =
-            ap (option_and_then (slice_get hs)) (sym here) ∙ get_position (λ h. h.key == b) hs ∙ found in
-            record {
-              held = any_by (λ (h : Held). h.key == b) (λ (h : Held). h.canvas.stream == x.canvas.stream) hs x found
-                  (eq-eqb x.canvas.stream x.canvas.stream refl);
-              gone = rw here (taken_out at x hs apart got);
-              left = λ n is_left. still_held n at hs (rw here at is_left);
-              apart = rw here (apart_left at hs apart);
-            }
 
 -- each write buffer that is held is out, no two are of one stream, and none is the running frame's
 pub record OutOnce (h : State) (held : List Held) : Type 0 where
@@ -560,36 +437,3 @@ pub always_once : (form : Form) (ports : Ports) (rs : List Turn) → IsOutOnce (
 always_once form ports rs =
     (runs_keep (λ v. NumbersRise v.machine × IsOutOnce v) (λ t v both. (turn_rises t v both.0, turn_once v both.0 both.1 t)) rs
     (opened form ports) (open_rising form ports, record { out = λ n is. absurd cc; apart = tt; target = λ n is. absurd cc })).1
-
--- two clients hold write buffers of two streams
-pub held_apart : (a b : ℕ) → (b == a) ≡ false → (one two : Canvas) (hs : List Held) → AllApart hs → canvas_of a hs ≡ Some one
-    → canvas_of b hs ≡ Some two → (one.stream == two.stream) ≡ false
-held_apart a b apart one two [] all first second = absurd cc
-held_apart a b apart one two (h ∷ hs) all first second =
-    by_tests (held_apart a b apart one two hs all.1) (h.key == a) refl (h.key == b) refl first second
-  where
-    -- the first one is of another stream than those behind it
-    head : (c d : ℕ) (other : Canvas) → canvas_of d hs ≡ Some other → (h.canvas.stream == other.stream) ≡ false
-    head c d other is = by_test (h.canvas.stream == other.stream) refl
-      where
-        by_test : (t : Bool) → (h.canvas.stream == other.stream) ≡ t → t ≡ false
-        by_test false differs = refl
-        by_test true same =
-            let there = (taken d other hs all.1 is).held in
-            absurd (let no : true ≡ false =
-            sym there ∙ ap (λ k. is_held k hs) (sym (eqb-true h.canvas.stream other.stream same)) ∙ all.0 in cc)
-
-    by_tests : (canvas_of a hs ≡ Some one → canvas_of b hs ≡ Some two → (one.stream == two.stream) ≡ false) → (t : Bool)
-        → (h.key == a) ≡ t → (u : Bool) → (h.key == b) ≡ u → canvas_of a (h ∷ hs) ≡ Some one → canvas_of b (h ∷ hs) ≡ Some two
-        → (one.stream == two.stream) ≡ false
-    by_tests later true is_a true is_b first second =
-        let both : b ≡ a = sym (eqb-true h.key b is_b) ∙ eqb-true h.key a is_a in
-        absurd (let no : true ≡ false = sym (eq-eqb b a both) ∙ apart in cc)
-    by_tests later true is_a false is_b first second =
-        let here : h.canvas ≡ one = (let found : Some h.canvas ≡ Some one = rw is_a at first in cc) in
-        ap (λ (c : Canvas). c.stream == two.stream) (sym here) ∙ head a b two (rw is_b at second)
-    by_tests later false is_a true is_b first second =
-        let here : h.canvas ≡ two = (let found : Some h.canvas ≡ Some two = rw is_b at second in cc) in
-        other_way two.stream one.stream
-        (ap (λ (c : Canvas). c.stream == one.stream) (sym here) ∙ head b a one (rw is_a at first))
-    by_tests later false is_a false is_b first second = later (rw is_a at first) (rw is_b at second)

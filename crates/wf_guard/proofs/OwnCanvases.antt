@@ -1,6 +1,6 @@
 -- A write buffer that an app holds is of a stream that it owns, as long as that stream lives.
-use Rattle.std.proofs.Common.{◌≡◌, ◌∙◌, ℕ, zero, suc, ◌≤◌, Bool, true, false, cond, ◌==◌, ◌&&◌, List, [], ◌∷◌, ◌++◌, Option, Some, None}
-use Rattle.std.proofs.Common.{Ok, Err, not, find, option_map, refl, sym, ap, subst, arith}
+use Rattle.std.proofs.Common.{◌≡◌, ◌∙◌, ℕ, zero, suc, ◌≤◌, Bool, true, false, cond, ◌==◌, ◌&&◌, List, [], ◌∷◌, ◌++◌, Option, Some, None, Ok}
+use Rattle.std.proofs.Common.{Err, not, find, option_map, refl, sym, ap, subst, arith}
 use Rattle.std.proofs.lemmas.Bool.{eqb-true}
 use Rattle.std.specs.List.{position, remove}
 use Rattle.wf_words.specs.Refusals.{◌>>=◌}
@@ -28,8 +28,7 @@ use Rattle.wf_guard.specs.declared.owners.Owned.{Owned}
 use Rattle.wf_guard.specs.LiveStreams.{Turn, after_turn, after_turns, opened}
 use Rattle.wf_guard.specs.declared.clients.TheConstants.{OUTPUT}
 use Rattle.wf_guard.specs.Policy.{owns, refusal_of}
-use Rattle.wf_guard.specs.Serving.{Served, drawn, made}
-use Rattle.wf_guard.specs.Serving.{owned_by}
+use Rattle.wf_guard.specs.Serving.{Served, drawn, made, owned_by}
 use Rattle.wf_guard.specs.Serving as serving
 use Rattle.wf_guard.proofs.ForApps.{acquires_own}
 use Rattle.wf_guard.proofs.Numbered.{NumbersRise, found_handle, number, open_rising, rise_apart, turn_rises}

@@ -1,6 +1,6 @@
 -- What another client asks for leaves a state that looks alike to an app, where it names none of its streams.
-use Rattle.std.proofs.Common.{◌≡◌, ◌∙◌, ℕ, ◌+◌, Bool, true, false, cond, not, ◌==◌, ◌||◌, List, Option, Some, None}
-use Rattle.std.proofs.Common.{Ok, Err, option_map, refl, sym, ap, subst}
+use Rattle.std.proofs.Common.{◌≡◌, ◌∙◌, ℕ, ◌+◌, Bool, true, false, cond, not, ◌==◌, ◌||◌, List, Option, Some, None, Ok, Err, option_map}
+use Rattle.std.proofs.Common.{refl, sym, ap, subst}
 use Rattle.std.proofs.lemmas.Bool.{eqb-true}
 use Rattle.wf_words.specs.Refusals.{◌>>=◌}
 use Rattle.wf_image.specs.Bitmap.{Bitmap}
@@ -33,17 +33,15 @@ use Rattle.wf_model.specs.Names.{settle_if}
 use Rattle.wf_model.specs.Outcome.{Leaves, Outcome, refuse}
 use Rattle.wf_model.specs.State.{State}
 use Rattle.wf_model.specs.Step.{act, act_of, step}
-use Rattle.wf_model.specs.Streams.{acquirable, acquire_step, canvas_back, is_out_at_client, may_make}
-use Rattle.wf_model.specs.Streams.{new_buffers, stream_destroy, stream_made}
-use Rattle.wf_model.specs.Streams.{stream_step, with_stream}
+use Rattle.wf_model.specs.Streams.{acquirable, acquire_step, canvas_back, is_out_at_client, may_make, new_buffers, stream_destroy}
+use Rattle.wf_model.specs.Streams.{stream_made, stream_step, with_stream}
 use Rattle.wf_guard.specs.Alike.{HoldsApart, LooksAlike, Spares, made_of}
 use Rattle.wf_guard.specs.Policy.{owns, refusal_of}
 use Rattle.wf_guard.specs.Requests.{named_stream}
-use Rattle.wf_guard.specs.Serving.{Asked, Served, discard, draw, drawn, given, made, owned_by, plain, post, served}
-use Rattle.wf_guard.specs.Serving.{with_held}
+use Rattle.wf_guard.specs.Serving.{Asked, Served, discard, draw, drawn, given, made, owned_by, plain, post, served, with_held}
 use Rattle.wf_guard.proofs.ForApps.{begins_none}
 use Rattle.wf_guard.proofs.Held.{adds, goes}
-use Rattle.wf_guard.proofs.LooksAlike.{changed, changed_seen, no_zero, out_same, seen_again, unnamed_outs}
+use Rattle.wf_guard.proofs.Found.{changed, changed_seen, no_zero, out_same, seen_again, unnamed_outs}
 use Rattle.wf_guard.proofs.MadeOf.{same_made_of}
 use Rattle.wf_guard.proofs.Numbered.{found_handle, rise_apart}
 use Rattle.wf_guard.proofs.OwnCanvases.{own_stream}

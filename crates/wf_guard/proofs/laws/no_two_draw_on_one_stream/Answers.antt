@@ -1,5 +1,6 @@
 use Rattle.wf_guard.specs.LiveStreams.{after_turns, opened}
-use Rattle.wf_guard.proofs.OutOnce.{always_once, held_apart}
+use Rattle.wf_guard.proofs.HeldApart.{held_apart}
+use Rattle.wf_guard.proofs.OutOnce.{always_once}
 use Rattle.wf_guard.proofs.laws.no_two_draw_on_one_stream.Goals as goal
 
 pub returns : goal.returns
