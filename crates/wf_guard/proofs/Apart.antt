@@ -1,6 +1,6 @@
 -- What an app asks for leaves what another app sees as it was.
 use Rattle.std.proofs.Common.{◌≡◌, ◌∙◌, ℕ, ◌≤◌, Bool, true, false, ◌==◌, ◌&&◌, ◌||◌, List, [], ◌∷◌, Some, None, refl, sym, ap, subst, arith}
-use Rattle.std.proofs.lemmas.Bool.{eq-eqb, eqb-true}
+use Rattle.std.proofs.lemmas.Bool.{both_ways, eqb-false, eqb-true, false_from_ne_true, ne_eqb}
 use Rattle.std.proofs.lemmas.Bool.Decides.{nat_tests}
 use Rattle.wf_words.specs.Rising.{Rises, rises_map, rises_to}
 use Rattle.wf_image.specs.declared.canvas.Canvas.{Canvas}
@@ -71,12 +71,9 @@ module _ (a b : ℕ) (app : (a == 0) ≡ false) (other_app : (b == 0) ≡ false)
     (once : IsOutOnce v) where
   -- what the one owns the other does not
   not_both : (k : ℕ) → owns b k v.owned ≡ true → owns a k v.owned ≡ false
-  not_both k theirs = by_test (owns a k v.owned) refl
-    where
-      by_test : (t : Bool) → owns a k v.owned ≡ t → t ≡ false
-      by_test false is = refl
-      by_test true is =
-          absurd (let no : true ≡ false = sym (eq-eqb b a (sym (one_owner a b k 0 v.owned (owned_rises v sound) is theirs))) ∙ apart in cc)
+  not_both k theirs =
+      false_from_ne_true (owns a k v.owned)
+      (λ is. eqb-false b a apart (sym (one_owner a b k 0 v.owned (owned_rises v sound) is theirs)))
 
   names_its_own : (r : Request) → refusal_of b r v.owned ≡ None → (k : ℕ) → named_stream r ≡ Some k → owns a k v.owned ≡ false
   names_its_own (request.StreamDestroy stream) none k is =
@@ -90,22 +87,20 @@ module _ (a b : ℕ) (app : (a == 0) ≡ false) (other_app : (b == 0) ≡ false)
   holds_apart : HoldsApart a b v
   holds_apart =
       record {
-        streams = λ canvas k s holds own is. of_number canvas k s holds own is (s.number == canvas.stream) refl;
+        streams = λ canvas k s holds own is. ne_eqb s.number canvas.stream (of_one canvas k s holds own is);
         held = λ canvas own holds its. held_apart a b apart own canvas v.held once.apart its holds;
       }
     where
-      of_number : (canvas : Canvas) (k : ℕ) (s : KeptStream) → canvas_of b v.held ≡ Some canvas → owns a k v.owned ≡ true
-          → stream_of k v.machine.streams ≡ Some s → (t : Bool) → (s.number == canvas.stream) ≡ t → t ≡ false
-      of_number canvas k s holds own is false differs = refl
-      of_number canvas k s holds own is true same =
+      of_one : (canvas : Canvas) (k : ℕ) (s : KeptStream) → canvas_of b v.held ≡ Some canvas → owns a k v.owned ≡ true
+          → stream_of k v.machine.streams ≡ Some s → s.number ≡ canvas.stream → ⊥
+      of_one canvas k s holds own is same =
           let at : stream_at canvas.stream v.machine.streams ≡ Some s =
-          subst (λ (n : ℕ). stream_at n v.machine.streams ≡ Some s) (eqb-true s.number canvas.stream same)
-          (rise_apart v.machine sound.numbers k s is) in
+          subst (λ (n : ℕ). stream_at n v.machine.streams ≡ Some s) same (rise_apart v.machine sound.numbers k s is) in
           let handle : s.handle ≡ k = found_handle k v.machine.streams s is in
           let live : (s.handle == 0) ≡ false = ap (λ i. i == 0) handle ∙ (owned_there a k v sound own).live in
           let theirs : owns b k v.owned ≡ true =
           ap (λ i. owns b i v.owned) (sym handle) ∙ own_stream b v (sound.own b other_app) canvas s holds at live in
-          absurd (let no : true ≡ false = sym own ∙ not_both k theirs in cc)
+          both_ways _ (not_both k theirs) own
 
   pub apart_alike : (x : Asked) (m : Bool) → LooksAlike a v (served b x m v).0
   apart_alike (plain r) m = request_alike a app v sound b apart m r (names_its_own r)

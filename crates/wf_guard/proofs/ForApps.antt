@@ -1,5 +1,6 @@
 -- What the policy lets an app ask for.
 use Rattle.std.proofs.Common.{◌≡◌, ◌∙◌, ℕ, Bool, true, false, cond, ◌==◌, List, Option, Some, None, refl, sym}
+use Rattle.std.proofs.lemmas.Bool.{false_from_ne_true, true_from_ne_false}
 use Rattle.wf_calls.specs.Parts.{is_begin}
 use Rattle.wf_calls.specs.Requests.{call_of}
 use Rattle.wf_calls.specs.declared.code.Code.{Code}
@@ -19,19 +20,18 @@ for_apps (request.StreamDestroy stream) may = refl
 for_apps (request.Acquire stream) may = refl
 for_apps _ may = absurd cc
 
+-- what is let through begins no frame
+pub begins_none : (client : ℕ) (owned : List Owned) (r : Request) → refusal_of client r owned ≡ None → is_begin (call_of r) ≡ false
+begins_none client owned r none =
+    false_from_ne_true (is_begin (call_of r))
+    (λ is. (let no : Some code.Unsupported ≡ None = sym (rw is refl) ∙ none in cc))
+
 module _ (a : ℕ) (app : (a == 0) ≡ false) (owned : List Owned) where
   -- what the policy lets through is of the kinds that an app may ask for
   pub let_through : (r : Request) → refusal_of a r owned ≡ None → is_for_apps r ≡ true
-  let_through r none = by_test (is_for_apps r) refl
-    where
-      by_test : (b : Bool) → is_for_apps r ≡ b → b ≡ true
-      by_test true is = refl
-      by_test false is = by_begin (is_begin (call_of r)) refl
-        where
-          by_begin : (b : Bool) → is_begin (call_of r) ≡ b → false ≡ true
-          by_begin true begins = absurd (let no : Some code.Unsupported ≡ None = sym (rw begins refl) ∙ none in cc)
-          by_begin false begins =
-              absurd (let no : Some code.Unsupported ≡ None = sym (rw (begins, app, is) refl) ∙ none in cc)
+  let_through r none =
+      true_from_ne_false (is_for_apps r)
+      (λ is. (let no : Some code.Unsupported ≡ None = sym (rw (begins_none a owned r none, app, is) refl) ∙ none in cc))
 
   pub kinds_let_through : (r : Request) → refusal_of a r owned ≡ None → is_of_apps (call_of r) ≡ true
   kinds_let_through r none = for_apps r (let_through r none)
@@ -46,11 +46,3 @@ module _ (a : ℕ) (app : (a == 0) ≡ false) (owned : List Owned) where
 
   pub acquires_own : (stream : ℕ) → refusal_of a (request.Acquire stream) owned ≡ None → owns a stream owned ≡ true
   acquires_own stream none = of_own (owns a stream owned) (rw app at none)
-
--- what is let through begins no frame
-pub begins_none : (client : ℕ) (owned : List Owned) (r : Request) → refusal_of client r owned ≡ None → is_begin (call_of r) ≡ false
-begins_none client owned r none = by_test (is_begin (call_of r)) refl
-  where
-    by_test : (b : Bool) → is_begin (call_of r) ≡ b → b ≡ false
-    by_test false is = refl
-    by_test true is = absurd (let no : Some code.Unsupported ≡ None = sym (rw is refl) ∙ none in cc)

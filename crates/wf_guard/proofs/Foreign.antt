@@ -1,6 +1,6 @@
 -- A stream that an app does not own stays as it was.
 use Rattle.std.proofs.Common.{◌≡◌, ◌∙◌, ℕ, Bool, true, false, ◌==◌, Option, Some, None, refl, sym, ap, subst}
-use Rattle.std.proofs.lemmas.Bool.{eqb-true}
+use Rattle.std.proofs.lemmas.Bool.{both_ways, ne_eqb}
 use Rattle.wf_stream.specs.Streams.{KeptStream, has_number, stream_at, stream_of}
 use Rattle.wf_calls.specs.Requests.{call_of}
 use Rattle.wf_calls.specs.declared.request.Request.{Request}
@@ -22,31 +22,22 @@ module _ (v : Served) (a : ℕ) (app : (a == 0) ≡ false) (n : ℕ) (s : KeptSt
     (apart : AreApart v.machine.streams) (foreign : owns a s.handle v.owned ≡ false) where
   -- what an app may name is its own, so it is another stream
   own_is_other : (handle : ℕ) → owns a handle v.owned ≡ true → (s.handle == handle) ≡ false
-  own_is_other handle own = by_test (s.handle == handle) refl
-    where
-      by_test : (b : Bool) → (s.handle == handle) ≡ b → b ≡ false
-      by_test false is = refl
-      by_test true is =
-          let here : owns a s.handle v.owned ≡ true = ap (λ k. owns a k v.owned) (eqb-true s.handle handle is) ∙ own in
-          absurd (let no : true ≡ false = sym here ∙ foreign in cc)
+  own_is_other handle own =
+      ne_eqb s.handle handle (λ same. both_ways _ foreign (ap (λ k. owns a k v.owned) same ∙ own))
 
   own_is_elsewhere : (handle : ℕ) → owns a handle v.owned ≡ true → (o : Option KeptStream) → stream_of handle v.machine.streams ≡ o
       → is_found s o ≡ false
   own_is_elsewhere handle own None is = refl
-  own_is_elsewhere handle own (Some t) is = by_test (s.number == t.number) refl
+  own_is_elsewhere handle own (Some t) is = ne_eqb s.number t.number of_one
     where
-      by_test : (b : Bool) → (s.number == t.number) ≡ b → b ≡ false
-      by_test false other = refl
-      by_test true same =
+      of_one : s.number ≡ t.number → ⊥
+      of_one same =
           let at : stream_at t.number v.machine.streams ≡ Some s =
-          subst (λ k. stream_at k v.machine.streams ≡ Some s) (sym (has_number n v.machine.streams s found) ∙ eqb-true s.number t.number
-          same)
-          found in
+          subst (λ k. stream_at k v.machine.streams ≡ Some s) (sym (has_number n v.machine.streams s found) ∙ same) found in
           let one : Some s ≡ Some t = sym at ∙ apart handle t is in
           let equal : s ≡ t = cc in
           let here : s.handle ≡ handle = ap (λ (x : KeptStream). x.handle) equal ∙ found_handle handle v.machine.streams t is in
-          let no : true ≡ false = sym own ∙ ap (λ k. owns a k v.owned) (sym here) ∙ foreign in
-          absurd cc
+          both_ways _ foreign (ap (λ k. owns a k v.owned) here ∙ own)
 
   -- a request that is let through names another stream
   names_another : (r : Request) → refusal_of a r v.owned ≡ None → is_for_apps r ≡ true → names_stream (call_of r) v.machine s ≡ false
@@ -63,15 +54,13 @@ module _ (v : Served) (a : ℕ) (app : (a == 0) ≡ false) (n : ℕ) (s : KeptSt
 
     -- what the app holds is of another stream
     holds_another : (canvas : Canvas) → canvas_of a v.held ≡ Some canvas → (s.number == canvas.stream) ≡ false
-    holds_another canvas holds = by_test (s.number == canvas.stream) refl
+    holds_another canvas holds = ne_eqb s.number canvas.stream of_one
       where
-        by_test : (b : Bool) → (s.number == canvas.stream) ≡ b → b ≡ false
-        by_test false other = refl
-        by_test true same =
+        of_one : s.number ≡ canvas.stream → ⊥
+        of_one same =
             let at : stream_at canvas.stream v.machine.streams ≡ Some s =
-            subst (λ k. stream_at k v.machine.streams ≡ Some s) (sym (has_number n v.machine.streams s found)
-            ∙ eqb-true s.number canvas.stream same) found in
-            absurd (let no : true ≡ false = sym (own_stream a v own canvas s holds at live) ∙ foreign in cc)
+            subst (λ k. stream_at k v.machine.streams ≡ Some s) (sym (has_number n v.machine.streams s found) ∙ same) found in
+            both_ways _ foreign (own_stream a v own canvas s holds at live)
 
     keeps : Keeps Stays v a m
     keeps =

@@ -1,7 +1,7 @@
 -- Write buffers that are held, each of another stream.
 use Rattle.std.proofs.Common.{◌≡◌, ◌∙◌, ℕ, zero, suc, Bool, true, false, ◌==◌, ◌||◌, List, [], ◌∷◌, ◌++◌, Option, Some, None, ◌⊎◌, inl, inr}
 use Rattle.std.proofs.Common.{option_map, refl, sym, ap, subst}
-use Rattle.std.proofs.lemmas.Bool.{eq-eqb, eqb-true, or_parts}
+use Rattle.std.proofs.lemmas.Bool.{both_ways, eq-eqb, eqb-false, eqb-true, false_from_ne_true, ne_eqb, or_parts}
 use Rattle.std.proofs.lemmas.List.Folds.{list_any-append}
 use Rattle.std.specs.Prelude.{find, option_and_then, slice_get}
 use Rattle.std.specs.List.{list_any, position, remove}
@@ -40,11 +40,7 @@ none_more n h hs none other =
 
 -- two numbers are apart either way round
 pub other_way : (n k : ℕ) → (n == k) ≡ false → (k == n) ≡ false
-other_way n k apart = by_test (k == n) refl
-  where
-    by_test : (b : Bool) → (k == n) ≡ b → b ≡ false
-    by_test false is = refl
-    by_test true is = absurd (let no : true ≡ false = sym (eq-eqb n k (sym (eqb-true k n is))) ∙ apart in cc)
+other_way n k apart = ne_eqb k n (λ same. eqb-false n k apart (sym same))
 
 pub apart_more : (h : Held) (hs : List Held) → AllApart hs → is_held h.canvas.stream hs ≡ false → AllApart (hs ++ h ∷ [])
 apart_more h [] apart none = (refl, tt)
@@ -70,11 +66,7 @@ still_held n (suc at) (h ∷ hs) held = by_test (still_held n at hs) (h.canvas.s
     by_test later false held = later held
 
 not_held : (n : ℕ) (at : ℕ) (hs : List Held) → is_held n hs ≡ false → is_held n (remove hs at) ≡ false
-not_held n at hs none = by_test (is_held n (remove hs at)) refl
-  where
-    by_test : (b : Bool) → is_held n (remove hs at) ≡ b → b ≡ false
-    by_test false is = refl
-    by_test true is = absurd (let no : true ≡ false = sym (still_held n at hs is) ∙ none in cc)
+not_held n at hs none = false_from_ne_true (is_held n (remove hs at)) (λ is. both_ways _ none (still_held n at hs is))
 
 apart_left : (at : ℕ) (hs : List Held) → AllApart hs → AllApart (remove hs at)
 apart_left zero [] apart = apart
@@ -139,14 +131,9 @@ held_apart a b apart one two (h ∷ hs) all first second =
   where
     -- the first one is of another stream than those behind it
     head : (c d : ℕ) (other : Canvas) → canvas_of d hs ≡ Some other → (h.canvas.stream == other.stream) ≡ false
-    head c d other is = by_test (h.canvas.stream == other.stream) refl
-      where
-        by_test : (t : Bool) → (h.canvas.stream == other.stream) ≡ t → t ≡ false
-        by_test false differs = refl
-        by_test true same =
-            let there = (taken d other hs all.1 is).held in
-            absurd (let no : true ≡ false =
-            sym there ∙ ap (λ k. is_held k hs) (sym (eqb-true h.canvas.stream other.stream same)) ∙ all.0 in cc)
+    head c d other is =
+        ne_eqb h.canvas.stream other.stream
+        (λ same. both_ways _ all.0 (ap (λ k. is_held k hs) same ∙ (taken d other hs all.1 is).held))
 
     by_tests : (canvas_of a hs ≡ Some one → canvas_of b hs ≡ Some two → (one.stream == two.stream) ≡ false) → (t : Bool)
         → (h.key == a) ≡ t → (u : Bool) → (h.key == b) ≡ u → canvas_of a (h ∷ hs) ≡ Some one → canvas_of b (h ∷ hs) ≡ Some two

@@ -1,7 +1,7 @@
 -- No two clients hold the write buffer of one stream.
 use Rattle.std.proofs.Common.{◌≡◌, ◌∙◌, ℕ, ◌+◌, Bool, true, false, cond, not, ◌==◌, ◌&&◌, ◌||◌, List, [], ◌∷◌, ◌++◌, Option, Some, None, Ok}
 use Rattle.std.proofs.Common.{Err, ◌⊎◌, inl, inr, refl, sym, ap, subst}
-use Rattle.std.proofs.lemmas.Bool.{and_parts, eq-eqb, eqb-true}
+use Rattle.std.proofs.lemmas.Bool.{and_parts, both_ways, eq-eqb, eqb-true, false_from_ne_true, ne_eqb, true≢false}
 use Rattle.wf_words.specs.Keyed.{is_in}
 use Rattle.wf_words.specs.Refusals.{◌>>=◌}
 use Rattle.wf_image.specs.Bitmap.{Bitmap}
@@ -176,19 +176,10 @@ one_more h g held key canvas steady once now =
     one = record { key = key; canvas = canvas }
 
     none : is_held canvas.stream held ≡ false
-    none = by_test (is_held canvas.stream held) refl
-      where
-        by_test : (b : Bool) → is_held canvas.stream held ≡ b → b ≡ false
-        by_test false is = refl
-        by_test true is = absurd (let no : true ≡ false = sym (once.out canvas.stream is) ∙ now.before in cc)
+    none = false_from_ne_true (is_held canvas.stream held) (λ is. both_ways _ now.before (once.out canvas.stream is))
 
     other : (n : ℕ) → is_out n h.streams ≡ true → (canvas.stream == n) ≡ false
-    other n out = by_test (canvas.stream == n) refl
-      where
-        by_test : (b : Bool) → (canvas.stream == n) ≡ b → b ≡ false
-        by_test false is = refl
-        by_test true is =
-            absurd (let no : true ≡ false = sym out ∙ ap (λ k. is_out k h.streams) (sym (eqb-true canvas.stream n is)) ∙ now.before in cc)
+    other n out = ne_eqb canvas.stream n (λ same. both_ways _ now.before (ap (λ k. is_out k h.streams) same ∙ out))
 
     of_either : (n : ℕ) → (is_held n held ≡ true) ⊎ (n ≡ canvas.stream) → is_out n g.streams ≡ true
     of_either n (inl is) = steady.out n (once.out n is)
@@ -198,19 +189,10 @@ one_more h g held key canvas steady once now =
 
 module _ (h : State) (held : List Held) (once : OutOnce h held) (b : ℕ) (canvas : Canvas) (taken_it : IsTaken b canvas held) where
   not_left : (n : ℕ) → is_held n held ≡ false → is_held n (without b held) ≡ false
-  not_left n none = by_test (is_held n (without b held)) refl
-    where
-      by_test : (t : Bool) → is_held n (without b held) ≡ t → t ≡ false
-      by_test false is = refl
-      by_test true is = absurd (let no : true ≡ false = sym (taken_it.left n is) ∙ none in cc)
+  not_left n none = false_from_ne_true (is_held n (without b held)) (λ is. both_ways _ none (taken_it.left n is))
 
   another : (n : ℕ) → is_held n held ≡ false → (canvas.stream == n) ≡ false
-  another n none = by_test (canvas.stream == n) refl
-    where
-      by_test : (t : Bool) → (canvas.stream == n) ≡ t → t ≡ false
-      by_test false is = refl
-      by_test true is =
-          absurd (let no : true ≡ false = sym taken_it.held ∙ ap (λ k. is_held k held) (eqb-true canvas.stream n is) ∙ none in cc)
+  another n none = ne_eqb canvas.stream n (λ same. both_ways _ none (ap (λ k. is_held k held) (sym same) ∙ taken_it.held))
 
   -- it is held again, drawn on or not
   put_back : (image : Bitmap) → OutOnce h (without b held ++ record { key = b; canvas = record canvas { image = image } } ∷ [])
@@ -242,13 +224,8 @@ module _ (h : State) (held : List Held) (once : OutOnce h held) (b : ℕ) (canva
       }
     where
       not_it : (n : ℕ) → is_held n (without b held) ≡ true → (n == canvas.stream) ≡ false
-      not_it n is = by_test (n == canvas.stream) refl
-        where
-          by_test : (t : Bool) → (n == canvas.stream) ≡ t → t ≡ false
-          by_test false other = refl
-          by_test true same =
-              absurd (let no : true ≡ false =
-              sym is ∙ ap (λ k. is_held k (without b held)) (eqb-true n canvas.stream same) ∙ taken_it.gone in cc)
+      not_it n is =
+          ne_eqb n canvas.stream (λ same. both_ways _ taken_it.gone (ap (λ k. is_held k (without b held)) (sym same) ∙ is))
 
       stays : (n : ℕ) → (n == canvas.stream) ≡ false → is_out n h.streams ≡ true
           → is_out n (settle_if true (with_stream canvas.stream f h)).streams ≡ true
@@ -321,11 +298,8 @@ module _ (h : State) (held : List Held) (once : OutOnce h held) where
       ns = scene_streams b.scene
 
       not_held_yet : (n : ℕ) → IsFree h n → is_held n held ≡ false
-      not_held_yet n kept = by_test (is_held n held) refl
-        where
-          by_test : (t : Bool) → is_held n held ≡ t → t ≡ false
-          by_test false is = refl
-          by_test true is = absurd (let no : true ≡ false = sym (once.out n is) ∙ ap out_of kept.at ∙ kept.home in cc)
+      not_held_yet n kept =
+          false_from_ne_true (is_held n held) (λ is. true≢false (sym (once.out n is) ∙ ap out_of kept.at ∙ kept.home))
 
   begins_once : (c : Call) (m : Bool) → is_begin c ≡ true → Now (act h c m)
   begins_once c m begin = by_begin Now h c m begin offers (λ b is. begun b (begun_target h b c is))
@@ -367,13 +341,9 @@ module _ (h : State) (held : List Held) (once : OutOnce h held) where
       kinds = same_target job.kind f.kind (own_kind (job.number == f.number) (same_kind job.kind f.kind) _ _ _ _ own)
 
       not_target : (n : ℕ) → is_held n held ≡ true → is_in n (target_names job.kind) ≡ false
-      not_target n is = by_test (is_in n (target_names job.kind)) refl
-        where
-          by_test : (t : Bool) → is_in n (target_names job.kind) ≡ t → t ≡ false
-          by_test false other = refl
-          by_test true same =
-              let targets : is_target n h.frame ≡ true = ap (is_target n) runs ∙ ap (is_in n) (sym kinds) ∙ same in
-              absurd (let no : true ≡ false = sym is ∙ (once.target n targets).1 in cc)
+      not_target n is =
+          false_from_ne_true (is_in n (target_names job.kind)) (λ same.
+          both_ways _ (once.target n (ap (is_target n) runs ∙ ap (is_in n) (sym kinds) ∙ same)).1 is)
 
   ends_once : (job : Job) → Now (end job h)
   ends_once job = of_frame h.frame refl

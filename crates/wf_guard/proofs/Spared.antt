@@ -1,7 +1,7 @@
 -- What another client asks for leaves a state that looks alike to an app, where it names none of its streams.
 use Rattle.std.proofs.Common.{◌≡◌, ◌∙◌, ℕ, ◌+◌, Bool, true, false, cond, not, ◌==◌, ◌||◌, List, Option, Some, None, Ok, Err, option_map}
 use Rattle.std.proofs.Common.{refl, sym, ap, subst}
-use Rattle.std.proofs.lemmas.Bool.{eqb-true}
+use Rattle.std.proofs.lemmas.Bool.{both_ways, eqb-true, ne_eqb}
 use Rattle.wf_words.specs.Refusals.{◌>>=◌}
 use Rattle.wf_image.specs.Bitmap.{Bitmap}
 use Rattle.wf_image.specs.declared.canvas.Canvas.{Canvas}
@@ -142,12 +142,7 @@ module _ (a : ℕ) (app : (a == 0) ≡ false) (v : Served) (sound : IsSound v) w
 
   -- what is none of its own is another one
   another : (k stream : ℕ) → owns a k v.owned ≡ true → owns a stream v.owned ≡ false → (k == stream) ≡ false
-  another k stream own other = by_test (k == stream) refl
-    where
-      by_test : (b : Bool) → (k == stream) ≡ b → b ≡ false
-      by_test false is = refl
-      by_test true is =
-          absurd (let no : true ≡ false = sym own ∙ ap (λ i. owns a i v.owned) (eqb-true k stream is) ∙ other in cc)
+  another k stream own other = ne_eqb k stream (λ same. both_ways _ other (ap (λ i. owns a i v.owned) (sym same) ∙ own))
 
   ends : (stream : ℕ) → owns a stream v.owned ≡ false → (o : Option KeptStream) → stream_of stream h.streams ≡ o
       → Unmoved (stream_step h (stream_destroy stream h)).0
