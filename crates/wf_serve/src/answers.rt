@@ -111,7 +111,7 @@ impl Answers {
     }
 
     /// Puts the answer to `client` and the message of `number`: what is `told`, and a `payload`.
-    pub fn put(&mut self, client: u8, number: u8, told: Told, payload: &[u8])
+    pub(crate) fn put(&mut self, client: u8, number: u8, told: Told, payload: &[u8])
         requires { length self.old + HEAD + length payload.now ≤ ROOM }
         ensures put { self.new ≡ self.old ++ answer_bytes (answer_to client number told payload.now) }
         ensures length { length self.new ≡ length self.old + HEAD + length payload.now }
@@ -124,7 +124,7 @@ impl Answers {
     }
 
     /// Puts the answer to `client` and the message of `number`: what is `told`, and a picture with its sides.
-    pub fn put_picture(&mut self, client: u8, number: u8, told: Told, image: &Image)
+    pub(crate) fn put_picture(&mut self, client: u8, number: u8, told: Told, image: &Image)
         requires { length self.old ≤ HEAD }
         ensures { self.new ≡ self.old ++ answer_bytes (answer_to client number told (image_bytes image.now)) }
     {

@@ -372,8 +372,8 @@ impl Core {
         Ok(())
     }
 
-    /// Does what a message of `client` asks for, by its `number` and its `body`: puts the answers into `answers`, which
-    /// are none before, and the pictures of a tick into `frames`.
+    /// Does what a message of `client` asks for, by its `number` and its `body`: puts the answers into `answers`, in place of those that
+    /// were there, and the pictures of a tick into `frames`.
     pub fn hear<K: Sink>(
         &mut self,
         client: u8,
@@ -382,13 +382,13 @@ impl Core {
         answers: &mut Answers,
         frames: &mut K,
     ) -> Result<(), WriteStop>
-        requires { answers.old ≡ [] }
         ensures heard { OnOk result ((fs : List ℕ) × Hears client number body.now self.old self.new answers.new fs
             × PlainPuts K.took frames.old frames.new fs) }
         ensures cut { OnErr result ((after : Served) × (ans : List ℕ) × (fs : List ℕ)
             × Hears client number body.now self.old after ans fs × PutsFront K.took frames.old frames.new fs) }
         ensures cause { HasCause (K.faults frames.old) (K.faults frames.new) result }
     {
+        answers.clear();
         let kind = kind_of(client, number);
         self.hear_kind(kind, client, number, body, answers, frames)
     }

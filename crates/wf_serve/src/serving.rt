@@ -1,6 +1,6 @@
 //! A run: messages are read, one after another, and each is answered before the next.
 
-ghost use Rattle.std.specs.Prelude.{◌≡◌, ◌∷◌, [], ◌≤◌, ℕ, IfErr, IfOk, IsErrOf, IsTrue, OnErr, OnOk, length};
+ghost use Rattle.std.specs.Prelude.{◌≡◌, ◌∷◌, ◌≤◌, ℕ, IfErr, IfOk, IsErrOf, IsTrue, OnErr, OnOk, length};
 ghost use Rattle.wf_calls.specs.PortRules.{may_declare};
 ghost use Rattle.wf_guard.specs.LiveStreams.{opened};
 ghost use Rattle.wf_guard.specs.Serving.{Served};
@@ -74,7 +74,6 @@ fn serve_one<K: Sink, F: Sink>(
     ensures frames_fault { IsErrOf result ServeStop.FramesFault → Rose (F.faults frames.old) (F.faults frames.new) }
 {
     let (client, number, body) = parts_of(content);
-    answers.clear();
     match core.hear(client, number, body, answers, frames) {
         Ok(()) => put_answers(out, answers.bytes()),
         Err(_) => Err(ServeStop::FramesFault),
