@@ -3,9 +3,7 @@ use Rattle.std.proofs.Common.{◌≡◌, ◌∙◌, ℕ, Bool, List, [], ◌∷�
 use Rattle.wf_guard.specs.Serving.{Served}
 use Rattle.wf_serve.specs.Heard.{Heard}
 use Rattle.wf_serve.specs.Runs.{Incoming, Runs, ran}
-
-abbrev heard_so : Served → List ℕ → List ℕ → Heard
-heard_so new ans fs = record { now = new; answers = ans; frames = fs }
+use Rattle.wf_serve.proofs.HeardSo.{heard_so}
 
 pub again : (ms : List Incoming) (v w : Served) (ans fs : List ℕ) → Runs v ms w ans fs
     → (marks : List Bool) × (ran ms marks v ≡ heard_so w ans fs)

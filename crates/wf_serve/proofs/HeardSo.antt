@@ -24,7 +24,7 @@ use Rattle.wf_serve.specs.declared.kind.Kind.TheVariants as kind
 use Rattle.wf_serve.specs.declared.kind.TheConstants.{LEFT, TICK}
 
 -- what is left, answered and shown
-abbrev heard_so : Served → List ℕ → List ℕ → Heard
+abbrev pub heard_so : Served → List ℕ → List ℕ → Heard
 heard_so new ans fs = record { now = new; answers = ans; frames = fs }
 
 module _ (client number : ℕ) (old new : Served) where
