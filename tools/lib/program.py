@@ -1,5 +1,5 @@
-"""The built program, as the tools play it: the one that WFPLAY names, or that of this checkout. The same of cases_machine and cases_wire,
-which play cases."""
+"""Plays the built program as the tools do: the one that WFPLAY names, or that of this checkout. So WFCASES and WFWIRE name cases_machine
+and cases_wire, which play cases, WFSERVE the live core, and WFPICTURES and WFDESK bench_pictures and bench_desk, which take times."""
 
 import functools
 import os
@@ -11,6 +11,8 @@ PROGRAM = Path(os.environ.get("WFPLAY") or TOP / "crates/wfplay/out/wfplay")
 CASES = Path(os.environ.get("WFCASES") or TOP / "crates/cases_machine/out/cases_machine")
 SESSIONS = Path(os.environ.get("WFWIRE") or TOP / "crates/cases_wire/out/cases_wire")
 SERVE = Path(os.environ.get("WFSERVE") or TOP / "crates/wfserve/out/wfserve")
+PICTURES = Path(os.environ.get("WFPICTURES") or TOP / "crates/bench_pictures/out/bench_pictures")
+DESK = Path(os.environ.get("WFDESK") or TOP / "crates/bench_desk/out/bench_desk")
 SECONDS = 120
 
 
