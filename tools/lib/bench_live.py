@@ -106,7 +106,7 @@ def pairs():
 
 
 def into_pipes(runs):
-    """Returns what the ticks cost whose pictures go into pipes that are read, by so many `runs`."""
+    """Returns what the ticks cost whose pictures go into pipes that are read, in as many `runs`."""
     film, core = (lambda data: piped(FILM, data)[0]), (lambda data: by_core(data)[0])
     rows = [times(pair._replace(wanted="1.2"), film, core, runs) for pair in pairs()[1:]]
     heads = ("What", "us in a film", "us by the core", "over the film", "wanted, at most")
@@ -114,7 +114,7 @@ def into_pipes(runs):
 
 
 def bands(runs):
-    """Returns what a tick costs in which the pointer moved, with whole frames and with bands, by so many `runs`: of the core, of who reads,
+    """Returns what a tick costs in which the pointer moved, with whole frames and with bands, in as many `runs`: of the core, of who reads,
     and in bytes."""
     rows = []
     for what, words in (("whole frames", ()), ("`--bands`", ("--bands",))):
@@ -138,7 +138,7 @@ def copies():
 
 
 def uploads(runs):
-    """Returns what a picture that is uploaded costs beside a copy of its bytes, by so many `runs`."""
+    """Returns what a picture that is uploaded costs beside a copy of its bytes, in as many `runs`."""
     held = frame(1, "StreamNew", WIDTH, HEIGHT, "rgbx", 2) + frame(1, "Acquire", 1)
     put = frame(1, "put", 0, 0, WIDTH, HEIGHT, data=PIXELS)
     made = lambda count: held + put * count

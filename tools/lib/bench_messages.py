@@ -42,7 +42,7 @@ class Pair(NamedTuple):
 
 
 def times(pair, film, core, runs):
-    """Returns the row of a `pair` by the times of so many `runs`: `film` tells what the play of a script takes, and `core` what an input
+    """Returns the row of a `pair` by the times of as many `runs`: `film` tells what the play of a script takes, and `core` what an input
     does."""
     costs = [(piece(film, pair.script, pair.count), piece(core, pair.input, pair.count)) for _ in range(runs)]
     events, messages = zip(*costs)
@@ -59,7 +59,7 @@ def counts(pair, core):
 
 
 def beside(pairs, core, runs):
-    """Yields what the messages of all `pairs` cost that the command `core` takes: by the times of so many `runs`, and, of those that may
+    """Yields what the messages of all `pairs` cost that the command `core` takes: by the times of as many `runs`, and, of those that may
     come often enough, by instructions."""
     by_core = lambda data: processor_seconds(core, data)
     rows = [times(pair, film_seconds, by_core, runs) for pair in pairs]

@@ -105,7 +105,7 @@ def build(parts):
 
 
 def measured(name, runs):
-    """Yields what the part of a `name` measures in so many `runs`, and what it leaves out, with the fault where a program ends otherwise
+    """Yields what the part of a `name` measures in `runs`, and what it leaves out, with the fault where a program ends otherwise
     than it should."""
     part, whole = PARTS[name], f"the part `{name}`"
     why = lack(part)

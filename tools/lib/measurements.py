@@ -19,7 +19,7 @@ HOW = (
 
 
 class Section(NamedTuple):
-    """Holds what a `part` of a `name` measured: the `items`, which are tables and what was left out, in so many `runs` and `seconds`."""
+    """Holds what a `part` of a `name` measured: the `items`, which are tables and what was left out, in `runs` and `seconds`."""
 
     name: str
     part: Part

@@ -29,7 +29,7 @@ class Left(NamedTuple):
 
 
 def spread(values, by=1, digits=2):
-    """Returns the median of `values` with the least and the most of them, each taken `by` times and told with so many `digits`; one value
+    """Returns the median of `values` with the least and the most of them, each taken `by` times and told with as many `digits`; one value
     stands alone."""
     told = [f"{value * by:,.{digits}f}" for value in (statistics.median(values), min(values), max(values))]
     return told[0] if len(values) == 1 else f"{told[0]} ({told[1]} to {told[2]})"
