@@ -12,7 +12,9 @@ CRATE = TOP / "crates/weklandu"
 # The built archive: the one that the variable WEKLANDU_A names, or that of this checkout.
 ARCHIVE = Path(os.environ.get("WEKLANDU_A") or CRATE / "out/libweklandu.a")
 HEADERS = (TOP / "include/weklandu.h", TOP / "bindings/cpp/weklandu.hpp")
-VERSION = "0.1.0"
+VERSION = "1.0.0"
+# The name that a program keeps of the shared object: its number rises where a program has to be built anew.
+SONAME = f"libweklandu.so.{VERSION.split('.', maxsplit=1)[0]}"
 CONFIG = """prefix={prefix}
 includedir=${{prefix}}/include
 libdir=${{prefix}}/lib
@@ -58,7 +60,17 @@ def put_libraries(archive, folder):
         whole = folder / "libweklandu.a"
         whole.unlink(missing_ok=True)
         subprocess.run(["ar", "rcs", whole, *objects], check=True)
-        subprocess.run([os.environ.get("CC", "cc"), "-shared", "-o", folder / "libweklandu.so", *objects], check=True)
+        put_shared(objects, folder)
+
+
+def put_shared(objects, folder):
+    """Writes into a folder the shared object of these objects by its version, and links to it by its name of programs and of linkers."""
+    shared = folder / f"libweklandu.so.{VERSION}"
+    for old in folder.glob("libweklandu.so*"):
+        old.unlink()
+    subprocess.run([os.environ.get("CC", "cc"), "-shared", f"-Wl,-soname,{SONAME}", "-o", shared, *objects], check=True)
+    (folder / SONAME).symlink_to(shared.name)
+    (folder / "libweklandu.so").symlink_to(SONAME)
 
 
 def install(archive, prefix):
