@@ -84,7 +84,8 @@ fn lay_stretch(
     }
 }
 
-/// The same, where the target's columns are at these places of the source.
+/// The same, where the target's columns are at these places of the source: apart when it runs, too, for what lies forward.
+#[inline(never)]
 fn lay_by_table(
     part: &mut [u8],
     layers: &[BoundLayer],

@@ -150,7 +150,7 @@ fn paint_by_lines(bytes: &mut [u8], width: u32, layers: &[BoundLayer], backgroun
     );
 }
 
-/// Writes rows by what is kept.
+/// Writes rows by what is kept, with room for the pieces that few layers make, or many: each picture makes this room anew.
 fn paint_rows(
     bytes: &mut [u8],
     width: u32,
@@ -167,9 +167,37 @@ fn paint_rows(
     requires kept { All (AreKept layers.now) kept.old }
     ensures { bytes.new ≡ bound_rows width layers.now background first (length bytes.old / (4 * width)) }
 {
+    if layers.len() <= 4 {
+        paint_by_strips::<10>(bytes, width, layers, background, first, kept, spare);
+    } else {
+        paint_by_strips::<66>(bytes, width, layers, background, first, kept, spare);
+    }
+}
+
+/// The same with room for `N` pieces of a row: `n` layers make `2n + 1` at most, and a piece that has no room is cut anew for each
+/// row.
+#[inline(never)]
+fn paint_by_strips<const N: usize>(
+    bytes: &mut [u8],
+    width: u32,
+    layers: &[BoundLayer],
+    background: Rgba,
+    first: u32,
+    kept: &mut [Kept],
+    spare: &mut [[u8; ROW_BYTES]],
+)
+    requires room { 1 ≤ N }
+    requires small { N ≤ 66 }
+    requires some { 1 ≤ width }
+    requires few { width ≤ MOST_SIDE }
+    requires count { length bytes.old % (4 * width) ≡ 0 }
+    requires within { first + length bytes.old / (4 * width) ≤ MOST_SIDE }
+    requires kept { All (AreKept layers.now) kept.old }
+    ensures { bytes.new ≡ bound_rows width layers.now background first (length bytes.old / (4 * width)) }
+{
     let stride = 4 * width as usize;
     let rows = (bytes.len() / stride) as u32;
-    let mut strips = [no_strip(); 66];
+    let mut strips = [no_strip(); N];
     let mut i = 0;
     while i < rows {
         let rest = &mut bytes[i as usize * stride..];
@@ -195,12 +223,13 @@ fn paint_next(
     width: u32,
     layers: &[BoundLayer],
     background: Rgba,
-    strips: &mut [Strip; 66],
+    strips: &mut [Strip],
     kept: &mut [Kept],
     spare: &mut [[u8; ROW_BYTES]],
     y: u32,
     rows: u32,
 ) -> u32
+    requires room { 1 ≤ length strips.old }
     requires few { width ≤ MOST_SIDE }
     requires some { 1 ≤ rows }
     requires within { y + rows ≤ MOST_SIDE }

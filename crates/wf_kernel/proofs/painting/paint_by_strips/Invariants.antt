@@ -4,11 +4,11 @@ use Rattle.std.specs.List.{range_with_len}
 use Rattle.wf_kernel.specs.Bound.{bound_row}
 use Rattle.wf_kernel.specs.Kept.{AreKept}
 use Rattle.wf_kernel.specs.Strips.{IsStrip}
-use Rattle.wf_kernel.proofs.painting.paint_rows.Given as goal
+use Rattle.wf_kernel.proofs.painting.paint_by_strips.Given as goal
 
 -- the rows so far are written, and the others are as they were
 abbrev pub invariant-loop-i : goal.invariant-loop-i
-invariant-loop-i l =
+invariant-loop-i g l =
     record {
       few : l.i ≤ l.rows;
       written :
@@ -20,4 +20,4 @@ invariant-loop-i l =
     }
 
 abbrev pub decreases-loop-i : goal.decreases-loop-i
-decreases-loop-i l = l.rows - l.i
+decreases-loop-i g l = l.rows - l.i
