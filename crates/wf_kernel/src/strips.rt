@@ -66,7 +66,9 @@ pub(crate) fn strip_for(
     strip_at(layers, width, first, y)
 }
 
-/// The strip that begins at column `first` of row `y`, of a row of `width` pixels.
+/// The strip that begins at column `first` of row `y`, of a row of `width` pixels. It stands in its caller, so that a strip that is known
+/// goes into registers: by way of memory it would be read before the pixels that were written last have gone to the cache.
+#[inline(always)]
 fn strip_at(layers: &[BoundLayer], width: u32, first: u32, y: u32) -> Strip
     requires few { width ≤ MOST_SIDE }
     requires first { first < width }
