@@ -1,6 +1,7 @@
 //! What a port shows.
 
-ghost use Rattle.std.specs.Prelude.{◌≡◌, ◌≤◌, ◌<◌, ◌+◌, ◌∷◌, ◌++◌, filter_map, flat_map, is_some, length, map, option_map, option_to_list, IfSome};
+ghost use Rattle.std.specs.Prelude.{◌≡◌, ◌≤◌, ◌<◌, ◌+◌, ◌∷◌, ◌++◌, filter_map, flat_map, is_some, length, map};
+ghost use Rattle.std.specs.Prelude.{option_map, option_to_list, IfSome};
 ghost use Rattle.std.specs.Option.{option_copied};
 ghost use Rattle.wf_words.specs.Keyed.{nth};
 ghost use Rattle.wf_stream.specs.Names.{HasRoom, NamesFit, Recounts, but_names};

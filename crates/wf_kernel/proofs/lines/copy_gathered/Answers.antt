@@ -22,7 +22,8 @@ copy_gathered_row-requires-clause-within c = λ k d less.
     let inner : k < s.len = omega arith in
     let column = get_or_default c.args.places.now k d 0 less ∙ c.requires.places k inner in
     let width = ap (λ (size : Size). size.w) c.size-width.ensures.size in
-    let low = in_row c.args.layer.now c.args.image.now s k prepared.showable c.requires.source c.requires.stretch c.requires.straight inner in
+    let low = in_row c.args.layer.now c.args.image.now s k prepared.showable c.requires.source c.requires.stretch c.requires.straight inner
+    in
     omega (arith, low.0, c.row_part.ensures.len)
 
 pub returns : goal.returns

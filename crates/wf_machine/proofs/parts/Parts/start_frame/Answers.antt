@@ -1,6 +1,6 @@
 use Rattle.wf_machine.proofs.Common.{◌≡◌, ◌+◌, [], Some, refl, sym, subst, ap, ◌∙◌, start, IsAnswer, IsSomeAnd, IsSound, Frame, Inside}
-use Rattle.wf_machine.proofs.Common.{AllByRecursion, Images, ◌<◌, Job, JobKind, MayStart, Option, Scene, State, StoreView, beginning_of, content_shape}
-use Rattle.wf_machine.proofs.Common.{latch, map, scene_streams, state_of, stream_at, ℕ, None}
+use Rattle.wf_machine.proofs.Common.{AllByRecursion, Images, ◌<◌, Job, JobKind, MayStart, Option, Scene, State, StoreView, beginning_of}
+use Rattle.wf_machine.proofs.Common.{content_shape, latch, map, scene_streams, state_of, stream_at, ℕ, None}
 use Rattle.std.specs.Option.{IsSome}
 use Rattle.wf_calls.specs.Places.{job_in}
 use Rattle.wf_calls.specs.Replies.{with_job}
