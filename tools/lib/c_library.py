@@ -15,6 +15,8 @@ HEADERS = (TOP / "include/weklandu.h", TOP / "bindings/cpp/weklandu.hpp")
 VERSION = "1.0.0"
 # The end target of this machine, by the name that the kit's compiler has for it.
 HOST = "x86_64-unknown-linux-gnu"
+# The end target of 64-bit ARM.
+ARM = "aarch64-unknown-linux-gnu"
 # The name that a program keeps of the shared object: its number rises where a program has to be built anew.
 SONAME = f"libweklandu.so.{VERSION.split('.', maxsplit=1)[0]}"
 CONFIG = """prefix={prefix}
