@@ -166,11 +166,12 @@ impl Display {
     }
 
     /// Writes into `scene` what a `port`, which is counted from 1, shows: its background, its screen, scaled to the committed mode, and
-    /// each pipeline that is committed to it and shows a stream, by rising number. Returns whether it shows anything: it does not where
-    /// it was not declared, is off, or has no display attached.
+    /// each pipeline that is committed to it and shows a stream, by rising number. Returns whether it shows anything: a port that was not
+    /// declared, is off, or has no display attached shows nothing, and `scene` stays as it was.
     pub fn write_scene(&self, port: u32, scene: &mut Scene) -> bool
         ensures shows { result ≡ is_some (port_scene port self.now) }
         ensures scene { IfSome (port_scene port self.now) (λ shown. scene.new ≡ shown) }
+        ensures stays { port_scene port self.now ≡ None → scene.new ≡ scene.old }
     {
         match port_of(&self.ports, port) {
             Some(found) if is_lit(found) => {

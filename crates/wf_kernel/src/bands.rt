@@ -8,6 +8,7 @@ ghost use Rattle.wf_kernel.specs.Bands.{IsBand};
 ghost use Rattle.wf_kernel.specs.Bound.{bound_picture, bound_rows};
 ghost use Rattle.wf_kernel.specs.Prepared.{AreTables, table_count};
 
+use crate::FEW_LAYERS;
 use crate::bound::{BoundLayer, bind_layers, no_layers};
 use crate::painting::paint;
 use crate::splitting::{Band, cost_above, split_band};
@@ -60,8 +61,8 @@ fn rows_of_scene<R: Threads + Sync>(
         rows_of_bound(rt, workers, bytes, scene, contents, &[]);
     } else if count == 1 {
         rows_by_tables::<R, 1>(rt, workers, bytes, scene, contents);
-    } else if count <= 4 {
-        rows_by_tables::<R, 4>(rt, workers, bytes, scene, contents);
+    } else if count <= FEW_LAYERS {
+        rows_by_tables::<R, FEW_LAYERS>(rt, workers, bytes, scene, contents);
     } else {
         rows_by_tables::<R, MOST_INSERTED>(rt, workers, bytes, scene, contents);
     }
@@ -105,8 +106,8 @@ fn rows_of_bound<R: Threads + Sync>(
     requires tables { AreTables scene.now 0 scene.now.size.w tables.now }
     ensures { bytes.new ≡ bound_picture scene.now contents.now }
 {
-    if scene.layers.len() <= 4 {
-        rows_of_layers::<R, 4>(rt, workers, bytes, scene, contents, tables);
+    if scene.layers.len() <= FEW_LAYERS {
+        rows_of_layers::<R, FEW_LAYERS>(rt, workers, bytes, scene, contents, tables);
     } else {
         rows_of_layers::<R, MOST_INSERTED>(rt, workers, bytes, scene, contents, tables);
     }

@@ -84,7 +84,8 @@ fn lay_stretch(
     }
 }
 
-/// The same, where the target's columns are at these places of the source: apart when it runs, too, for what lies forward.
+/// The same, where the target's columns are at these places of the source. It is a function of its own when it runs, too, so that the
+/// path of layers that lie forward stays short.
 #[inline(never)]
 fn lay_by_table(
     part: &mut [u8],

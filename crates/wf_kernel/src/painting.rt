@@ -8,7 +8,6 @@ ghost use Rattle.wf_kernel.specs.Kept.{AreKept};
 ghost use Rattle.wf_kernel.specs.Prepared.{AreTables, table_count};
 ghost use Rattle.wf_kernel.specs.Strips.{IsStrip};
 
-use crate::ROW_BYTES;
 use crate::bound::{BoundLayer, bind_layers, no_layers};
 use crate::keeping::{Kept, nothing_kept};
 use crate::laying::lay_row;
@@ -16,6 +15,7 @@ use crate::placing::Walk;
 use crate::runs::paint_run;
 use crate::strips::{Strip, no_strip, strip_for};
 use crate::tables::{count_tables, fill_tables};
+use crate::{FEW_LAYERS, FEW_STRIPS, MOST_STRIPS, ROW_BYTES};
 use wf_image::{Contents, Image};
 use wf_pixel::{Format, MOST_SIDE, Rgba, SIDE_LEN};
 use wf_scene::{MOST_INSERTED, Scene};
@@ -46,8 +46,8 @@ fn paint_scene(bytes: &mut [u8], scene: &Scene, contents: &Contents)
         paint_bound(bytes, scene, contents, &[]);
     } else if count == 1 {
         paint_by_tables::<1>(bytes, scene, contents);
-    } else if count <= 4 {
-        paint_by_tables::<4>(bytes, scene, contents);
+    } else if count <= FEW_LAYERS {
+        paint_by_tables::<FEW_LAYERS>(bytes, scene, contents);
     } else {
         paint_by_tables::<MOST_INSERTED>(bytes, scene, contents);
     }
@@ -75,8 +75,8 @@ fn paint_bound(bytes: &mut [u8], scene: &Scene, contents: &Contents, tables: &[[
     requires tables { AreTables scene.now 0 scene.now.size.w tables.now }
     ensures { bytes.new ≡ bound_picture scene.now contents.now }
 {
-    if scene.layers.len() <= 4 {
-        paint_layers::<4>(bytes, scene, contents, tables);
+    if scene.layers.len() <= FEW_LAYERS {
+        paint_layers::<FEW_LAYERS>(bytes, scene, contents, tables);
     } else {
         paint_layers::<MOST_INSERTED>(bytes, scene, contents, tables);
     }
@@ -150,7 +150,8 @@ fn paint_by_lines(bytes: &mut [u8], width: u32, layers: &[BoundLayer], backgroun
     );
 }
 
-/// Writes rows by what is kept, with room for the pieces that few layers make, or many: each picture makes this room anew.
+/// Writes rows by what is kept. The room for the pieces of a row is made for each picture, and costs by its size: so a picture of few
+/// layers makes less of it.
 fn paint_rows(
     bytes: &mut [u8],
     width: u32,
@@ -167,15 +168,14 @@ fn paint_rows(
     requires kept { All (AreKept layers.now) kept.old }
     ensures { bytes.new ≡ bound_rows width layers.now background first (length bytes.old / (4 * width)) }
 {
-    if layers.len() <= 4 {
-        paint_by_strips::<10>(bytes, width, layers, background, first, kept, spare);
+    if layers.len() <= FEW_LAYERS {
+        paint_by_strips::<FEW_STRIPS>(bytes, width, layers, background, first, kept, spare);
     } else {
-        paint_by_strips::<66>(bytes, width, layers, background, first, kept, spare);
+        paint_by_strips::<MOST_STRIPS>(bytes, width, layers, background, first, kept, spare);
     }
 }
 
-/// The same with room for `N` pieces of a row: `n` layers make `2n + 1` at most, and a piece that has no room is cut anew for each
-/// row.
+/// The same with room for `N` pieces of a row. A piece that has no room is cut anew for each row.
 #[inline(never)]
 fn paint_by_strips<const N: usize>(
     bytes: &mut [u8],
@@ -187,7 +187,7 @@ fn paint_by_strips<const N: usize>(
     spare: &mut [[u8; ROW_BYTES]],
 )
     requires room { 1 ≤ N }
-    requires small { N ≤ 66 }
+    requires small { N ≤ MOST_STRIPS }
     requires some { 1 ≤ width }
     requires few { width ≤ MOST_SIDE }
     requires count { length bytes.old % (4 * width) ≡ 0 }

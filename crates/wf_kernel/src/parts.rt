@@ -12,12 +12,12 @@ ghost use Rattle.wf_kernel.specs.PartOfTarget.{IsPart, IsPartly, holds, part_col
 ghost use Rattle.wf_kernel.specs.Prepared.{AreTables, table_count};
 ghost use Rattle.wf_kernel.specs.Strips.{IsStrip};
 
-use crate::ROW_BYTES;
 use crate::bound::{BoundLayer, bind_layers, no_layers};
 use crate::keeping::{Kept, nothing_kept};
 use crate::painting::{are_forward, paint_piece};
 use crate::strips::no_strip;
 use crate::tables::{count_tables, fill_tables};
+use crate::{FEW_LAYERS, MOST_STRIPS, ROW_BYTES};
 use wf_image::{Contents, Image};
 use wf_pixel::{MOST_SIDE, Rect, Rgba, Rotation, SIDE_LEN, Size, turned};
 use wf_scene::{MOST_INSERTED, Scene};
@@ -117,8 +117,8 @@ fn part_of_scene(bytes: &mut [u8], scene: &Scene, contents: &Contents, part: Par
         part_of_bound(bytes, scene, contents, &[], part);
     } else if count == 1 {
         part_by_tables::<1>(bytes, scene, contents, part);
-    } else if count <= 4 {
-        part_by_tables::<4>(bytes, scene, contents, part);
+    } else if count <= FEW_LAYERS {
+        part_by_tables::<FEW_LAYERS>(bytes, scene, contents, part);
     } else {
         part_by_tables::<MOST_INSERTED>(bytes, scene, contents, part);
     }
@@ -153,8 +153,8 @@ fn part_of_bound(
     requires part { IsPart scene.now.size.w scene.now.size.h part }
     ensures { IsPartly scene.now.size.w scene.now.size.h (part_colour scene.now contents.now part) part bytes.old bytes.new }
 {
-    if scene.layers.len() <= 4 {
-        part_of_layers::<4>(bytes, scene, contents, tables, part);
+    if scene.layers.len() <= FEW_LAYERS {
+        part_of_layers::<FEW_LAYERS>(bytes, scene, contents, tables, part);
     } else {
         part_of_layers::<MOST_INSERTED>(bytes, scene, contents, tables, part);
     }
@@ -244,7 +244,7 @@ fn paint_part(
     requires kept { All (AreKept layers.now) kept.old }
     ensures { IsPartly width height (bound_colour layers.now background) part bytes.old bytes.new }
 {
-    let mut strips = [no_strip(); 66];
+    let mut strips = [no_strip(); MOST_STRIPS];
     for y in part.top..part.bottom {
         let at = 4 * (y * width + part.left) as usize;
         let piece = &mut bytes[at..at + 4 * (part.right - part.left) as usize];

@@ -11,7 +11,7 @@ loop-y-init c =
     record {
       partly = part_none c.args.width c.args.height (bound_colour c.args.layers.now c.args.background) c.args.part c.args.bytes.now;
       kept = c.requires.kept;
-      strips = All-replicate (IsStrip c.args.layers.now c.args.part.right) 66 c.no_strip-strips.result
+      strips = All-replicate (IsStrip c.args.layers.now c.args.part.right) 65 c.no_strip-strips.result
           (c.no_strip-strips.ensures c.args.layers.now c.args.part.right);
     }
 
