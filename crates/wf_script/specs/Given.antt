@@ -1,6 +1,6 @@
 -- What the words behind a verb give.
 use Rattle.std.specs.Prelude.{List, Result}
-use Rattle.wf_script.specs.declared.given.Given as declared
+use Rattle.wf_script.specs.declared.field.Item as declared
 use Rattle.wf_script.specs.declared.line.Verb.{Verb}
 use Rattle.wf_script.specs.declared.name.Name.{Name}
 use Rattle.wf_script.specs.declared.rule.Rule.{Rule}
@@ -12,6 +12,6 @@ use Rattle.wf_script.specs.Items.{items_of}
 abbrev pub Given : Type 0
 Given = Result (Verb × List Name) Rule
 
--- the verb, and the names that it uses
-abbrev pub given : declared.Given → Verb × List Name
-given g = (g.verb, names_in (items_of g.items.items))
+-- a verb, and the names that it uses, by the items of its words
+abbrev pub given : List declared.Item → Verb → Verb × List Name
+given items verb = (verb, names_in (items_of items))

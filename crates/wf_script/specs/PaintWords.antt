@@ -1,5 +1,5 @@
 -- The words of a paint.
-use Rattle.std.specs.Prelude.{ℕ, ◌+◌, ◌-◌, ◌*◌, ◌&&◌, nat_lt, nat_le, pos, negsuc, List, [], ◌∷◌, length, codes, slice_index, Option, Some}
+use Rattle.std.specs.Prelude.{ℕ, ◌+◌, ◌-◌, ◌*◌, ◌&&◌, nat_lt, nat_le, pos, List, [], ◌∷◌, length, codes, slice_index, Option, Some}
 use Rattle.std.specs.Prelude.{None, option_map, Result, Ok, Err, if◌then◌else◌}
 use Rattle.std.specs.Str.{byte}
 use Rattle.wf_words.specs.Refusals.{◌>>=◌, refuse_if, found_or}

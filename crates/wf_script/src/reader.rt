@@ -174,19 +174,16 @@ impl<'a> Reader<'a> {
         if self.no_event_here() || !is_its_client(form, client) {
             return Err(LineFault::Breaks(Rule::Place));
         }
-        let given = arguments(alloc, form, parts.arguments)?;
+        let mut items = ArrayVec::new();
+        let verb = arguments(alloc, form, parts.arguments, &mut items)?;
         let name = bound_name(parts.name)?;
-        if !self.names.sees(client, given.items.as_slice()) {
+        if !self.names.sees(client, items.as_slice()) {
             return Err(LineFault::Breaks(Rule::Name));
         }
         if self.names.take_line(client, parts.name)? {
             return Err(LineFault::Breaks(Rule::Name));
         }
-        self.lines.push(Line {
-            client,
-            name,
-            verb: given.verb,
-        })?;
+        self.lines.push(Line { client, name, verb })?;
         Ok(())
     }
 

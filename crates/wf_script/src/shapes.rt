@@ -1,6 +1,6 @@
 //! Words by the kinds that a form has.
 
-ghost use Rattle.std.specs.Prelude.{◌≡◌, ◌+◌, ◌≤◌, length, IfOk, OnOk};
+ghost use Rattle.std.specs.Prelude.{◌≡◌, ◌+◌, ◌≤◌, [], length, IfOk, OnOk};
 ghost use Rattle.std.specs.List.{slice_get};
 ghost use Rattle.wf_script.specs.Fields.{context_fields, element_fields, pipe_fields, port_fields, read_shape};
 ghost use Rattle.wf_script.specs.Forms.{fields, shape};
@@ -138,17 +138,21 @@ fn read_on<'a>(
     Ok(rest)
 }
 
-/// The items of the words behind a verb.
-pub(crate) fn read_words(plain: Plain, words: &[u8]) -> Result<ArrayVec<Item<'_>, 8>, Rule>
-    ensures { Finds (λ items. items_of items.items) result (read_shape (shape plain (words_in words.now)) (words_in words.now)) }
+/// Puts the items of the words behind a verb into `items`, where none stood.
+pub(crate) fn read_words<'a>(
+    plain: Plain,
+    words: &'a [u8],
+    items: &mut ArrayVec<Item<'a>, 8>,
+) -> Result<(), Rule>
+    requires { items.old.items ≡ [] }
+    ensures { Finds (λ _. items_of items.new.items) result (read_shape (shape plain (words_in words.now)) (words_in words.now)) }
 {
     let front = plain.fields();
     let more = more_fields(plain, words)?;
     counted(front.len() + more.len(), words)?;
-    let mut items = ArrayVec::new();
-    let rest = read_on(&mut items, front, words)?;
-    match read_on(&mut items, more, rest) {
-        Ok(_) => Ok(items),
+    let rest = read_on(items, front, words)?;
+    match read_on(items, more, rest) {
+        Ok(_) => Ok(()),
         Err(rule) => Err(rule),
     }
 }
