@@ -38,6 +38,9 @@ const BLOCK_BYTES: usize = 8 * ROW_BYTES;
 /// The layers of most scenes: where there are no more of them, a picture makes less room on the stack.
 const FEW_LAYERS: usize = 4;
 
+/// The pieces of a row that one layer makes.
+const ONE_STRIPS: usize = 3;
+
 /// The pieces of a row that few layers make: `n` layers have `2n` edges, which cut a row into `2n + 1` pieces at most.
 const FEW_STRIPS: usize = 2 * FEW_LAYERS + 1;
 

@@ -15,7 +15,7 @@ use crate::placing::Walk;
 use crate::runs::paint_run;
 use crate::strips::{Strip, no_strip, strip_for};
 use crate::tables::{count_tables, fill_tables};
-use crate::{FEW_LAYERS, FEW_STRIPS, MOST_STRIPS, ROW_BYTES};
+use crate::{FEW_LAYERS, FEW_STRIPS, MOST_STRIPS, ONE_STRIPS, ROW_BYTES};
 use wf_image::{Contents, Image};
 use wf_pixel::{Format, MOST_SIDE, Rgba, SIDE_LEN};
 use wf_scene::{MOST_INSERTED, Scene};
@@ -75,7 +75,9 @@ fn paint_bound(bytes: &mut [u8], scene: &Scene, contents: &Contents, tables: &[[
     requires tables { AreTables scene.now 0 scene.now.size.w tables.now }
     ensures { bytes.new ≡ bound_picture scene.now contents.now }
 {
-    if scene.layers.len() <= FEW_LAYERS {
+    if scene.layers.len() <= 1 {
+        paint_layers::<1>(bytes, scene, contents, tables);
+    } else if scene.layers.len() <= FEW_LAYERS {
         paint_layers::<FEW_LAYERS>(bytes, scene, contents, tables);
     } else {
         paint_layers::<MOST_INSERTED>(bytes, scene, contents, tables);
@@ -150,8 +152,8 @@ fn paint_by_lines(bytes: &mut [u8], width: u32, layers: &[BoundLayer], backgroun
     );
 }
 
-/// Writes rows by what is kept. The room for the pieces of a row is made for each picture, and costs by its size: so a picture of few
-/// layers makes less of it.
+/// Writes rows by what is kept. The room for the pieces of a row is made for each picture, and costs by its size: so a picture of one
+/// layer, as of a window on the whole screen, and one of few make less of it.
 fn paint_rows(
     bytes: &mut [u8],
     width: u32,
@@ -168,7 +170,9 @@ fn paint_rows(
     requires kept { All (AreKept layers.now) kept.old }
     ensures { bytes.new ≡ bound_rows width layers.now background first (length bytes.old / (4 * width)) }
 {
-    if layers.len() <= FEW_LAYERS {
+    if layers.len() <= 1 {
+        paint_by_strips::<ONE_STRIPS>(bytes, width, layers, background, first, kept, spare);
+    } else if layers.len() <= FEW_LAYERS {
         paint_by_strips::<FEW_STRIPS>(bytes, width, layers, background, first, kept, spare);
     } else {
         paint_by_strips::<MOST_STRIPS>(bytes, width, layers, background, first, kept, spare);
