@@ -1,18 +1,20 @@
 //! The running frame.
 
-ghost use Rattle.std.specs.Prelude.{◌≡◌, option_map};
+ghost use Rattle.std.specs.Prelude.{◌≡◌, None, is_some, option_map};
 ghost use Rattle.std.specs.List.{list_all};
+ghost use Rattle.std.specs.Option.{option_copied};
 ghost use Rattle.wf_model.specs.Frames.{has_shape, is_of_frame, is_target, same_kind};
 ghost use Rattle.wf_image.specs.Contents.{image_of};
 ghost use Rattle.wf_machine.specs.Ports.{running_of};
 
 use arrayvec::ArrayVec;
+use std::marker::Model;
 use wf_calls::{Job, JobKind};
 use wf_image::{Contents, MOST_CONTENTS};
 use wf_model::Content;
 use wf_pixel::{Format, Size};
 
-/// The running frame: its number and kind, the mode of its port whose image it draws into, counted from 1, or 0 for a
+/// A frame that runs: its number and kind, the mode of its port whose image it draws into, counted from 1, or 0 for a
 /// context's; the size and format of its image, and what it holds of each stream.
 #[derive(Drop)]
 pub(crate) struct Frame {
@@ -38,6 +40,63 @@ impl Frame {
     }
 }
 
+/// A place for the running frame, which holds one or none. A frame has 1 KB: each is written where it stands, and none is moved.
+#[derive(Drop)]
+pub(crate) struct FramePlace {
+    /// The running frame, or what the last one left.
+    pub frame: Frame,
+    pub runs: bool,
+}
+
+impl Model for FramePlace {
+    ghost use Rattle.std.specs.Prelude.{None, Option, Some, if◌then◌else◌};
+    ghost use Rattle.wf_machine.specs.declared.frame.Frame.{Frame};
+
+    ghost Value = { Option Frame };
+
+    ghost view = { λ p. if p.runs then Some p.frame else None };
+}
+
+impl FramePlace {
+    /// A place where no frame runs.
+    pub(crate) fn new() -> FramePlace
+        ensures { result ≡ None }
+    {
+        FramePlace {
+            frame: Frame {
+                number: 0,
+                kind: JobKind::Port { port: 0 },
+                mode: 0,
+                size: Size { w: 1, h: 1 },
+                format: Format::A8,
+                contents: ArrayVec::new(),
+            },
+            runs: false,
+        }
+    }
+
+    /// Whether a frame runs.
+    pub(crate) fn is_running(&self) -> bool
+        ensures { result ≡ is_some self.now }
+    {
+        self.runs
+    }
+
+    /// The frame that runs.
+    pub(crate) fn running(&self) -> Option<&Frame>
+        ensures { option_copied result ≡ self.now }
+    {
+        if self.runs { Some(&self.frame) } else { None }
+    }
+
+    /// Leaves no frame that runs.
+    pub(crate) fn clear(&mut self)
+        ensures { self.new ≡ None }
+    {
+        self.runs = false;
+    }
+}
+
 /// Whether two frames are of one port, or of one context with one target.
 fn is_same_kind(first: JobKind, second: JobKind) -> bool
     ensures { result ≡ same_kind first second }
@@ -56,10 +115,10 @@ fn is_same_kind(first: JobKind, second: JobKind) -> bool
 }
 
 /// Whether a stream is the target of the running frame.
-pub(crate) fn is_target(frame: &Option<Frame>, stream: u32) -> bool
-    ensures { result ≡ is_target stream (option_map running_of frame.now) }
+pub(crate) fn is_target(place: &FramePlace, stream: u32) -> bool
+    ensures { result ≡ is_target stream (option_map running_of place.now) }
 {
-    match frame {
+    match place.running() {
         Some(frame) => match frame.kind {
             JobKind::Context { target, .. } => target == stream,
             JobKind::Port { .. } => false,

@@ -14,20 +14,19 @@ ghost use Rattle.wf_model.specs.Frames.{begin_context, begin_next, begin_port, d
 ghost use Rattle.wf_model.specs.Frames.{scene_streams, start, started, target_ready};
 ghost use Rattle.wf_machine.specs.Fitting.{IsComposable, IsDue, PortsFit, is_of_running};
 ghost use Rattle.wf_machine.specs.Latching.{AreAtHome, AreShapedAs};
+ghost use Rattle.wf_machine.specs.declared.frame.Frame.{Frame};
 ghost use Rattle.wf_machine.specs.Object.{IsAnswer, IsSettled, settled_so};
 ghost use Rattle.wf_machine.specs.Ports.{sizes_of};
 ghost use Rattle.wf_machine.specs.Starting.{IsKept, IsReady, IsTargetOf, MayStart, beginning_of};
 
-use crate::frame::Frame;
+use crate::frame::FramePlace;
 use crate::latching::{bring_home, empty, latch_scene, names};
 use crate::naming::{begin_names, end_names};
 use crate::parts::Parts;
 use crate::port::{Port, put_image, take_image};
 use crate::replies::refuse;
-use arrayvec::ArrayVec;
 use wf_calls::{Answer, Code, Job, JobKind, JobPlace, Refusal};
 use wf_image::{Canvas, Image};
-use wf_pixel::{Format, Size};
 use wf_scene::Scene;
 use wf_stream::Store;
 
@@ -67,7 +66,7 @@ fn deliver(store: &mut Store, ports: &mut Vec<Port>, kind: JobKind, mode: u32, i
 fn take_images(
     store: &mut Store,
     ports: &mut Vec<Port>,
-    frame: &mut Option<Frame>,
+    place: &mut FramePlace,
     next: &mut Job,
     number: u64,
     kind: JobKind,
@@ -85,21 +84,18 @@ fn take_images(
     ensures modes { map sizes_of ports.new.items ≡ map sizes_of ports.old.items }
     ensures away { (f : Frame) → f.kind ≡ kind → f.mode ≡ mode → PortsFit (Some f) 1 ports.new.items }
     ensures image { IsTargetOf (latch (scene_streams next.old.scene) store.old.streams) ports.old.items mode kind result }
-    ensures frame { IsSomeAnd frame.new (IsKept number kind mode result next.new.contents) }
+    ensures frame { IsSomeAnd place.new (IsKept number kind mode result next.new.contents) }
 {
-    *frame = Some(Frame {
-        number,
-        kind,
-        mode,
-        size: Size { w: 1, h: 1 },
-        format: Format::A8,
-        contents: ArrayVec::new(),
-    });
-    let Some(kept) = frame else { unreachable!() };
+    let kept = &mut place.frame;
+    kept.contents.clear();
     latch_scene(store, &next.scene, &mut next.contents, &mut kept.contents);
     let image = take_target(store, ports, kind, mode);
+    kept.number = number;
+    kept.kind = kind;
+    kept.mode = mode;
     kept.size = image.size();
     kept.format = image.format();
+    place.runs = true;
     image
 }
 
@@ -108,7 +104,7 @@ impl Parts {
     pub(crate) fn is_busy(&self) -> bool
         ensures { result ≡ is_running self.now }
     {
-        self.frame.is_some()
+        self.frame.is_running()
     }
 
     /// Begins a frame of the next active context, if there is one.
@@ -254,7 +250,7 @@ impl Parts {
         );
         self.core.prove_few_names();
         self.display.prove_few_names();
-        let Some(frame) = &self.frame else {
+        let Some(frame) = self.frame.running() else {
             unreachable!()
         };
         begin_names(&mut self.store, frame.contents.as_slice(), kind);
@@ -267,7 +263,7 @@ impl Parts {
     fn is_of_running(&self, job: &Job) -> bool
         ensures { result ≡ is_of_running job.now self.now.frame }
     {
-        match &self.frame {
+        match self.frame.running() {
             Some(frame) => frame.is_of(job),
             None => false,
         }
@@ -283,7 +279,7 @@ impl Parts {
         if !self.is_of_running(job) {
             return refuse(Code::BadHandle);
         }
-        let Some(frame) = &self.frame else {
+        let Some(frame) = self.frame.running() else {
             unreachable!()
         };
         let kind = job.kind;
@@ -293,7 +289,7 @@ impl Parts {
         };
         deliver(&mut self.store, &mut self.ports, kind, frame.mode, image);
         end_names(&mut self.store, frame.contents.as_slice(), kind);
-        self.frame = None;
+        self.frame.clear();
         Answer::done(0)
     }
 }

@@ -253,7 +253,7 @@ impl Machine {
     fn is_free(&self, begins: bool) -> bool
         ensures { result ≡ not (begins && is_running self.now) }
     {
-        !begins || self.parts.frame.is_none()
+        !begins || !self.parts.frame.is_running()
     }
 
     /// Tells whether a call can be answered now: no call that begins a frame waits for the running one.

@@ -6,7 +6,7 @@ ghost use Rattle.wf_model.specs.State.{opening};
 ghost use Rattle.wf_machine.specs.Fitting.{PortsFit};
 ghost use Rattle.wf_machine.specs.Ports.{sizes_of};
 
-use crate::frame::Frame;
+use crate::frame::FramePlace;
 use crate::port::Port;
 use std::alloc::Global;
 use std::marker::Model;
@@ -25,7 +25,7 @@ pub(crate) struct Parts {
     pub display: Display,
     pub ports: Vec<Port>,
     pub begun: u64,
-    pub frame: Option<Frame>,
+    pub frame: FramePlace,
 }
 
 impl Model for Parts {
@@ -69,7 +69,7 @@ impl Parts {
             display,
             ports: images_of(alloc, ports)?,
             begun: 0,
-            frame: None,
+            frame: FramePlace::new(),
         })
     }
 }

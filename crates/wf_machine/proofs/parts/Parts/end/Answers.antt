@@ -1,9 +1,9 @@
 use Rattle.std.proofs.lemmas.Option.{none-some, same_Some}
 use Rattle.wf_machine.proofs.Common.{◌≡◌, [], true, ap, sym, ◌∙◌, refl, subst, option_map, StoreView, brought_home, delivered, Inside}
 use Rattle.std.specs.Prelude.{if◌then◌else◌}
-use Rattle.wf_machine.proofs.Common.{IfSome, IsDue, Job, Option, Some, State, end, Reply, Bool, None, Bitmap}
-use Rattle.std.specs.Option.{IsSome}
-use Rattle.wf_machine.proofs.Common.{bare, Holds, is_of_running, running_of, settled_so}
+use Rattle.wf_machine.proofs.Common.{IfSome, IsDue, Job, Option, Some, State, end, Reply, Bool, None, Bitmap, Frame}
+use Rattle.std.specs.Option.{IsSome, option_copied}
+use Rattle.wf_machine.proofs.Common.{bare, Holds, IsSound, is_of_running, running_of, settled_so, state_of}
 use Rattle.wf_calls.specs.declared.reply.Answer.{Answer}
 use Rattle.wf_calls.specs.Places.{Place, is_held, job_in, says_held}
 use Rattle.wf_calls.specs.Replies.{with_job}
@@ -46,7 +46,7 @@ returns-then-not-is_of_running c =
 
 pub unreachable-requires : goal.unreachable-requires
 unreachable-requires c =
-    none_of c.self.inside c.job_mut-job.result.now (c.in_default.is)
+    none_of c.self.inside c.job_mut-job.result.now (sym c.running.ensures ∙ ap option_copied c.in_default.is)
     (was_running c.self.inside c.job_mut-job.result.now _ c.self.view_is (sym c.is_of_running.ensures ∙ c.if-not-is_of_running.false))
 
 pub bring_home-requires-clause-awaited : goal.bring_home-requires-clause-awaited
@@ -78,18 +78,19 @@ deliver-requires c =
     let job = c.job_mut-job.result.now in
     let own = image_is_own c.in-Some-end.image (c.args.place.now.held) _ (says_held c.args.place.now c.requires)
     (sym c.in-Some-end.is ∙ c.end.ensures.image) in
-    subst (λ image. IsDue c.bring_home.new.store.streams m.ports.items c.in-Some.frame.mode job.kind image) (sym own)
-    (subst (λ ss. IsDue ss m.ports.items c.in-Some.frame.mode job.kind job.image) (sym (ap (λ v. v.streams) c.bring_home.ensures))
+    subst (λ image. IsDue c.bring_home.new.store.streams m.ports.items c.in-Some.frame.now.mode job.kind image) (sym own)
+    (subst (λ ss. IsDue ss m.ports.items c.in-Some.frame.now.mode job.kind job.image) (sym (ap (λ v. v.streams) c.bring_home.ensures))
     (ending_due m job (was_running m job c.args.self.now c.self.view_is (sym c.is_of_running.ensures ∙ c.if-not-is_of_running.false))
-    c.self.invariant.holds c.in-Some.frame (c.in-Some.is)))
+    c.self.invariant.holds c.in-Some.frame.now
+    (sym c.running.ensures ∙ ap option_copied c.in-Some.is)))
 
 pub end_names-requires : goal.end_names-requires
 end_names-requires c =
     let m = c.self.inside in
     let job = c.job_mut-job.result.now in
-    let f = c.in-Some.frame in
+    let f = c.in-Some.frame.now in
     let is = was_running m job c.args.self.now c.self.view_is (sym c.is_of_running.ensures ∙ c.if-not-is_of_running.false) in
-    let ran = c.in-Some.is in
+    let ran = sym c.running.ensures ∙ ap option_copied c.in-Some.is in
     let own = image_is_own c.in-Some-end.image (c.args.place.now.held) _ (says_held c.args.place.now c.requires)
     (sym c.in-Some-end.is ∙ c.end.ensures.image) in
     let now : Inside = record m { store = c.deliver.new.store; ports = c.deliver.new.ports; frame = None } in
@@ -109,8 +110,11 @@ module _ (c : goal.After-done) where
   is : is_of_running job (option_map running_of m.frame) ≡ true
   is = was_running m job c.args.self.now c.self.view_is (sym c.is_of_running.ensures ∙ c.if-not-is_of_running.false)
 
-  ran : m.frame ≡ Some c.in-Some.frame
-  ran = c.in-Some.is
+  abbrev frame : Frame
+  frame = c.in-Some.frame.now
+
+  ran : m.frame ≡ Some frame
+  ran = sym c.running.ensures ∙ ap option_copied c.in-Some.is
 
   own : c.in-Some-end.image ≡ job.image
   own = image_is_own c.in-Some-end.image (c.args.place.now.held) _ (says_held c.args.place.now c.requires)
@@ -141,24 +145,30 @@ module _ (c : goal.After-done) where
   holds = sound_ended m job is c.self.invariant.holds _ c.deliver.new.ports.items reply now refl refl refl refl refl
       refl ended
 
-  told : Renames (held_names c.in-Some.frame.contents.items job.kind) [] now.store c.end_names.new.store
+  told : Renames (held_names frame.contents.items job.kind) [] now.store c.end_names.new.store
   told =
       subst (λ cs. Renames (held_names cs job.kind) [] now.store c.end_names.new.store) c.as_slice.ensures.value
       c.end_names.ensures
 
+-- the machine that is left, by what stands in the frame's place
+abbrev left_with : goal.After-done → Option Frame → Inside
+left_with c o = record (now c) { store = c.end_names.new.store; frame = o }
+
 pub invariant_of-self : goal.invariant_of-self
 invariant_of-self c =
-    sound_untold (m c) (now c) (job c) c.in-Some.frame c.self.invariant (ran c)
-    (ran_kind (m c) (job c) (is c) c.self.invariant.holds c.in-Some.frame (ran c))
-    (ran_fits (m c) (job c) (is c) c.self.invariant.holds c.in-Some.frame (ran c)) (store_is c) refl refl refl
-    (holds c) c.end_names.new.store (told c)
+    subst (λ o. IsSound (left_with c o)) (sym c.clear.ensures)
+    (sound_untold (m c) (now c) (job c) (frame c) c.self.invariant (ran c)
+    (ran_kind (m c) (job c) (is c) c.self.invariant.holds (frame c) (ran c))
+    (ran_fits (m c) (job c) (is c) c.self.invariant.holds (frame c) (ran c)) (store_is c) refl refl refl
+    (holds c) c.end_names.new.store (told c))
 
 pub returns : goal.returns
 returns c =
     of_job _ _ _ _ _ (job c) (job_stands c.args.place.now (job c) c.requires c.job_mut-job.ensures.job)
     (ap settled_so (left_ended (m c) (job c) (is c) c.self.invariant.holds _ _ (reply c) (now c) refl refl refl refl refl
     refl (ended c) c.args.self.now c.self.view_is)
-    ∙ ap (λ s. (s, reply c)) (sym (untold_seen (m c) (now c) (job c) c.in-Some.frame c.self.invariant (ran c)
-    (ran_kind (m c) (job c) (is c) c.self.invariant.holds c.in-Some.frame (ran c))
-    (ran_fits (m c) (job c) (is c) c.self.invariant.holds c.in-Some.frame (ran c)) (store_is c) refl refl refl
-    (holds c) c.end_names.new.store (told c))))
+    ∙ ap (λ s. (s, reply c)) (sym (untold_seen (m c) (now c) (job c) (frame c) c.self.invariant (ran c)
+    (ran_kind (m c) (job c) (is c) c.self.invariant.holds (frame c) (ran c))
+    (ran_fits (m c) (job c) (is c) c.self.invariant.holds (frame c) (ran c)) (store_is c) refl refl refl
+    (holds c) c.end_names.new.store (told c)))
+    ∙ ap (λ o. (state_of (left_with c o), reply c)) (sym c.clear.ensures))

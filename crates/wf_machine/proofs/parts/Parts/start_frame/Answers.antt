@@ -1,7 +1,7 @@
 use Rattle.wf_machine.proofs.Common.{◌≡◌, ◌+◌, [], Some, refl, sym, subst, ap, ◌∙◌, start, IsAnswer, IsSomeAnd, IsSound, Frame, Inside}
 use Rattle.wf_machine.proofs.Common.{AllByRecursion, Images, ◌<◌, Job, JobKind, MayStart, Option, Scene, State, StoreView, beginning_of}
 use Rattle.wf_machine.proofs.Common.{content_shape, latch, map, scene_streams, state_of, stream_at, ℕ, None}
-use Rattle.std.specs.Option.{IsSome}
+use Rattle.std.specs.Option.{IsSome, option_copied}
 use Rattle.wf_calls.specs.Places.{job_in}
 use Rattle.wf_calls.specs.Replies.{with_job}
 use Rattle.wf_stream.specs.Names.{AreCounted}
@@ -45,7 +45,8 @@ begin_names-requires-clause-counted c =
 pub begin_names-requires-clause-kept : goal.begin_names-requires-clause-kept
 begin_names-requires-clause-kept c =
     let keeps = kept_of (IsKept (c.self.inside.begun + 1) c.args.kind c.args.mode c.take_images-image.result
-    c.take_images-image.new.next.contents) _ _ c.take_images-image.ensures.frame c.in-Some.is in
+    c.take_images-image.new.next.contents) _ _ c.take_images-image.ensures.frame
+    (sym c.running.ensures ∙ ap option_copied c.in-Some.is) in
     subst (λ cs. AllByRecursion (λ x. IsSome (stream_at x.stream c.take_images-image.new.store.streams)) cs)
     (sym (c.as_slice.ensures.value ∙ keeps.contents_are))
     (subst (λ (v : StoreView). AllByRecursion (λ x. IsSome (stream_at x.stream v.streams))
@@ -75,7 +76,10 @@ module _ (c : goal.After-done) where
   was = c.self.inside
 
   abbrev frame : Frame
-  frame = c.in-Some.frame
+  frame = c.in-Some.frame.now
+
+  runs : c.take_images-image.new.place ≡ Some frame
+  runs = sym c.running.ensures ∙ ap option_copied c.in-Some.is
 
   abbrev contents : Images
   contents = c.take_images-image.new.next.contents
@@ -99,11 +103,11 @@ module _ (c : goal.After-done) where
         display = was.display;
         ports = c.take_images-image.new.ports;
         begun = was.begun + 1;
-        frame = c.take_images-image.new.frame;
+        frame = c.take_images-image.new.place;
       }
 
   keeps : IsKept (was.begun + 1) c.args.kind c.args.mode c.take_images-image.result contents frame
-  keeps = kept_of _ _ frame c.take_images-image.ensures.frame c.in-Some.is
+  keeps = kept_of _ _ frame c.take_images-image.ensures.frame runs
 
   starts : Starts was now c.args.kind c.args.mode scene (record was.store { streams = latch (scene_streams scene) was.store.streams })
       contents contents c.take_images-image.result frame
@@ -122,7 +126,7 @@ module _ (c : goal.After-done) where
         away = c.take_images-image.ensures.away;
         image_is = c.take_images-image.ensures.image;
         begun = refl;
-        frame_is = c.in-Some.is;
+        frame_is = runs;
         number = keeps.number_is;
         kind_is = keeps.kind_is;
         mode_is = keeps.mode_is;
