@@ -12,5 +12,5 @@ invariant_of-result-2 c =
       shows = subst (λ v. Shows c.in_ok-display.display v) (sym c.store-2.view_is) c.in_ok-display.ensures.fits;
       images = record { sizes = c.in_ok-images_of.ensures.modes; fit = c.in_ok-images_of.ensures.fit };
       begun = refl;
-      free = refl;
+      free = c.new-3.ensures;
     }) c.requires
