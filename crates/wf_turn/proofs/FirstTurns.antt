@@ -1,19 +1,21 @@
 -- A turn of serial play, which is that of the client of the first line that is not through.
 use Rattle.wf_turn.proofs.Common.{◌≡◌, ◌∙◌, ℕ, zero, suc, ◌==◌, Bool, true, false, not, ◌&&◌, List, [], ◌∷◌, map, Option, Some}
 use Rattle.wf_turn.proofs.Common.{None, refl}
-use Rattle.wf_turn.proofs.Common.{sym, ap, subst, set, slice_get, IfSome, IsSome, IsSomeAnd, is_some, Turn, Reply, Frame}
+use Rattle.wf_turn.proofs.Common.{sym, ap, subst, set, slice_get, IfSome, IsSome, IsSomeAnd, IsTrue, is_some, Turn, Reply, Frame}
 use Rattle.wf_turn.proofs.Common.{is_running, Running, State, step, Wanted, first_client, is_marked, Ends, EndsNext, HasNoTurn, IsCast}
 use Rattle.wf_turn.proofs.Common.{Turned}
 use Rattle.wf_turn.proofs.Common.{TurnedFirst, may_turn, shown_by, wanted_now, with_frames, Program, first_line, in_setup, next, place_of}
 use Rattle.wf_turn.proofs.Common.{took, worked, IsFit, Show, answered, frames_of, inherited, is_setting_up, program_at, turn}
 use Rattle.wf_turn.proofs.Common.{get_map, get_set, Line}
+use Rattle.wf_turn.specs.Played.{IsBegunAt}
+use Rattle.wf_turn.specs.Program.{is_begun}
 use Rattle.wf_turn.specs.Serial.{IsFirst}
 use Rattle.wf_words.specs.Places.{map_set}
 use Rattle.wf_turn.proofs.FrameOfATurn.{Leaves, ended, turn_leaves}
 use Rattle.wf_turn.proofs.Clients.{first_place}
 use Rattle.wf_turn.proofs.ProgramsStayFit.{wants}
-use Rattle.wf_turn.proofs.AnswersKeep.{same_script}
-use Rattle.wf_turn.proofs.Programs.{at_client, not_inherited, setup_set}
+use Rattle.wf_turn.proofs.AnswersKeep.{begun_still, same_script, worked_lines}
+use Rattle.wf_turn.proofs.Programs.{at_client, inherited_get, not_inherited, setup_set}
 use Rattle.wf_turn.proofs.Replays.{TurnOf, turn_of}
 use Rattle.wf_turn.proofs.TurnOfAShow.{turn_now}
 use Rattle.wf_turn.proofs.TurnOfAProgram.{free_now, has_line}
@@ -150,22 +152,12 @@ module _ (s : Show) (client : ℕ) (cast : IsCast s) (alone : EndsNext s) (first
     leaves free = turn_leaves p s.state client (is_marked t) free fit.painted of.wanted of.asks
 
     -- a program whose lines are the same stands where it stood, and nothing is handed on
-    module _ (lines : (took p W.1).lines ≡ p.lines) where
-      q_lines : q.lines ≡ p.lines
-      q_lines = worked_lines (took p W.1) ∙ lines
-        where
-          worked_lines : (r : Program) → (worked r).lines ≡ r.lines
-          worked_lines r = by_bool r.unpainted
-            where
-              by_bool : (b : Bool) → (worked (record r { unpainted = b })).lines ≡ r.lines
-              by_bool true = refl
-              by_bool false = refl
-
+    module _ (lines : q.lines ≡ p.lines) where
       place_is : place_of q ≡ place_of p
-      place_is = ap (λ ls. place_of (record q { lines = ls })) q_lines
+      place_is = ap (λ ls. place_of (record q { lines = ls })) lines
 
       setup_is : in_setup q ≡ in_setup p
-      setup_is = ap (λ ls. in_setup (record q { lines = ls })) q_lines
+      setup_is = ap (λ ls. in_setup (record q { lines = ls })) lines
           ∙ ap (λ x. in_setup (record p { script = x })) (same_script p W.1)
 
       are_placed : placed ≡ now.programs
@@ -180,9 +172,29 @@ module _ (s : Show) (client : ℕ) (cast : IsCast s) (alone : EndsNext s) (first
       here_now : slice_get now.programs client ≡ Some q
       here_now = ap (λ ps. slice_get ps client) (sym are_placed) ∙ get_set s.programs client p q of.own
 
+      first_now : IsFirst now.programs client
+      first_now = subst (λ ns. IsSomeAnd (first_client ns) (λ c. c.0 ≡ client)) (sym same_places) first
+
+      may_now : may_turn now.programs client ≡ true
+      may_now = ap (λ b. not (not (client == 0) && b)) same_setup ∙ allowed
+
+    -- where its line was begun and is not through, the lines are the same
+    same_lines : IsBegunAt now.programs client → q.lines ≡ p.lines
+    same_lines begun = of_program (slice_get now.programs client) stage_is begun
+      where
+        stage_is : IfSome (slice_get now.programs client) (λ r. r.stage ≡ q.stage)
+        stage_is = subst (λ ps. IfSome (slice_get ps client) (λ r. r.stage ≡ q.stage)) programs_are
+            (inherited_get (λ r. r.stage ≡ q.stage) (λ clock r is. is) s.programs placed client q
+            (get_set s.programs client p q of.own) refl)
+
+        of_program : (o : Option Program) → IfSome o (λ r. r.stage ≡ q.stage) → IsSomeAnd o (λ r. IsTrue (is_begun r.stage))
+            → q.lines ≡ p.lines
+        of_program None same none = absurd none
+        of_program (Some r) same begun = begun_still p W.1 (subst (λ x. IsTrue (is_begun x)) same begun)
+
     -- a frame that runs behind the turn began by it, and is its client's to end
     record Runs (f : Running) : Type 0 where
-      lines : (took p W.1).lines ≡ p.lines
+      lines : q.lines ≡ p.lines
       ends : Ends f q
 
     runs_now : (f : Running) → now.state.frame ≡ Some f → Runs f
@@ -193,14 +205,11 @@ module _ (s : Show) (client : ℕ) (cast : IsCast s) (alone : EndsNext s) (first
 
         of_frame : (o : Option Running) → s.state.frame ≡ o → Runs f
         of_frame (Some g) was = absurd (let no : None ≡ Some f = sym (ends_free g was) ∙ after_is in cc)
-        of_frame None free = (let both = rw after_is at (leaves free).ends in record { lines = both.1; ends = both.0 })
+        of_frame None free =
+            (let both = rw after_is at (leaves free).ends in record { lines = worked_lines (took p W.1) ∙ both.1; ends = both.0 })
 
     again : (f : Running) → now.state.frame ≡ Some f → IsFirst now.programs client × (may_turn now.programs client ≡ true)
-    again f runs =
-        let lines = (runs_now f runs).lines in (
-          subst (λ ns. IsSomeAnd (first_client ns) (λ c. c.0 ≡ client)) (sym (same_places lines)) first,
-          ap (λ b. not (not (client == 0) && b)) (same_setup lines) ∙ allowed,
-        )
+    again f runs = (first_now (runs_now f runs).lines, may_now (runs_now f runs).lines)
 
     alone_now : (f : Running) → now.state.frame ≡ Some f
         → IfSome (first_client (map place_of now.programs)) (λ c. IfSome (slice_get now.programs c.0) (Ends f))
@@ -235,6 +244,12 @@ module _ (s : Show) (client : ℕ) (cast : IsCast s) (alone : EndsNext s) (first
           begun = begun;
           ended = of_ended s.state.frame refl;
           again = of_again now.state.frame refl;
+          still =
+              record {
+                within = one.within;
+                first = λ begun. first_now (same_lines begun);
+                may = λ begun. may_now (same_lines begun);
+              };
         }
       where
         of_alone : (o : Option Running) → now.state.frame ≡ o

@@ -4,7 +4,8 @@ use Rattle.wf_turn.proofs.Common.{Some, None, refl, sym, ap, subst, arith, appen
 use Rattle.wf_turn.proofs.Common.{Turn, Job, JobKind, FilmForm, Frame, frame_bytes, frame_of, PutsPart}
 use Rattle.wf_turn.proofs.Common.{stops_late, Running, EndsNext, IsCast, Plays, PlaysTurn, Shows, StopsTurns, TurnedFirst, frames_if}
 use Rattle.wf_turn.proofs.Common.{shown_by}
-use Rattle.wf_turn.proofs.Common.{with_frames, Program, all_left, IsNextTurn, IsRun, Show, shown}
+use Rattle.wf_turn.proofs.Common.{with_frames, Program, all_left, IsNextTurn, IsRun, Show, shown, option_map, map, first_client, place_of}
+use Rattle.wf_turn.proofs.Common.{may_turn, IfSome, IsTrue}
 use Rattle.std.proofs.Common.{◌^◌}
 use Rattle.std.proofs.lemmas.Grind.{flat_map-append}
 use Rattle.wf_calls.specs.declared.call.JobKind.TheVariants as kind
@@ -43,8 +44,8 @@ module _ {K : Type 0} (took : K → List ℕ → Type 0) where
         put = both_frames took form a b c was middle written so_far.frames one.frames so_far.put one.put;
       }
 
-  -- turns of serial play were played, and there is room for those that are left
-  pub record IsPlaying (old new : K) (was : Writing) (writer : Writing) (start now : Show) (played : List Turn)
+  -- turns of serial play were played, this client's is next, if there is one, and there is room for those that are left
+  pub record IsPlaying (old new : K) (was : Writing) (writer : Writing) (start now : Show) (next : Option ℕ) (played : List Turn)
       (most room before_faults faults : ℕ) : Type 0
     where
       pub plays : Plays took old new was.form was.written writer.written IsRun start now played
@@ -56,6 +57,8 @@ module _ {K : Type 0} (took : K → List ℕ → Type 0) where
       pub later : before_faults ≤ faults
       pub cast : IsCast now
       pub alone : EndsNext now
+      pub next_is : option_map (λ c. c.0) (first_client (map place_of now.programs)) ≡ next
+      pub allowed : IfSome next (λ c. IsTrue (may_turn now.programs c))
 
   -- a turn whose frame was not put whole
   pub one_stopped : (a b c : K) (form : FilmForm) (was middle written : ℕ) (start last now : Show) (played after : List Turn)

@@ -1,11 +1,13 @@
 -- Turns that are played one after another, and whose frames are put.
-use Rattle.std.specs.Prelude.{◌≡◌, ℕ, ◌+◌, ◌≤◌, Bool, List, [], ◌∷◌, ◌++◌, length, flat_map, IsSome, IsTrue, None, Some}
+use Rattle.std.specs.Prelude.{◌≡◌, ℕ, ◌+◌, ◌<◌, ◌≤◌, Bool, List, [], ◌∷◌, ◌++◌, length, flat_map, slice_get, IsSome, IsSomeAnd, IsTrue}
+use Rattle.std.specs.Prelude.{None, Some}
 use Rattle.wf_calls.specs.declared.order.Turn.{Turn}
 use Rattle.wf_film.specs.declared.form.FilmForm.{FilmForm}
 use Rattle.wf_film.specs.Film.{Frame, frame_bytes}
 use Rattle.wf_film.specs.Frames.{PutsFrames}
 use Rattle.wf_io.specs.Bytes.{PutsPart}
 use Rattle.wf_turn.specs.Playing.{EndsNext, Turned, may_turn, shown_by, with_frames}
+use Rattle.wf_turn.specs.Program.{Program, is_begun}
 use Rattle.wf_turn.specs.Serial.{IsFirst, IsNextTurn, IsRun}
 use Rattle.wf_turn.specs.Turns.{Show, turn}
 use Rattle.wf_turn.specs.Play.{is_marked, replay_from, replay_turn}
@@ -23,6 +25,16 @@ Replays show ts after = replay_from show ts ≡ Some after
 abbrev pub Shows : (Show → Turn → Show → Type 0) → Show → Turn → List Frame → Show → Type 0
 Shows Next show t frames after = (front : List Frame) → Next (with_frames front show) t (with_frames (front ++ frames) after)
 
+-- a client's line was begun that is not through
+abbrev pub IsBegunAt : List Program → ℕ → Type 0
+IsBegunAt programs client = IsSomeAnd (slice_get programs client) (λ p. IsTrue (is_begun p.stage))
+
+-- a client whose line, where it was begun and is not through, is still the first one
+pub record IsFirstStill (programs : List Program) (client : ℕ) : Type 0 where
+  pub within : client < 8
+  pub first : IsBegunAt programs client → IsFirst programs client
+  pub may : IsBegunAt programs client → IsTrue (may_turn programs client)
+
 -- the turn of the first line's client: a running frame is the same client's to end next; and what ends a
 -- frame shows nothing, as does a turn behind which no frame runs
 pub record TurnedFirst (show : Show) (client : ℕ) (now : Show) (t : Turn) (painted : Bool) : Type 0 where
@@ -33,6 +45,7 @@ pub record TurnedFirst (show : Show) (client : ℕ) (now : Show) (t : Turn) (pai
   pub begun : now.state.frame ≡ None → shown_by show.turns painted now.programs client ≡ []
   pub ended : IsSome show.state.frame → shown_by show.turns painted now.programs client ≡ []
   pub again : IsSome now.state.frame → IsFirst now.programs client × IsTrue (may_turn now.programs client)
+  pub still : IsFirstStill now.programs client
 
 module _ {K : Type 0} (took : K → List ℕ → Type 0) (old new : K) (form : FilmForm) (was written : ℕ) where
   -- one entry leads from a show to the next, and its frames are put

@@ -85,6 +85,11 @@ first_call p (verb.Compose d c) = Some (waiting (call.BeginContext (handle p d) 
 first_call p (verb.TryCompose d c) = Some (plain (call.BeginContext (handle p d) (handle p c)))
 first_call p v = option_map plain (plain_call (handle p) v)
 
+-- a line was begun that is not through
+abbrev pub is_begun : Stage → Bool
+is_begun stage.Fresh = false
+is_begun _ = true
+
 -- what a tick asks for
 abbrev pub asked_for : Phase → Wanted
 asked_for (phase.Contexts asked last) = waiting (call.BeginNext last)

@@ -8,7 +8,7 @@ ghost use Rattle.wf_film.specs.Stands.{IsFilm, as_read};
 ghost use Rattle.wf_script.specs.Script.{may_tick};
 ghost use Rattle.wf_turn.specs.Films.{IsCaused, PlaysFilm, PlaysSerially};
 ghost use Rattle.wf_turn.specs.Play.{first_client, plain_film};
-ghost use Rattle.wf_turn.specs.Played.{Plays, PlaysNext, StopsTurn, StopsTurns, TurnedFirst};
+ghost use Rattle.wf_turn.specs.Played.{IsFirstStill, Plays, PlaysNext, StopsTurn, StopsTurns, TurnedFirst};
 ghost use Rattle.wf_turn.specs.Playing.{EndsNext, IsCast, may_turn, script_of};
 ghost use Rattle.wf_turn.specs.Program.{place_of};
 ghost use Rattle.wf_turn.specs.Quota.{all_left, most_turns};
@@ -181,10 +181,12 @@ fn play_turns<K: Sink, P: Painter>(
         show.old show.new played.new.items) }
     ensures cause { HasCause (K.faults k.old) (K.faults k.new) result }
 {
-    while let Some(client) = show.first() {
+    let mut next = show.first();
+    while let Some(client) = next {
         if let Err(stop) = play_turn(show, client, k, painter, writer, played) {
             return Err(stop);
         }
+        next = show.first_after(client);
     }
     Ok(())
 }
@@ -211,6 +213,7 @@ fn play_turn<K: Sink, P: Painter>(
         played.old.items played.new.items) }
     ensures cast { OnOk result (IsCast show.new) }
     ensures alone { OnOk result (EndsNext show.new) }
+    ensures still { OnOk result (IsFirstStill show.new.programs client) }
     ensures fewer { OnOk result (all_left show.new.programs + 1 ≤ all_left show.old.programs) }
     ensures many { length played.new.items + all_left show.new.programs ≤ length played.old.items + all_left show.old.programs }
     ensures most { OnOk result (writer.new.written ≤ writer.old.written + FRAME_BYTES) }

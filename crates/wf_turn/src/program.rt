@@ -7,7 +7,7 @@ ghost use Rattle.wf_calls.specs.Parts.{is_begin};
 ghost use Rattle.wf_calls.specs.Places.{job_in};
 ghost use Rattle.wf_script.specs.Script.{is_line};
 ghost use Rattle.wf_turn.specs.Going.{GoesOnAfter};
-ghost use Rattle.wf_turn.specs.Program.{first_line, issued, handle, in_setup, next, place_of};
+ghost use Rattle.wf_turn.specs.Program.{first_line, issued, handle, in_setup, is_begun, next, place_of};
 ghost use Rattle.wf_turn.specs.Program.{line_of, program, taught, tick_of};
 ghost use Rattle.wf_turn.specs.Quota.{left, quota};
 ghost use Rattle.wf_turn.specs.Ready.{IsFit};
@@ -193,6 +193,16 @@ impl<'a> Program<'a> {
                 before + self.port_count + place as u32 + 1
             }
             None => 0,
+        }
+    }
+
+    /// Checks whether a line was begun that is not through.
+    pub(crate) fn is_begun(&self) -> bool
+        ensures { result ≡ is_begun self.now.stage }
+    {
+        match self.stage {
+            Stage::Fresh => false,
+            _ => true,
         }
     }
 

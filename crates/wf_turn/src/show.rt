@@ -8,6 +8,7 @@ ghost use Rattle.wf_io.specs.Bytes.{PutsPart};
 ghost use Rattle.wf_io.specs.Causes.{HasCause};
 ghost use Rattle.wf_machine.specs.Object.{IsPaintable};
 ghost use Rattle.wf_turn.specs.Play.{first_client, is_marked};
+ghost use Rattle.wf_turn.specs.Played.{IsFirstStill};
 ghost use Rattle.wf_turn.specs.Playing.{HasNoTurn, HoldsPaintable, IsCast, Turned, may_turn, shown_by};
 ghost use Rattle.wf_turn.specs.Program.{place_of};
 ghost use Rattle.wf_turn.specs.Turns.{is_over, opening_show, shown, tick_line};
@@ -103,6 +104,21 @@ impl<'a> Show<'a> {
         match self.cast.first() {
             Some((client, _)) => Some(client),
             None => None,
+        }
+    }
+
+    /// Finds, after a turn of the client `last`, the client of the first line in the file that is not through, or `None` where all are.
+    /// While the line of `last` was begun and is not through, that is the one.
+    pub(crate) fn first_after(&self, last: usize) -> Option<usize>
+        requires cast { IsCast self.now }
+        requires still { IsFirstStill self.now.programs last }
+        ensures first { option_map (λ c. c.0) (first_client (map place_of self.now.programs)) ≡ result }
+        ensures allowed { IfSome result (λ c. IsTrue (may_turn self.now.programs c)) }
+    {
+        if self.cast.program(last).is_begun() {
+            Some(last)
+        } else {
+            self.first()
         }
     }
 

@@ -3,8 +3,8 @@ use Rattle.wf_turn.proofs.TurnsPlayed.{none_played, one_played, one_stopped}
 use Rattle.wf_turn.proofs.Serials.{run_more}
 use Rattle.wf_turn.proofs.player.play_turns.Goals as goal
 
-pub loop-client-init : goal.loop-client-init
-loop-client-init c =
+pub loop-next-init : goal.loop-next-init
+loop-next-init c =
     λ c'.
     record {
       plays = subst (λ ts. Plays c.K.Sink.took c'.args.k.now c'.args.k.now c'.args.writer.now.form c'.args.writer.now.written
@@ -18,20 +18,22 @@ loop-client-init c =
       later = omega arith;
       cast = c'.requires.cast;
       alone = c'.requires.alone;
+      next_is = c'.first-next.ensures.first;
+      allowed = c'.first-next.ensures.allowed;
     }
 
-pub loop-client-preserved : goal.loop-client-preserved
-loop-client-preserved c =
+pub loop-next-preserved : goal.loop-next-preserved
+loop-next-preserved c =
     λ c'.
-    let was = c'.loop-client.invariant in
+    let was = c'.loop-next.invariant in
     let one = c'.in_default-play_turn.ensures in
     let next = rw was.form_is at one.all in
     record {
       plays = subst (λ ts. Plays c.K.Sink.took c'.args.k.now c'.play_turn.new.k c'.args.writer.now.form c'.args.writer.now.written
           c'.play_turn.new.writer.written IsRun c'.args.show.now c'.play_turn.new.show ts) (sym next.after_is)
-          (one_played c.K.Sink.took IsNextTurn IsRun run_more c'.args.k.now c'.loop-client.k c'.play_turn.new.k c'.args.writer.now.form
-          c'.args.writer.now.written c'.loop-client.writer.written c'.play_turn.new.writer.written
-          c'.args.show.now c'.loop-client.show c'.play_turn.new.show c'.loop-client.played.items next.turn was.plays next.plays);
+          (one_played c.K.Sink.took IsNextTurn IsRun run_more c'.args.k.now c'.loop-next.k c'.play_turn.new.k c'.args.writer.now.form
+          c'.args.writer.now.written c'.loop-next.writer.written c'.play_turn.new.writer.written
+          c'.args.show.now c'.loop-next.show c'.play_turn.new.show c'.loop-next.played.items next.turn was.plays next.plays);
       form_is = one.form ∙ was.form_is;
       fits = omega (arith, was.fits, one.many, one.room);
       many = omega (arith, was.many, one.many);
@@ -40,13 +42,15 @@ loop-client-preserved c =
       later = omega (arith, was.later, one.cause.later);
       cast = one.cast;
       alone = one.alone;
+      next_is = c'.first_after-next.ensures.first;
+      allowed = c'.first_after-next.ensures.allowed;
     }
 
 pub returns-in-Err-clause-part : goal.returns-in-Err-clause-part
 returns-in-Err-clause-part c =
     λ c'.
-    one_stopped c.K.Sink.took c'.args.k.now c'.loop-client.k c'.play_turn.new.k c'.args.writer.now.form c'.args.writer.now.written
-    c'.loop-client.writer.written c'.in-Err.stop.written
-    c'.args.show.now c'.loop-client.show c'.play_turn.new.show c'.loop-client.played.items
-    c'.play_turn.new.played.items c'.loop-client.invariant.plays
-    (rw c'.loop-client.invariant.form_is at c'.in-Err.ensures.part)
+    one_stopped c.K.Sink.took c'.args.k.now c'.loop-next.k c'.play_turn.new.k c'.args.writer.now.form c'.args.writer.now.written
+    c'.loop-next.writer.written c'.in-Err.stop.written
+    c'.args.show.now c'.loop-next.show c'.play_turn.new.show c'.loop-next.played.items
+    c'.play_turn.new.played.items c'.loop-next.invariant.plays
+    (rw c'.loop-next.invariant.form_is at c'.in-Err.ensures.part)
