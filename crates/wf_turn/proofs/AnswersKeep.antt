@@ -1,7 +1,8 @@
 -- What an answer leaves of a program: all but its lines, its names, what it holds, its stage and its tick.
 use Rattle.wf_turn.proofs.Common.{unheld}
 use Rattle.wf_turn.proofs.Common.{◌≡◌, ℕ, ◌+◌, Bool, true, false, not, cond, ◌==◌, ◌||◌, List, [], ◌∷◌, Option, Some, None, refl, sym, ap}
-use Rattle.wf_turn.proofs.Common.{◌∙◌, IsTrue, subst, nat_lt, option_map, Canvas, Paint, Job, Payload, Reply, Line, Verb, Name, Phase, Stage, bound_name}
+use Rattle.wf_turn.proofs.Common.{◌∙◌, IsTrue, subst, nat_lt, option_map, Canvas, Paint, Job, Payload, Reply, Line, Verb, Name, Phase}
+use Rattle.wf_turn.proofs.Common.{Stage, bound_name}
 use Rattle.wf_turn.proofs.Common.{Program, at_port, before, bound, first_line, given_canvas, go_on, line_done, painted_job, port_count}
 use Rattle.wf_turn.proofs.Common.{skipped, ticking, took, took_at, took_first, took_frame, took_job, took_phase, worked}
 use Rattle.wf_calls.specs.declared.reply.Payload.TheVariants as payload
@@ -28,8 +29,9 @@ module _ (P Q : Program → Type 0) (weak : (p : Program) → P p → Q p)
     where
       of_lines : (ls : List (ℕ × Line)) → p.lines ≡ ls → Q (line_done p v)
       of_lines [] is =
-          let same : line_done p v ≡ p = ap (λ ms. line_done (record p { lines = ms }) v) is ∙ ap (λ ms. record p { lines = ms }) (sym is) in
-          subst Q (sym same) (weak p holds)
+          let same : line_done p v ≡ record p { lines = [] } = ap (λ ms. line_done (record p { lines = ms }) v) is in
+          let back : record p { lines = [] } ≡ p = ap (λ ms. record p { lines = ms }) (sym is) in
+          subst Q (sym (same ∙ back)) (weak p holds)
       of_lines (l ∷ ls) is =
           let same : line_done p v ≡ before (record p { own = bound (bound_name l.1) v p.own }) ls =
           ap (λ ms. line_done (record p { lines = ms }) v) is in
@@ -60,7 +62,8 @@ module _ (P Q : Program → Type 0) (weak : (p : Program) → P p → Q p)
   keeps_unheld p l holds = keeps_on (unheld p) l (keeps p p.canvas None false p.stage p.tick holds)
 
   keeps_job : (p : Program) (given : Payload) (l : Option Phase) → P p → Q (took_job p given l)
-  keeps_job p (payload.Job job) l holds = weak (took_job p (payload.Job job) l) (keeps p p.canvas (Some job) true (stage.Ending l) p.tick holds)
+  keeps_job p (payload.Job job) l holds = weak (took_job p (payload.Job job) l)
+      (keeps p p.canvas (Some job) true (stage.Ending l) p.tick holds)
   keeps_job p payload.Nothing l holds = keeps_unheld p l holds
   keeps_job p (payload.Canvas canvas) l holds = keeps_unheld p l holds
 
