@@ -14,8 +14,11 @@ CALLS = re.compile(r"it calls `([^`]*)`, which is not proved")
 NAME = re.compile(r"`([^`]*)`")
 # A proof names what the edit took away.
 LOST = re.compile(r"has no field|is not in scope|has no `|was not admitted")
-# What stands on an answer that was refused above.
-FOLLOWS = re.compile(r"which was rejected, was not checked")
+# What stands on something that was refused above, and the goals of a function that stand on a lemma among its answers.
+FOLLOWS = re.compile(r"which was rejected, w\w+ not checked")
+GOALS_ON_LEMMA = re.compile(
+    r"^(?:\./)?proofs/((?:[^/:\s]+/)*)(?:Answers|Invariants|Proof)\.antt:\d+:\d+: error: .* on `([^`]*)`, .* not checked: (.*)$"
+)
 CLAUSE = re.compile(r"-clause-([a-z_]\w*)")
 CONDITION = re.compile(r"^(.*?)-requires\b")
 
@@ -83,6 +86,17 @@ def by_lemma(line):
     return Goal(found[1], named[1] if named else "", NAMES if LOST.search(found[2]) else ROW)
 
 
+def by_follows(line, goals):
+    """The goals of a function of a line that says that they stand on a lemma which is refused, but for one that lost a name, by the
+    `goals` before."""
+    found = GOALS_ON_LEMMA.match(line) if FOLLOWS.search(line) else None
+    function = found[1].rstrip("/").replace("/", "::") if found else ""
+    if not found or Goal(function, found[2], NAMES) in goals:
+        return []
+    names = [name.partition(" ")[0] for name in found[3].split(", ")]
+    return [Goal(function, name, kind_of(name)) for name in names if kind_of(name) in TELLING]
+
+
 def by_function(crate, line):
     """The goals that no search proved of the function of a line, and the function, where it has no proof without another one."""
     found = FUNCTION.match(line)
@@ -101,7 +115,7 @@ def refusal_of(crate, text):
     for line in text.splitlines():
         goal = by_answers(line) or by_lemma(line)
         found, function = by_function(crate, line)
-        goals += ([goal] if goal else []) + found
+        goals += ([goal] if goal else by_follows(line, goals)) + found
         above += [function] if function else []
     return Refusal(tuple(dict.fromkeys(goals)), tuple(dict.fromkeys(above)))
 
