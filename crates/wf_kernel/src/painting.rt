@@ -13,7 +13,7 @@ use crate::keeping::{Kept, nothing_kept};
 use crate::laying::lay_row;
 use crate::placing::Walk;
 use crate::runs::paint_run;
-use crate::strips::{Strip, no_strip, strip_for};
+use crate::strips::{Strip, find_first, no_strip, strip_for};
 use crate::tables::{count_tables, fill_tables};
 use crate::{FEW_LAYERS, FEW_STRIPS, MOST_STRIPS, ONE_STRIPS, ROW_BYTES};
 use wf_image::{Contents, Image};
@@ -220,7 +220,8 @@ fn paint_by_strips<const N: usize>(
     }
 }
 
-/// Writes the next of `rows` rows, from row `y` on, and says how many: those of a run, or one.
+/// Writes the next of `rows` rows, from row `y` on, and says how many: those of a run, or one. The first piece of row `y` is found before
+/// the row is painted, so that a run is written whole.
 #[inline(always)]
 fn paint_next(
     bytes: &mut [u8],
@@ -234,6 +235,7 @@ fn paint_next(
     rows: u32,
 ) -> u32
     requires room { 1 ≤ length strips.old }
+    requires columns { 1 ≤ width }
     requires few { width ≤ MOST_SIDE }
     requires some { 1 ≤ rows }
     requires within { y + rows ≤ MOST_SIDE }
@@ -246,6 +248,9 @@ fn paint_next(
     ensures strips { All (IsStrip layers.now width) strips.new }
     ensures kept { All (AreKept layers.now) kept.new }
 {
+    if y < strips[0].from || strips[0].bottom <= y {
+        find_first(strips, layers, width, y);
+    }
     let n = paint_run(bytes, width, layers, background, strips[0], y, rows);
     if n > 0 {
         return n;

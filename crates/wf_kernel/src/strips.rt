@@ -1,6 +1,6 @@
 //! Cuts the rows of a target into pieces, of which each begins with the topmost layer that hides the others.
 
-ghost use Rattle.std.specs.Prelude.{◌≡◌, ℕ, ◌+◌, ◌<◌, ◌≤◌, All, List, None, Some, IfSome};
+ghost use Rattle.std.specs.Prelude.{◌≡◌, ℕ, ◌+◌, ◌<◌, ◌≤◌, All, List, None, Some, IfSome, length};
 ghost use Rattle.wf_kernel.specs.Bound.{Bound};
 ghost use Rattle.wf_kernel.specs.Hiding.{IsCover, IsBeside};
 ghost use Rattle.wf_kernel.specs.Strips.{IsStrip, IsCut};
@@ -64,6 +64,20 @@ pub(crate) fn strip_for(
         return strip;
     }
     strip_at(layers, width, first, y)
+}
+
+/// Finds the first strip of row `y` anew, of a row of `width` pixels, and keeps it. It is a function of its own when it runs, too, so that
+/// rows whose strips are known take a short way.
+#[inline(never)]
+pub(crate) fn find_first(strips: &mut [Strip], layers: &[BoundLayer], width: u32, y: u32)
+    requires room { 1 ≤ length strips.old }
+    requires strips { All (IsStrip layers.now width) strips.old }
+    requires some { 1 ≤ width }
+    requires few { width ≤ MOST_SIDE }
+    requires row { y < MOST_SIDE }
+    ensures { All (IsStrip layers.now width) strips.new }
+{
+    strips[0] = strip_at(layers, width, 0, y);
 }
 
 /// The strip that begins at column `first` of row `y`, of a row of `width` pixels. It stands in its caller, so that a strip that is known
