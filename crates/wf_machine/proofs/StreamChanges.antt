@@ -1,5 +1,5 @@
 -- Streams by number: what a look-up finds, and what a change leaves.
-use Rattle.wf_machine.proofs.Common.{◌≡◌, ℕ, ◌<◌, ◌≤◌, true, false, cond, ◌==◌, ◌&&◌, not, List, [], ◌∷◌, Some, refl}
+use Rattle.wf_machine.proofs.Common.{◌≡◌, ℕ, ◌<◌, ◌≤◌, true, false, cond, ◌==◌, ◌&&◌, not, List, [], ◌∷◌, Some, None, refl}
 use Rattle.wf_machine.proofs.Common.{ap, subst, arith, eq-eqb, nat_tests, Buffers}
 use Rattle.wf_machine.proofs.Common.{KeptStream, IsNumbered, change_stream, stream_at, stream_of}
 
@@ -9,6 +9,12 @@ change_below low high n f [] rising under = refl
 change_below low high n f (s ∷ streams) rising under =
     let apart : (s.number == n) ≡ false = grind (arith, nat_tests, rising.0) in
     rw apart (ap (λ ss. s ∷ ss) (change_below s.number high n f streams rising.1 (omega (arith, rising.0))))
+
+pub stream_below : (low high n : ℕ) (streams : List KeptStream) → IsNumbered low streams high → n ≤ low → stream_at n streams ≡ None
+stream_below low high n [] rising under = refl
+stream_below low high n (s ∷ streams) rising under =
+    let apart : (s.number == n) ≡ false = grind (arith, nat_tests, rising.0) in
+    rw apart (stream_below s.number high n streams rising.1 (omega (arith, rising.0)))
 
 -- the stream of a handle is that of its number
 above : (low high h : ℕ) (streams : List KeptStream) (s : KeptStream) → IsNumbered low streams high → stream_of h streams ≡ Some s

@@ -9,7 +9,7 @@ use Rattle.std.specs.Prelude.{filter, filter_map, option_to_list}
 use Rattle.std.proofs.lemmas.List.Elements.{filter_map-append, filter-append}
 use Rattle.std.proofs.lemmas.Grind.{flat_map-append}
 use Rattle.wf_machine.specs.Latching.{IsAtHome, with_next_image, without_next_image}
-use Rattle.wf_machine.proofs.StreamChanges.{change_below}
+use Rattle.wf_machine.proofs.StreamChanges.{change_below, stream_below}
 
 pub shaped_more : (n : ℕ) (image : Bitmap) (streams : List KeptStream) (contents : Images) → AreShapedAs streams contents
     → IsShapedAs n streams image → AreShapedAs streams (contents ++ (n, image) ∷ [])
@@ -311,6 +311,31 @@ take_step before store left ns n high images more rising done is leaves shapes =
           ∙ ap (λ streams. record before { streams = streams }) step.1;
       shaped = shapes done.shaped;
     }
+
+-- of the number 0, which no stream has, there is none to take
+pub take_nothing : (before store : StoreView) (ns : List ℕ) (n high : ℕ) (images : Images) → IsNumbered 0 before.streams high → n ≡ 0
+    → IsTaken before ns images store → IsTaken before (named ns n) images store
+take_nothing before store ns n high images rising zero done =
+    let numbered : IsNumbered 0 store.streams high =
+    subst (λ v. IsNumbered 0 v.streams high) (sym done.left) (numbered_latch ns 0 high before.streams rising) in
+    let none : stream_at n store.streams ≡ None = stream_below 0 high n store.streams numbered (omega (arith, zero)) in
+    let same : change_stream n latched store.streams ≡ store.streams =
+    change_below 0 high n latched store.streams numbered (omega (arith, zero)) in
+    take_step before store store ns n high images images rising done
+    (elim (is_some (image_of n images)) as (λ b. images
+    ≡ cond b images (images ++ map with_number (option_to_list (next_image_of (stream_at n store.streams))))) [
+      | true ↦ refl
+      | false ↦ rw none (sym (append-nil images))
+    ])
+    (elim (is_some (image_of n images)) as (λ b. store
+    ≡ record store { streams = cond b store.streams (change_stream n latched store.streams) }) [
+      | true ↦ refl
+      | false ↦ rw same refl
+    ])
+    (λ shaped. shaped)
+  where
+    with_number : Bitmap → ℕ × Bitmap
+    with_number image = (n, image)
 
 -- one image more at most
 few_more : (n : ℕ) (streams : List KeptStream) (images : Images) → length (with_next_image n streams images) ≤ length images + 1

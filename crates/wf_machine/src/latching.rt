@@ -65,7 +65,7 @@ fn take(
 }
 
 /// Takes the next images of the streams that a scene names, and the size and format of each, in the same order: of each layer,
-/// from the bottom up, its stream and then its mask. Nothing was taken before.
+/// from the bottom up, its stream and then its mask, where it has one: most have none. Nothing was taken before.
 pub(crate) fn latch_scene(
     store: &mut Store,
     scene: &Scene,
@@ -83,7 +83,9 @@ pub(crate) fn latch_scene(
 {
     for layer in scene.layers.as_slice() {
         take(store, contents, shapes, layer.stream);
-        take(store, contents, shapes, layer.mask);
+        if layer.mask != 0 {
+            take(store, contents, shapes, layer.mask);
+        }
     }
 }
 
