@@ -5,7 +5,6 @@ ghost use Rattle.wf_script.specs.Forms.{binds, fields, forms};
 ghost use Rattle.wf_script.specs.Words.{look_up};
 
 use crate::field::Field;
-use crate::making::verb_of;
 use crate::table::look_up;
 
 /// The verbs but for those that paint, each with the name of the verb that it makes.
@@ -132,13 +131,31 @@ impl Form {
         ensures { result ≡ binds self }
     {
         match self {
-            Form::Plain(plain) => verb_of(plain, &[]).creates(),
+            Form::Plain(plain) => plain.creates(),
             Form::Paint | Form::Frame => false,
         }
     }
 }
 
 impl Plain {
+    /// Whether its verb makes something. It says what `Verb::creates` says, and makes no verb for it.
+    fn creates(self) -> bool
+        ensures { result ≡ binds (Form.Plain self) }
+    {
+        match self {
+            Plain::StreamNew
+            | Plain::StreamQueue
+            | Plain::DeviceNew
+            | Plain::ScreenContext
+            | Plain::StreamContext
+            | Plain::ElementNew
+            | Plain::SourceNew
+            | Plain::MaskNew
+            | Plain::DisplaySource => true,
+            _ => false,
+        }
+    }
+
     /// The kinds of the words behind the verb; where the last one decides what follows it, up to that.
     pub(crate) fn fields(self) -> &'static [Field]
         ensures fields { result.now ≡ fields self }

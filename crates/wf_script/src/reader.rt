@@ -10,6 +10,7 @@ ghost use Rattle.wf_script.specs.Script.{IsScript};
 ghost use Rattle.wf_script.specs.Seen.{SeesAll};
 ghost use Rattle.wf_script.specs.Words.{words_in};
 
+use crate::field::Item;
 use crate::form::Form;
 use crate::given::arguments;
 use crate::line::Line;
@@ -29,7 +30,7 @@ use wf_pixel::Size;
 const MOST: usize = 4;
 
 /// What was read so far: the ports' modes, the number of pipelines where it was declared, the event lines, whether the
-/// end stood, and the names.
+/// end stood, and the names. The items of the line that is read have their room here, since it would cost to make it for each line.
 #[derive(Drop)]
 pub(crate) struct Reader<'a> {
     pub modes: ArrayVec<Modes, 4>,
@@ -37,6 +38,7 @@ pub(crate) struct Reader<'a> {
     pub lines: Vec<Line>,
     pub ended: bool,
     pub names: Seen<'a>,
+    items: ArrayVec<Item<'a>, 8>,
 }
 
 /// The sizes of a port's modes.
@@ -79,6 +81,7 @@ impl<'a> Reader<'a> {
             lines: Vec::new(alloc),
             ended: false,
             names: Seen::new(alloc),
+            items: ArrayVec::new(),
         }
     }
 
@@ -174,16 +177,20 @@ impl<'a> Reader<'a> {
         if self.no_event_here() || !is_its_client(form, client) {
             return Err(LineFault::Breaks(Rule::Place));
         }
-        let mut items = ArrayVec::new();
-        let verb = arguments(alloc, form, parts.arguments, &mut items)?;
+        self.items.clear();
+        let verb = arguments(alloc, form, parts.arguments, &mut self.items)?;
         let name = bound_name(parts.name)?;
-        if !self.names.sees(client, items.as_slice()) {
+        if !self.names.sees(client, self.items.as_slice()) {
             return Err(LineFault::Breaks(Rule::Name));
         }
         if self.names.take_line(client, parts.name)? {
             return Err(LineFault::Breaks(Rule::Name));
         }
-        self.lines.push(Line { client, name, verb })?;
+        // A push hands the line back where it fails, and would move it for that.
+        if self.lines.reserve(1).is_err() {
+            return Err(LineFault::NoMemory);
+        }
+        self.lines.push_reserved(Line { client, name, verb });
         Ok(())
     }
 
