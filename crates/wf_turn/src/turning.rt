@@ -158,12 +158,15 @@ fn take_called(machine: &mut Machine, program: &mut Program, client: u8, call: &
     requires begins { is_begin (call_of call.now) ≡ true → takes_job program.old ≡ true }
     ensures { Answers (is_marked result) client machine.old machine.new (call_of call.now) program.old program.new result }
 {
+    if call.is_begin() {
+        return take_begin(machine, program, client, call);
+    }
     match machine.answer(client, call) {
         Some(answer) => {
             program.took_answer(answer);
             answer.entry(client)
         }
-        None => take_begin(machine, program, client, call),
+        None => unreachable!(),
     }
 }
 
